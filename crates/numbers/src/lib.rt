@@ -1,0 +1,1 @@
+// Machine numbers: billionths of a fraction rounded down and up, halves, and the fourth root.

@@ -1,0 +1,58 @@
+// The structs that travel between the crates. Plain values: no function, and nothing that is checked here.
+
+// The hull as its frame gives it: Ls and B in centimetres, the deepest and the light draught in millimetres, the zone
+// count m, and the places of the zones' ends along the ship: 0, the m - 1 inner bulkheads, Ls at place m, 0 after that.
+pub struct Hull {
+    pub length: u64,
+    pub breadth: u64,
+    pub deepest: u64,
+    pub light: u64,
+    pub zones: usize,
+    pub places: [u64; 21],
+}
+
+// What the customer's program found at one draught: the righting lever in millimetres, its range and the heel in
+// hundredths of a degree.
+pub struct Finding {
+    pub lever: u64,
+    pub range: u64,
+    pub heel: u64,
+}
+
+// What a row says before its results: its kind (2 or 3), the group's first zone a and zone count n, the penetration b
+// in centimetres and the height H in millimetres.
+pub struct RowHead {
+    pub kind: u64,
+    pub first: u64,
+    pub count: u64,
+    pub depth: u64,
+    pub height: u64,
+}
+
+// A figure in billionths: the exact one is not below the lower end and not above the upper.
+pub struct Ends {
+    pub lower: u64,
+    pub upper: u64,
+}
+
+// A survival factor in ten-thousandths: the exact one is not below the bottom and not above the top.
+pub struct Survival {
+    pub bottom: u64,
+    pub top: u64,
+}
+
+// The ends of a figure at each of the three draughts, in the order deepest, partial, light.
+pub struct Trio {
+    pub lower: [u64; 3],
+    pub upper: [u64; 3],
+}
+
+// What the service answers. At a refusal its number and line, and zeros; else number and line are 0.
+pub struct Answer {
+    pub number: u64,
+    pub line: u64,
+    pub verdict: u64,
+    pub rows: u64,
+    pub attained: Ends,
+    pub partials: Trio,
+}

@@ -1,0 +1,67 @@
+-- Document 01, "Proved values": the definitions give them. Assumes nothing.
+use Prim.Native.Nat.{ℕ}
+use mathlib.Core.Path.{_≡_, refl}
+use mathlib.Core.List.{[], _∷_}
+use Rattle.laws.specs.Fraction.{_less_over_, _over_, whole, _⊹_, _⊝_, _⊛_, _≈_}
+use Rattle.solas.specs.Span.{touch, p, P}
+use Rattle.solas.specs.Penetration.{C, G1, G3, G, Q}
+use Rattle.solas.specs.Ship.{Ship, abutting}
+use Rattle.solas.specs.Share.{within, share, rowShare}
+use Rattle.solas.specs.Height.{v}
+use Rattle.solas.specs.Survival.{k, s⁴}
+use Rattle.solas.specs.Index.{R}
+
+-- the hull of "One file in full": two zones that meet at 1,500
+printed : Ship
+printed = abutting 9900 1600 2 (0 ∷ 1500 ∷ 9900 ∷ [])
+
+p-1500 : p 9900 1500 ≈ 35 over 396
+unfolding p _less_over_
+p-1500 = record { cross = refl }
+
+p-3000 : p 9900 3000 ≈ 70 over 297
+unfolding p _less_over_
+p-3000 = record { cross = refl }
+
+share-1-1 : share printed 1 1 800 ≈ 95 over 792
+unfolding printed share within Q P G touch C G1 G3 p _⊹_ _⊝_ _⊛_ _less_over_
+share-1-1 = record { cross = refl }
+
+share-1-2 : share printed 1 2 800 ≈ 155 over 2376
+unfolding printed share within Q P G touch C G1 G3 p _⊹_ _⊝_ _⊛_ _less_over_
+share-1-2 = record { cross = refl }
+
+share-2-1 : share printed 2 1 800 ≈ 22 over 27
+unfolding printed share within Q P G touch C G1 G3 p _⊹_ _⊝_ _⊛_ _less_over_
+share-2-1 = record { cross = refl }
+
+-- penetration at B = 1,600
+C-160 : C 1600 160 ≈ 37 over 125
+unfolding C _less_over_
+C-160 = record { cross = refl }
+
+C-800 : C 1600 800 ≈ whole 1
+unfolding C _less_over_
+C-800 = record { cross = refl }
+
+G1-160 : G1 1600 160 ≈ 53911 over 750000
+unfolding G1 _less_over_
+G1-160 = record { cross = refl }
+
+-- height
+v-7800 : v 7800 ≡ 733200
+unfolding v
+v-7800 = refl
+
+v-7801 : v 7801 ≡ 733239
+unfolding v
+v-7801 = refl
+
+-- the required index
+R-8000 : R 8000 ≈ 13 over 33
+unfolding R _less_over_
+R-8000 = record { cross = refl }
+
+R-10000 : R 10000 ≈ 31 over 63
+unfolding R _less_over_
+R-10000 = record { cross = refl }

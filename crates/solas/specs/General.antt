@@ -1,0 +1,60 @@
+-- The damage length law in general: a ship's law is three numbers, and inner p, G and their layers are sums of span functions. Assumes nothing.
+use Prim.Native.Nat.{ℕ, _+_, _-_, _*_, _^_, _≤_, _<_}
+use Rattle.laws.specs.Span.{e2, e3}
+
+-- on the scale on which a span of length x is λ·x, damage lengths end at κ + W, and their density has its knuckle at κ
+pub record Law : Type 0 where
+  pub κ : ℕ
+  pub W : ℕ
+  pub λx : ℕ
+
+-- what is asked of a law: a knuckle between two stretches, and a density that falls to nothing and not below
+pub record Falling (l : Law) : Type 0 where
+  pub knuckle : 0 < l .κ
+  pub stretch : 0 < l .W
+  pub falls : 2 * l .κ ≤ 11 * l .W
+
+-- the density's fall, and 6/κ times the density, at U: κ² at the knuckle
+abbrev pub fall : Law → ℕ
+fall l = 11 * l .W - 2 * l .κ
+
+abbrev pub density : Law → ℕ → ℕ
+density l U = l .κ * (11 * l .W - l .κ) - fall l * U
+
+-- what damage lengths from U to T, both up to the knuckle, give to a span of length X; and their mass
+unfoldable pub between : Law → ℕ → ℕ → ℕ → ℕ
+between l U T X = 3 * density l T * e2 (T - U) (X - U) + fall l * e3 (T - U) (X - U)
+
+unfoldable pub mass : Law → ℕ → ℕ → ℕ
+mass l U T = 6 * (T - U) * density l T + 3 * (T - U) ^ 2 * fall l
+
+-- what damage lengths beyond the knuckle give
+unfoldable pub beyond : Law → ℕ → ℕ
+beyond l X = l .κ ^ 2 * e3 (l .W) (X - l .κ)
+
+-- all masses together: 36W²κ²
+abbrev pub unit : Law → ℕ
+unit l = 36 * l .W ^ 2 * l .κ ^ 2
+
+-- ---- one layer, from the penetration that cuts at U′, with C = c′/d, to that which cuts at U, with C = c/d
+pub record Layer : Type 0 where
+  pub U′ : ℕ
+  pub U : ℕ
+  pub c′ : ℕ
+  pub c : ℕ
+  pub d : ℕ
+
+pub record Rising (l : Law) (y : Layer) : Type 0 where
+  pub cut : y .U′ ≤ y .U
+  pub shallow : y .U ≤ l .κ
+  pub chance : y .c′ ≤ y .c
+  pub proper : y .c ≤ y .d
+  pub positive : 0 < y .d
+
+-- Q at the layer less Q at the one before, for an inner span of length X, times d·36W²κ²·λL
+unfoldable pub inLayer : Law → Layer → ℕ → ℕ
+inLayer l y X = (y .c - y .c′) * (l .W * between l (y .U) (l .κ) X + beyond l X) + (y .d - y .c′) * (l .W * between l (y .U′) (y .U) X)
+
+-- the same for the whole ship, by the length X of the ship
+unfoldable pub slope : Law → Layer → ℕ
+slope l y = (y .c - y .c′) * (l .W * mass l (y .U) (l .κ) + 3 * l .κ ^ 2 * l .W ^ 2) + (y .d - y .c′) * (l .W * mass l (y .U′) (y .U))

@@ -1,0 +1,27 @@
+-- Document 01, "Height and survival": the middle draught, the weights of the three draughts, R and the partial mark. Assumes nothing.
+use Prim.Native.Nat.{ℕ, _+_, _-_, _*_, _/_}
+use mathlib.Core.Bool.{cond}
+use mathlib.Core.List.{List, [], _∷_}
+use lib.Dec.{ltb}
+use Rattle.laws.specs.Fraction.{Fraction, _over_, whole, _⊹_, _⊛_}
+use Rattle.solas.specs.Span.{half}
+
+-- the middle draught between the deepest, ds, and the light one, dl; whole where ds - dl is a multiple of 5
+unfoldable pub dp : ℕ → ℕ → ℕ
+dp ds dl = dl + 3 * (ds - dl) / 5
+
+-- deepest, partial, light: the order in which the three draughts travel
+abbrev pub draughts : ℕ → ℕ → List ℕ
+draughts ds dl = ds ∷ dp ds dl ∷ dl ∷ []
+
+-- A of the three partial indices
+unfoldable pub attained : Fraction → Fraction → Fraction → Fraction
+attained As Ap Al = (whole 2 ⊛ As ⊹ whole 2 ⊛ Ap ⊹ Al) ⊛ (1 over 5)
+
+-- the required index of a ship of L centimetres
+unfoldable pub R : ℕ → Fraction
+R L = cond (ltb 10000 L) ((L + 2400) over (L + 15200)) ((L * (L + 2400)) over (L * (L + 2400) + 128000000))
+
+-- what each partial index must reach
+unfoldable pub partialMark : ℕ → Fraction
+partialMark L = half (R L)

@@ -1,0 +1,1 @@
+// Theorems only: the regulation is in specs/, what is proved of it in proofs/.

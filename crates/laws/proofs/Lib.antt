@@ -1,0 +1,6 @@
+pub mod Table
+pub mod Normal
+pub mod Claim
+pub mod Certificate
+pub mod Excess
+pub mod Polynomial

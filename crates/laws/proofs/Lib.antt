@@ -4,3 +4,4 @@ pub mod Claim
 pub mod Certificate
 pub mod Excess
 pub mod Polynomial
+pub mod Span

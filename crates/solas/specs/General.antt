@@ -1,6 +1,7 @@
 -- The damage length law in general: a ship's law is three numbers, and inner p, G and their layers are sums of span functions. Assumes nothing.
 use Prim.Native.Nat.{ℕ, _+_, _-_, _*_, _^_, _≤_, _<_}
 use Rattle.laws.specs.Span.{e2, e3}
+use Rattle.solas.specs.Span.{Touch, neither, one, both, touch}
 
 -- on the scale on which a span of length x is λ·x, damage lengths end at κ + W, and their density has its knuckle at κ
 pub record Law : Type 0 where
@@ -58,3 +59,24 @@ inLayer l y X = (y .c - y .c′) * (l .W * between l (y .U) (l .κ) X + beyond l
 -- the same for the whole ship, by the length X of the ship
 unfoldable pub slope : Law → Layer → ℕ
 slope l y = (y .c - y .c′) * (l .W * mass l (y .U) (l .κ) + 3 * l .κ ^ 2 * l .W ^ 2) + (y .d - y .c′) * (l .W * mass l (y .U′) (y .U))
+
+-- twice Q at the layer less Q at the one before, times d·36W²κ²·λL, for a span of length x that touches so many ends
+abbrev pub twice : Touch → Law → Layer → ℕ → ℕ
+twice neither l y x = 2 * inLayer l y (l .λx * x)
+twice one l y x = inLayer l y (l .λx * x) + slope l y * (l .λx * x)
+twice both l y x = 2 * (slope l y * (l .λx * x))
+
+-- the same for the span from aft to fwd of a ship of length L
+unfoldable pub inSpan : Law → Layer → ℕ → ℕ → ℕ → ℕ
+inSpan l y L aft fwd = twice (touch L aft fwd) l y (fwd - aft)
+
+-- what these are over
+abbrev pub common : Law → Layer → ℕ → ℕ
+common l y L = 2 * (y .d * unit l * (l .λx * L))
+
+-- ---- document 01's law, for 80 to 198 m, and its layer from b′ to b: all lengths 15B times as fine, so that cuts are whole
+unfoldable pub law : ℕ → ℕ → Law
+law L B = record { κ = 15 * B * (5 * L); W = 15 * B * (5 * L); λx = 15 * B * 33 }
+
+unfoldable pub layer : ℕ → ℕ → ℕ → ℕ → Layer
+layer L B b′ b = record { U′ = 33 * b′ * L; U = 33 * b * L; c′ = 16 * b′ * B - 12 * b′ ^ 2; c = 16 * b * B - 12 * b ^ 2; d = 5 * B ^ 2 }

@@ -6,3 +6,4 @@ pub mod Excess
 pub mod Certificate
 pub mod Polynomial
 pub mod Span
+pub mod FractionSum

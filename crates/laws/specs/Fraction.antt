@@ -1,5 +1,5 @@
 -- Fractions of whole numbers, of either sign: equality and order by cross multiplication. Assumes nothing.
-use Prim.Native.Nat.{ℕ, suc, _+_, _-_, _*_, _≤_, _<_}
+use Prim.Native.Nat.{ℕ, zero, suc, _+_, _-_, _*_, _≤_, _<_}
 use mathlib.Core.Path.{_≡_}
 use mathlib.Core.List.{List, [], _∷_}
 
@@ -57,6 +57,11 @@ f ⊛ g = (f .up * g .up + f .down * g .down) less (f .up * g .down + f .down * 
 -- f divided by a g above 0
 unfoldable pub _⊘_ : Fraction → Fraction → Fraction
 f ⊘ g = (f .up * den g) less (f .down * den g) over (den f * (g .up - g .down))
+
+-- f 0 + .. + f (n - 1)
+unfoldable pub upTo : (ℕ → Fraction) → ℕ → Fraction
+upTo f zero = whole 0
+upTo f (suc n) = upTo f n ⊹ f n
 
 unfoldable pub total : List Fraction → Fraction
 total [] = whole 0

@@ -1,0 +1,64 @@
+-- The rules for one, two, three and more zones count the whole ship once. Assumes nothing.
+use Prim.Native.Nat.{ℕ, zero, suc, _+_, _-_, _*_, _≤_, _<_}
+use mathlib.Core.Path.{_≡_, refl, ap, sym, _∙_}
+use native.Mathlib.Nat.{add-zero}
+use native.Mathlib.Numerals.{add-one}
+use native.Mathlib.Omega.{arith}
+use Rattle.solas.specs.Count.{added, taken, sum, groups}
+
+pub sum-same : (f g : ℕ → ℕ) (n : ℕ) → ((i : ℕ) → i < n → f i ≡ g i) → sum f n ≡ sum g n
+sum-same f g zero h = refl
+sum-same f g (suc n) h = omega (arith, sum-same f g n (λ i k. h i (omega arith)), h n (omega arith))
+
+module _ (F : ℕ → ℕ → ℕ) where
+  -- what the groups of up to k + 1 zones from a have still to give to those from a + 1
+  next : ℕ → ℕ → ℕ
+  next a zero = 0
+  next a (suc k) = F (a + 1) (a + k + 1)
+
+  -- the groups of up to k + 1 zones that begin with zone a
+  row : (a k : ℕ) → sum (λ j. added F a (suc j)) (suc k) + next a k ≡ sum (λ j. taken F a (suc j)) (suc k) + F a (a + k)
+  unfolding added taken next
+  row a zero = rw (add-zero a) (omega arith)
+  row a (suc zero) =
+      let e : F (a + 1) (a + 0 + 1) ≡ F (a + 1) (a + 1) = ap (λ z. F (a + 1) z) (omega arith) in
+      omega arith
+  row a (suc (suc k)) =
+      let e₁ : F a (a + suc k) ≡ F a (a + k + 1) = ap (λ z. F a z) (omega arith) in
+      let e₂ : F a (a + suc (suc k)) ≡ F a (a + k + 2) = ap (λ z. F a z) (omega arith) in
+      let e₃ : F (a + 1) (a + suc k + 1) ≡ F (a + 1) (a + k + 2) = ap (λ z. F (a + 1) z) (omega arith) in
+      omega (arith, row a (suc k))
+
+  -- the zones after the first k of m, where r are left
+  rest : ℕ → ℕ → ℕ → ℕ
+  rest m k zero = 0
+  rest m k (suc r) = F (suc k) m
+
+  -- all groups of m zones that begin with zone i + 1, where that leaves r zones
+  row-all : (m i r : ℕ) → m ≡ i + suc r →
+      sum (λ j. added F (suc i) (suc j)) (suc r) + rest m (suc i) r ≡ sum (λ j. taken F (suc i) (suc j)) (suc r) + F (suc i) m
+  unfolding next rest
+  row-all m i zero e =
+      let q : F (suc i) (suc i + 0) ≡ F (suc i) m = ap (λ z. F (suc i) z) (omega arith) in
+      omega (arith, row (suc i) zero)
+  row-all m i (suc k) e =
+      let q : F (suc i) (suc i + suc k) ≡ F (suc i) m = ap (λ z. F (suc i) z) (omega arith) in
+      let r₁ : F (suc i + 1) (suc i + k + 1) ≡ F (suc (suc i)) (suc i + k + 1) = ap (λ z. F z (suc i + k + 1)) (omega arith) in
+      let r₂ : F (suc (suc i)) (suc i + k + 1) ≡ F (suc (suc i)) m = ap (λ z. F (suc (suc i)) z) (omega arith) in
+      omega (arith, row (suc i) (suc k))
+
+  -- the groups that begin with one of the first k zones
+  rows : (m k r : ℕ) → m ≡ k + r → 0 < m →
+      sum (λ i. sum (λ j. added F (suc i) (suc j)) (m - i)) k + rest m k r ≡ sum (λ i. sum (λ j. taken F (suc i) (suc j)) (m - i)) k + F 1 m
+  unfolding rest
+  rows m zero zero e p = omega arith
+  rows m zero (suc r) e p = omega arith
+  rows m (suc k) r e p =
+      let s : m - k ≡ suc r = omega arith in
+      let f : m ≡ k + suc r = omega arith in
+      rw s (omega (arith, rows m k (suc r) f p, row-all m k r f))
+
+  -- THE COUNT: all that is added is all that is taken away, and the whole ship once
+  pub counted-once : (m : ℕ) → 0 < m → groups (added F) m ≡ groups (taken F) m + F 1 m
+  unfolding groups rest
+  counted-once m p = omega (arith, rows m m zero (omega arith) p)

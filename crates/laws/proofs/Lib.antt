@@ -5,3 +5,4 @@ pub mod Certificate
 pub mod Excess
 pub mod Polynomial
 pub mod Span
+pub mod Rounding

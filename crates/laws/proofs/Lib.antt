@@ -6,3 +6,6 @@ pub mod Excess
 pub mod Polynomial
 pub mod Span
 pub mod Rounding
+pub mod Sums
+pub mod Listed
+pub mod Telescope

@@ -4,7 +4,10 @@ use mathlib.Core.Path.{_≡_, refl, sym, _∙_, ap}
 use mathlib.Core.Logic.{_↔_}
 use native.Mathlib.Nat.{le-refl, le-trans, le-of-eq, le-antisymm, div-zero, eq-zero-or-pos, div-mul-le-self, lt-div-mul-add, le-div-iff-mul-le, lt-of-mul-lt-mul-right, mul-le-mul-left, mul-le-mul-right, mul-pos, le-min, min-le-left, min-le-right, min-eq-left, min-eq-right, lt-of-not-le, not-le-of-lt, le-of-mul-le-mul-left, le-of-mul-le-mul-right, le-of-lt}
 use native.Mathlib.Omega.{arith, sub-cases, by-contra}
+use mathlib.Core.List.{List, [], _∷_}
+use lib.ListN.{length}
 use Rattle.laws.specs.Rounding.{ceil}
+use Rattle.laws.specs.Sums.{sumOf}
 
 -- ---- bounds; the library has n / d * d ≤ n as `div-mul-le-self`
 
@@ -153,3 +156,22 @@ halves-apart hi lo w h = omega arith
 pub halves-sum : (n : ℕ) → n / 2 + ceil n 2 ≡ n
 unfolding ceil
 halves-sum n = omega arith
+
+-- ---- sums of rounded quotients over one divisor
+
+module _ {A : Type 0} (f : A → ℕ) (d : ℕ) where
+  pub floors-below : (xs : List A) → sumOf (λ x. f x / d) xs * d ≤ sumOf f xs
+  floors-below [] = omega arith
+  floors-below (x ∷ xs) = omega (arith, floors-below xs, div-mul-le-self (f x) d)
+
+  pub floors-near : 0 < d → (xs : List A) → sumOf f xs ≤ (sumOf (λ x. f x / d) xs + length xs) * d
+  floors-near p [] = omega arith
+  floors-near p (x ∷ xs) = omega (arith, floors-near p xs, floor-upper (f x) d p)
+
+  pub ceils-above : 0 < d → (xs : List A) → sumOf f xs ≤ sumOf (λ x. ceil (f x) d) xs * d
+  ceils-above p [] = omega arith
+  ceils-above p (x ∷ xs) = omega (arith, ceils-above p xs, ceil-lower (f x) d p)
+
+  pub ceils-near : 0 < d → (xs : List A) → sumOf (λ x. ceil (f x) d) xs * d ≤ sumOf f xs + length xs * d
+  ceils-near p [] = omega arith
+  ceils-near p (x ∷ xs) = omega (arith, ceils-near p xs, ceil-upper (f x) d p)

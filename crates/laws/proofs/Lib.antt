@@ -7,3 +7,7 @@ pub mod Certificate
 pub mod Polynomial
 pub mod Span
 pub mod FractionSum
+pub mod Rounding
+pub mod Sums
+pub mod Listed
+pub mod Telescope

@@ -4,11 +4,8 @@ use mathlib.Core.Path.{_≡_, refl, ap, sym, _∙_}
 use native.Mathlib.Nat.{add-zero}
 use native.Mathlib.Numerals.{add-one}
 use native.Mathlib.Omega.{arith}
-use Rattle.solas.specs.Count.{added, taken, sum, groups}
-
-pub sum-same : (f g : ℕ → ℕ) (n : ℕ) → ((i : ℕ) → i < n → f i ≡ g i) → sum f n ≡ sum g n
-sum-same f g zero h = refl
-sum-same f g (suc n) h = omega (arith, sum-same f g n (λ i k. h i (omega arith)), h n (omega arith))
+use Rattle.laws.specs.Sums.{sumBelow}
+use Rattle.solas.specs.Count.{added, taken, groups}
 
 module _ (F : ℕ → ℕ → ℕ) where
   -- what the groups of up to k + 1 zones from a have still to give to those from a + 1
@@ -17,7 +14,7 @@ module _ (F : ℕ → ℕ → ℕ) where
   next a (suc k) = F (a + 1) (a + k + 1)
 
   -- the groups of up to k + 1 zones that begin with zone a
-  row : (a k : ℕ) → sum (λ j. added F a (suc j)) (suc k) + next a k ≡ sum (λ j. taken F a (suc j)) (suc k) + F a (a + k)
+  row : (a k : ℕ) → sumBelow (λ j. added F a (suc j)) (suc k) + next a k ≡ sumBelow (λ j. taken F a (suc j)) (suc k) + F a (a + k)
   unfolding added taken next
   row a zero = rw (add-zero a) (omega arith)
   row a (suc zero) =
@@ -36,7 +33,7 @@ module _ (F : ℕ → ℕ → ℕ) where
 
   -- all groups of m zones that begin with zone i + 1, where that leaves r zones
   row-all : (m i r : ℕ) → m ≡ i + suc r →
-      sum (λ j. added F (suc i) (suc j)) (suc r) + rest m (suc i) r ≡ sum (λ j. taken F (suc i) (suc j)) (suc r) + F (suc i) m
+      sumBelow (λ j. added F (suc i) (suc j)) (suc r) + rest m (suc i) r ≡ sumBelow (λ j. taken F (suc i) (suc j)) (suc r) + F (suc i) m
   unfolding next rest
   row-all m i zero e =
       let q : F (suc i) (suc i + 0) ≡ F (suc i) m = ap (λ z. F (suc i) z) (omega arith) in
@@ -49,7 +46,7 @@ module _ (F : ℕ → ℕ → ℕ) where
 
   -- the groups that begin with one of the first k zones
   rows : (m k r : ℕ) → m ≡ k + r → 0 < m →
-      sum (λ i. sum (λ j. added F (suc i) (suc j)) (m - i)) k + rest m k r ≡ sum (λ i. sum (λ j. taken F (suc i) (suc j)) (m - i)) k + F 1 m
+      sumBelow (λ i. sumBelow (λ j. added F (suc i) (suc j)) (m - i)) k + rest m k r ≡ sumBelow (λ i. sumBelow (λ j. taken F (suc i) (suc j)) (m - i)) k + F 1 m
   unfolding rest
   rows m zero zero e p = omega arith
   rows m zero (suc r) e p = omega arith

@@ -1,8 +1,10 @@
 -- How the rules for one, two, three and more zones count: what they add and what they take away, of any figure of the zones from a to e. Assumes nothing.
-use Prim.Native.Nat.{ℕ, zero, suc, _+_, _-_, _*_}
-use mathlib.Core.Bool.{cond}
+use Prim.Native.Nat.{ℕ, zero, suc, _+_, _-_, _*_, _≤_, _<_}
+use mathlib.Core.Path.{_≡_}
+use mathlib.Core.Bool.{Bool, true, false}
 use lib.Dec.{leb}
-use Rattle.solas.specs.Ship.{Ship}
+use Rattle.laws.specs.Sums.{sumBelow}
+use Rattle.solas.specs.Ship.{Ship, Sound}
 
 unfoldable pub added : (ℕ → ℕ → ℕ) → ℕ → ℕ → ℕ
 added F a zero = 0
@@ -16,14 +18,43 @@ taken F a (suc zero) = 0
 taken F a (suc (suc zero)) = F a a + F (a + 1) (a + 1)
 taken F a (suc (suc (suc k))) = F a (a + k + 1) + F (a + 1) (a + k + 2)
 
--- the same of every group of m zones together
-abbrev pub sum : (ℕ → ℕ) → ℕ → ℕ
-sum f zero = 0
-sum f (suc n) = sum f n + f n
-
+-- f of every group of m zones together
 unfoldable pub groups : (ℕ → ℕ → ℕ) → ℕ → ℕ
-groups f m = sum (λ i. sum (λ j. f (suc i) (suc j)) (m - i)) m
+groups f m = sumBelow (λ i. sumBelow (λ j. f (suc i) (suc j)) (m - i)) m
+
+abbrev pub mark : Bool → ℕ
+mark true = 1
+mark false = 0
 
 -- ---- one hole, from the place u to the place w: 1 where it lies within the zones from a to e, else 0
 unfoldable pub hole : Ship → ℕ → ℕ → ℕ → ℕ → ℕ
-hole s u w a e = cond (leb (s .aft a) u) 1 0 * cond (leb w (s .fwd e)) 1 0
+hole s u w a e = mark (leb (s .aft a) u) * mark (leb w (s .fwd e))
+
+-- the group of n zones from zone a is one of the ship's
+pub record Group (s : Ship) (a n : ℕ) : Type 0 where
+  pub from : 1 ≤ a
+  pub some : 1 ≤ n
+  pub fits : a + n ≤ s .m + 1
+
+-- a hole counts for no group less than not at all or more than once, and over all groups once
+pub record CountsOnce (s : Ship) (u w : ℕ) : Type 0 where
+  pub least : (a n : ℕ) → Group s a n → taken (hole s u w) a n ≤ added (hole s u w) a n
+  pub most : (a n : ℕ) → Group s a n → added (hole s u w) a n ≤ taken (hole s u w) a n + 1
+  pub once : groups (added (hole s u w)) (s .m) ≡ groups (taken (hole s u w)) (s .m) + 1
+
+-- ONE HOLE: every hole in the side of every sound ship
+abbrev pub OneHole : Type 0
+OneHole = (s : Ship) → Sound s → (u w : ℕ) → u < w → w ≤ s .L → CountsOnce s u w
+
+-- ---- two slips: the middle span left out at three and more zones; the group's first zone put back at two
+unfoldable pub middle : (ℕ → ℕ → ℕ) → ℕ → ℕ → ℕ
+middle F a zero = 0
+middle F a (suc zero) = 0
+middle F a (suc (suc zero)) = 0
+middle F a (suc (suc (suc k))) = F (a + 1) (a + k + 1)
+
+unfoldable pub putBack : (ℕ → ℕ → ℕ) → ℕ → ℕ → ℕ
+putBack F a zero = 0
+putBack F a (suc zero) = 0
+putBack F a (suc (suc zero)) = F a a
+putBack F a (suc (suc (suc k))) = 0

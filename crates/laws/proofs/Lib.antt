@@ -9,3 +9,6 @@ pub mod Rounding
 pub mod Sums
 pub mod Listed
 pub mod Telescope
+pub mod Roots
+pub mod Lists
+pub mod Bytes

@@ -11,3 +11,6 @@ pub mod Rounding
 pub mod Sums
 pub mod Listed
 pub mod Telescope
+pub mod Roots
+pub mod Lists
+pub mod Bytes

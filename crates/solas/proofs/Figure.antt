@@ -1,0 +1,67 @@
+-- The shares of a sound ship over one denominator: what a row adds and takes away, in whole numbers. Assumes nothing.
+use Prim.Native.Nat.{ℕ, zero, suc, _+_, _-_, _*_, _^_, _≤_, _<_}
+use mathlib.Core.Path.{_≡_, refl, ap, sym, _∙_}
+use native.Mathlib.Nat.{le-refl, le-trans, mul-pos, zero-lt-suc}
+use native.Mathlib.Omega.{arith}
+use Rattle.laws.specs.Fraction.{Fraction, Is, whole, _⊹_, _⊝_}
+use Rattle.laws.proofs.Fraction.{is-⊹, is-⊝, is-shifted, is-whole}
+use Rattle.solas.specs.Ship.{Ship, Sound}
+use Rattle.solas.specs.Share.{within, share, before, rowShare}
+use Rattle.solas.specs.General.{Law, Layer, Falling, Rising, inSpan, common, law, layer, unit}
+use Rattle.solas.specs.Count.{added, taken, Group}
+use Rattle.solas.proofs.GeneralLayer.{depths-add}
+
+-- of the zones from a to e, what the layer from b′ to b gives, over `over s`
+abbrev pub figure : Ship → ℕ → ℕ → ℕ → ℕ → ℕ
+figure s b′ b a e = inSpan (law (s .L) (s .B)) (layer (s .L) (s .B) b′ b) (s .L) (s .aft a) (s .fwd e)
+
+abbrev pub over : Ship → ℕ
+over s = 2 * (5 * s .B ^ 2 * unit (law (s .L) (s .B)) * (law (s .L) (s .B) .λx * s .L))
+
+-- figures that add up, add up in what is added and what is taken away
+added-adds : (F G H : ℕ → ℕ → ℕ) → ((a e : ℕ) → F a e + G a e ≡ H a e) → (a n : ℕ) → added F a n + added G a n ≡ added H a n
+unfolding added
+added-adds F G H h a zero = refl
+added-adds F G H h a (suc zero) = h a a
+added-adds F G H h a (suc (suc zero)) = h a (a + 1)
+added-adds F G H h a (suc (suc (suc k))) = omega (arith, h a (a + k + 2), h (a + 1) (a + k + 1))
+
+taken-adds : (F G H : ℕ → ℕ → ℕ) → ((a e : ℕ) → F a e + G a e ≡ H a e) → (a n : ℕ) → taken F a n + taken G a n ≡ taken H a n
+unfolding taken
+taken-adds F G H h a zero = refl
+taken-adds F G H h a (suc zero) = refl
+taken-adds F G H h a (suc (suc zero)) = omega (arith, h a a, h (a + 1) (a + 1))
+taken-adds F G H h a (suc (suc (suc k))) = omega (arith, h a (a + k + 1), h (a + 1) (a + k + 2))
+
+module _ (s : Ship) (h : Sound s)
+    (within-is : (b : ℕ) → 2 * b ≤ s .B → (a e : ℕ) → 1 ≤ a → a ≤ e → e ≤ s .m → Is (within s a e b) (figure s 0 b a e) 0 (over s))
+    (falls : Falling (law (s .L) (s .B)))
+    (rises : (b′ b : ℕ) → b′ ≤ b → 2 * b ≤ s .B → Rising (law (s .L) (s .B)) (layer (s .L) (s .B) b′ b))
+    (over-positive : 0 < over s)
+  where
+    -- the share of a group at one b
+    pub share-is : (a n b : ℕ) → Group s a n → 2 * b ≤ s .B → Is (share s a n b) (added (figure s 0 b) a n) (taken (figure s 0 b) a n) (over s)
+    unfolding share added taken
+    share-is a zero b g p = absurd (omega (arith, g .some))
+    share-is a (suc zero) b g p = within-is b p a a (g .from) (le-refl a) (omega (arith, g .fits))
+    share-is a (suc (suc zero)) b g p =
+        is-shifted (figure s 0 b a (a + 1)) (figure s 0 b a a + figure s 0 b (a + 1) (a + 1)) (omega arith)
+        (is-⊝ (is-⊝ (within-is b p a (a + 1) (g .from) (omega arith) (omega (arith, g .fits))) (within-is b p a a (g .from) (le-refl a) (omega (arith, g .fits))))
+        (within-is b p (a + 1) (a + 1) (omega arith) (le-refl (a + 1)) (omega (arith, g .fits))))
+    share-is a (suc (suc (suc k))) b g p =
+        is-shifted (figure s 0 b a (a + k + 2) + figure s 0 b (a + 1) (a + k + 1)) (figure s 0 b a (a + k + 1) + figure s 0 b (a + 1) (a + k + 2)) (omega arith)
+        (is-⊹ (is-⊝ (is-⊝ (within-is b p a (a + k + 2) (g .from) (omega arith) (omega (arith, g .fits)))
+        (within-is b p a (a + k + 1) (g .from) (omega arith) (omega (arith, g .fits))))
+        (within-is b p (a + 1) (a + k + 2) (omega arith) (omega arith) (omega (arith, g .fits))))
+        (within-is b p (a + 1) (a + k + 1) (omega arith) (omega arith) (omega (arith, g .fits))))
+
+    -- the share of a row
+    pub row-is : (a n b′ b : ℕ) → Group s a n → b′ ≤ b → 2 * b ≤ s .B → Is (rowShare s a n b′ b) (added (figure s b′ b) a n) (taken (figure s b′ b) a n) (over s)
+    unfolding rowShare
+    row-is a n zero b g q p =
+        is-shifted (added (figure s 0 b) a n) (taken (figure s 0 b) a n) (omega arith) (is-⊝ (share-is a n b g p) (is-whole 0 over-positive))
+    row-is a n (suc b′) b g q p =
+        let up = added-adds (figure s 0 (suc b′)) (figure s (suc b′) b) (figure s 0 b) (λ i e. depths-add (s .L) (s .B) 0 (suc b′) b falls (rises 0 (suc b′) (omega arith) (omega arith)) (rises (suc b′) b q p) (s .aft i) (s .fwd e)) a n in
+        let dn = taken-adds (figure s 0 (suc b′)) (figure s (suc b′) b) (figure s 0 b) (λ i e. depths-add (s .L) (s .B) 0 (suc b′) b falls (rises 0 (suc b′) (omega arith) (omega arith)) (rises (suc b′) b q p) (s .aft i) (s .fwd e)) a n in
+        is-shifted (added (figure s (suc b′) b) a n) (taken (figure s (suc b′) b) a n) (omega (arith, up, dn))
+        (is-⊝ (share-is a n b g p) (share-is a n (suc b′) g (omega arith)))

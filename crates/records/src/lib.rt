@@ -11,12 +11,13 @@ pub struct Hull {
     pub places: [u64; 21],
 }
 
-// What the customer's program found at one draught: the righting lever in millimetres, its range and the heel in
-// hundredths of a degree.
+// A row's result at one draught. Kind 2: what the customer's program found, the righting lever in millimetres, its range
+// and the heel in hundredths of a degree, and given is 0. Kind 3: a given survival in ten-thousandths, the others 0.
 pub struct Finding {
     pub lever: u64,
     pub range: u64,
     pub heel: u64,
+    pub given: u64,
 }
 
 // What a row says before its results: its kind (2 or 3), the group's first zone a and zone count n, the penetration b

@@ -65,8 +65,8 @@ module _ {l : Law} {y₁ y₂ : Layer} (f : Falling l) (r₁ : Rising l y₁) (r
       let up : y₁ .U′ ≤ y₂ .U′ = omega (arith, r₁ .cut, m .cut) in
       let shorter : y₁ .d - y₁ .c′ ≡ y₁ .c - y₁ .c′ + (y₂ .d - y₂ .c′) = omega (arith, r₁ .chance, r₂ .chance, r₂ .proper, m .chance, m .over) in
       let longer : y₂ .d - y₁ .c′ ≡ y₁ .c - y₁ .c′ + (y₂ .d - y₂ .c′) = omega (arith, shorter, m .over) in
-      let both : y₂ .c - y₁ .c′ ≡ y₁ .c - y₁ .c′ + (y₂ .c - y₂ .c′) = omega (arith, r₁ .chance, r₂ .chance, m .chance) in
-      rw (shorter, longer, both, m .cut, ← adds (y₂ .U′) (y₂ .U) (l .κ) (r₂ .cut) (r₂ .shallow) (le-refl (l .κ)), ← adds (y₁ .U′) (y₂ .U′) (y₂ .U) up (r₂ .cut) (r₂ .shallow))
+      let across : y₂ .c - y₁ .c′ ≡ y₁ .c - y₁ .c′ + (y₂ .c - y₂ .c′) = omega (arith, r₁ .chance, r₂ .chance, m .chance) in
+      rw (shorter, longer, across, m .cut, ← adds (y₂ .U′) (y₂ .U) (l .κ) (r₂ .cut) (r₂ .shallow) (le-refl (l .κ)), ← adds (y₁ .U′) (y₂ .U′) (y₂ .U) up (r₂ .cut) (r₂ .shallow))
       (plain (l .W) (y₁ .c - y₁ .c′) (y₂ .c - y₂ .c′) (y₂ .d - y₂ .c′) (g (y₂ .U′) (y₂ .U)) (g (y₂ .U) (l .κ)) (g (y₁ .U′) (y₂ .U′)) e)
     where
       plain : (W i j k M A N e : ℕ) → i * (W * (M + A) + e) + (i + k) * (W * N) + (j * (W * A + e) + k * (W * M)) ≡ (i + j) * (W * A + e) + (i + k) * (W * (N + M))

@@ -1,16 +1,16 @@
--- Spans of a ship under the general damage length law: no share is negative. Assumes nothing.
+-- Spans of a ship under the general damage length law: no share is negative, and the whole ship has at most one. Assumes nothing.
 use Prim.Native.Nat.{ℕ, _+_, _-_, _*_, _≤_, _<_}
 use mathlib.Core.Bool.{Bool, true, false, cond}
-use mathlib.Core.Path.{_≡_, refl}
-use native.Mathlib.Nat.{zero-add, add-zero, sub-zero, mul-zero, sub-eq-zero-of-le}
+use mathlib.Core.Path.{_≡_, refl, ap, _∙_}
+use native.Mathlib.Nat.{mul-le-mul-right, zero-add, add-zero, sub-zero, mul-zero, sub-eq-zero-of-le}
 use native.Mathlib.Omega.{arith}
 use lib.Dec.{eqb}
 use borrow.Author.Tests.{eq-eqb, ne-eqb}
 use Rattle.laws.specs.Span.{SpanFunction}
 use Rattle.laws.proofs.Span.{unit-spans, share-not-negative}
 use Rattle.solas.specs.Span.{neither, one, both, touch}
-use Rattle.solas.specs.General.{Law, Layer, inLayer, slope, twice, inSpan}
-use Rattle.solas.proofs.GeneralLayer.{layer-spans}
+use Rattle.solas.specs.General.{Law, Falling, Layer, Rising, inLayer, slope, twice, inSpan, common}
+use Rattle.solas.proofs.GeneralLayer.{layer-spans, slope-at-most-one, slope-one}
 
 -- ---- what a span has, by the ends that it touches
 
@@ -87,3 +87,16 @@ module _ (l : Law) (y : Layer) (L : ℕ) where
       inSpan l y L aft fwd′ + inSpan l y L aft′ fwd ≤ inSpan l y L aft fwd
   pair-share-not-negative aft fwd′ aft′ fwd p q r s =
       omega (arith, group-share-not-negative aft aft′ fwd′ fwd (omega arith) (omega arith) s, empty-span aft′ fwd′ q)
+
+-- ---- the whole ship
+
+module _ (l : Law) (y : Layer) (L : ℕ) where
+  pub whole-ship : inSpan l y L 0 L ≡ 2 * (slope l y * (l .λx * L))
+  whole-ship = rw (by-ends l y L 0 L, reaches-itself 0, reaches-itself L, sub-zero L) (omega arith)
+
+  pub whole-ship-at-most-one : Falling l → Rising l y → inSpan l y L 0 L ≤ common l y L
+  whole-ship-at-most-one f r = omega (arith, whole-ship, mul-le-mul-right (l .λx * L) (slope-at-most-one f r))
+
+  -- at the half breadth, where C is one
+  pub whole-ship-one : Falling l → Rising l y → y .U′ ≡ 0 → y .c′ ≡ 0 → y .c ≡ y .d → inSpan l y L 0 L ≡ common l y L
+  whole-ship-one f r a b e = whole-ship ∙ ap (λ s. 2 * (s * (l .λx * L))) (slope-one f r a b e)

@@ -1,13 +1,13 @@
 -- Layers under the general damage length law: what each gives is a span function, and two that meet give what one does. Assumes nothing.
-use Prim.Native.Nat.{ℕ, _+_, _-_, _*_, _^_, _≤_}
+use Prim.Native.Nat.{ℕ, _+_, _-_, _*_, _^_, _≤_, zero-le}
 use mathlib.Core.Path.{_≡_, refl, ap}
-use native.Mathlib.Nat.{le-refl}
+use native.Mathlib.Nat.{le-refl, sub-zero, mul-le-mul-right}
 use native.Mathlib.Omega.{arith}
 use Rattle.laws.specs.Span.{SpanFunction}
 use Rattle.laws.proofs.Span.{e2-spans, e3-spans, steeper, sum-spans, multiple-spans, later-spans}
 use Rattle.solas.specs.Span.{Touch, neither, one, both, touch}
-use Rattle.solas.specs.General.{Law, Falling, fall, density, between, mass, beyond, Layer, Rising, inLayer, slope, twice, inSpan, layer}
-use Rattle.solas.proofs.General.{between-adds, mass-adds}
+use Rattle.solas.specs.General.{Law, Falling, fall, density, between, mass, beyond, unit, Layer, Rising, inLayer, slope, twice, inSpan, layer}
+use Rattle.solas.proofs.General.{between-adds, mass-adds, mass-one}
 
 -- ---- what a layer gives is a span function, and its slope is its mass
 
@@ -65,8 +65,8 @@ module _ {l : Law} {y₁ y₂ : Layer} (f : Falling l) (r₁ : Rising l y₁) (r
       let up : y₁ .U′ ≤ y₂ .U′ = omega (arith, r₁ .cut, m .cut) in
       let shorter : y₁ .d - y₁ .c′ ≡ y₁ .c - y₁ .c′ + (y₂ .d - y₂ .c′) = omega (arith, r₁ .chance, r₂ .chance, r₂ .proper, m .chance, m .over) in
       let longer : y₂ .d - y₁ .c′ ≡ y₁ .c - y₁ .c′ + (y₂ .d - y₂ .c′) = omega (arith, shorter, m .over) in
-      let both : y₂ .c - y₁ .c′ ≡ y₁ .c - y₁ .c′ + (y₂ .c - y₂ .c′) = omega (arith, r₁ .chance, r₂ .chance, m .chance) in
-      rw (shorter, longer, both, m .cut, ← adds (y₂ .U′) (y₂ .U) (l .κ) (r₂ .cut) (r₂ .shallow) (le-refl (l .κ)), ← adds (y₁ .U′) (y₂ .U′) (y₂ .U) up (r₂ .cut) (r₂ .shallow))
+      let across : y₂ .c - y₁ .c′ ≡ y₁ .c - y₁ .c′ + (y₂ .c - y₂ .c′) = omega (arith, r₁ .chance, r₂ .chance, m .chance) in
+      rw (shorter, longer, across, m .cut, ← adds (y₂ .U′) (y₂ .U) (l .κ) (r₂ .cut) (r₂ .shallow) (le-refl (l .κ)), ← adds (y₁ .U′) (y₂ .U′) (y₂ .U) up (r₂ .cut) (r₂ .shallow))
       (plain (l .W) (y₁ .c - y₁ .c′) (y₂ .c - y₂ .c′) (y₂ .d - y₂ .c′) (g (y₂ .U′) (y₂ .U)) (g (y₂ .U) (l .κ)) (g (y₁ .U′) (y₂ .U′)) e)
     where
       plain : (W i j k M A N e : ℕ) → i * (W * (M + A) + e) + (i + k) * (W * N) + (j * (W * A + e) + k * (W * M)) ≡ (i + j) * (W * A + e) + (i + k) * (W * (N + M))
@@ -89,6 +89,34 @@ module _ {l : Law} {y₁ y₂ : Layer} (f : Falling l) (r₁ : Rising l y₁) (r
   pub spans-add : (L aft fwd : ℕ) → inSpan l y₁ L aft fwd + inSpan l y₂ L aft fwd ≡ inSpan l (joined y₁ y₂) L aft fwd
   unfolding inSpan
   spans-add L aft fwd = twice-adds (touch L aft fwd) (fwd - aft)
+
+-- ---- a layer has at most all of the mass
+
+module _ {l : Law} {y : Layer} (f : Falling l) (r : Rising l y) where
+  pub slope-at-most-one : slope l y ≤ y .d * unit l
+  unfolding slope
+  slope-at-most-one =
+      plain (y .d) (y .c - y .c′) (y .d - y .c′) (l .W) (mass l 0 (y .U′)) (mass l (y .U′) (y .U)) (mass l (y .U) (l .κ)) (3 * l .κ ^ 2 * l .W ^ 2) (unit l)
+      (omega (arith, r .proper)) (omega arith) (rw (← all, ← below) at (mass-one f))
+    where
+      all : mass l 0 (y .U′) + mass l (y .U′) (l .κ) ≡ mass l 0 (l .κ)
+      all = mass-adds f 0 (y .U′) (l .κ) zero-le (omega (arith, r .cut, r .shallow)) (le-refl (l .κ))
+
+      below : mass l (y .U′) (y .U) + mass l (y .U) (l .κ) ≡ mass l (y .U′) (l .κ)
+      below = mass-adds f (y .U′) (y .U) (l .κ) (r .cut) (r .shallow) (le-refl (l .κ))
+
+      plain : (d i k W A N M e u : ℕ) → i ≤ d → k ≤ d → W * (A + (N + M)) + e ≡ u → i * (W * M + e) + k * (W * N) ≤ d * u
+      plain d i k W A N M e u p q t = omega (arith, mul-le-mul-right (W * M + e) p, mul-le-mul-right (W * N) q, ap (λ z. d * z) t)
+
+  -- all of it down to where C is one
+  pub slope-one : y .U′ ≡ 0 → y .c′ ≡ 0 → y .c ≡ y .d → slope l y ≡ y .d * unit l
+  unfolding slope
+  slope-one a b e =
+      rw (a, b, e, sub-zero (y .d))
+      (plain (y .d) (l .W) (mass l 0 (y .U)) (mass l (y .U) (l .κ)) (3 * l .κ ^ 2 * l .W ^ 2) (unit l) (rw (← mass-adds f 0 (y .U) (l .κ) zero-le (r .shallow) (le-refl (l .κ))) at (mass-one f)))
+    where
+      plain : (d W N M e u : ℕ) → W * (N + M) + e ≡ u → d * (W * M + e) + d * (W * N) ≡ d * u
+      plain d W N M e u t = omega (arith, ap (λ z. d * z) t)
 
 -- ---- document 01's layers, from one penetration to the next
 module _ (L B b₀ b₁ b₂ : ℕ) where

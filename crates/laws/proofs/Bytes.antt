@@ -2,8 +2,7 @@
 use Prim.Native.Nat.{ℕ, zero, suc, _+_, _*_, _/_, _%_, _^_, _≤_, _<_}
 use mathlib.Core.Path.{_≡_, refl, sym, _∙_, ap, ap₂}
 use mathlib.Core.List.{List, [], _∷_, _++_}
-use native.Mathlib.Nat.{mod-eq-of-lt, mod-lt, mod-one, pow-succ', pow-zero, one-le-pow, mul-le-mul-right, mul-add-div-right, mul-add-mod-self-right, add-mul-mod-self-right, mul-assoc, mul-comm, div-eq-of-lt, add-zero, div-one}
-use native.Mathlib.Numerals.{add-one}
+use native.Mathlib.Nat.{mod-eq-of-lt, mod-lt, mod-one, pow-succ', one-le-pow, mul-add-div-right}
 use native.Mathlib.Omega.{arith}
 use lib.Arith.{mod-mul, digits-div, digits-lt}
 use lib.Dec.{lit<}
@@ -11,6 +10,29 @@ use lib.Pow.{pow-add}
 use lib.ListN.{length, getD, take, drop, length-append}
 use lib.Seq.{drop-cons}
 use Rattle.laws.specs.Bytes.{Octets, number, bytes}
+
+-- ---- the bytes at a place of a list
+
+-- the next byte of a part
+next-byte : (f : List ℕ) (at q k : ℕ) → q ≡ suc at → at < length f → take (suc k) (drop at f) ≡ getD f at 0 ∷ take k (drop q f)
+next-byte f at q k e h = rw (drop-cons f at 0 h, e) refl
+
+pub two-at : (f : List ℕ) (at : ℕ) → at + 2 ≤ length f → number (take 2 (drop at f)) ≡ getD f at 0 * 256 + getD f (at + 1) 0
+unfolding number
+two-at f at h = rw (next-byte f at (at + 1) 1 (omega arith) (omega arith), next-byte f (at + 1) (at + 2) 0 (omega arith) (omega arith)) (omega arith)
+
+pub four-at : (f : List ℕ) (at : ℕ) → at + 4 ≤ length f →
+    number (take 4 (drop at f)) ≡ getD f at 0 * 16777216 + getD f (at + 1) 0 * 65536 + getD f (at + 2) 0 * 256 + getD f (at + 3) 0
+unfolding number
+four-at f at h =
+    rw (
+      next-byte f at (at + 1) 3 (omega arith) (omega arith),
+      next-byte f (at + 1) (at + 2) 2 (omega arith) (omega arith),
+      next-byte f (at + 2) (at + 3) 1 (omega arith) (omega arith),
+      next-byte f (at + 3) (at + 4) 0 (omega arith) (omega arith),
+    ) (omega arith)
+
+-- ---- any count of bytes
 
 place-above : (k : ℕ) → 0 < 256 ^ k
 place-above k = one-le-pow k 256 (lit< tt)
@@ -76,22 +98,3 @@ two-bytes n h = ap₂ (λ x y. x ∷ y ∷ []) (omega arith) (omega arith)
 pub four-bytes : (n : ℕ) → n < 4294967296 → bytes 4 n ≡ n / 16777216 ∷ n / 65536 % 256 ∷ n / 256 % 256 ∷ n % 256 ∷ []
 unfolding bytes
 four-bytes n h = ap₂ (λ x y. x ∷ n / 65536 % 256 ∷ n / 256 % 256 ∷ y ∷ []) (omega arith) (omega arith)
-
--- the next byte of a part
-next-byte : (f : List ℕ) (at q k : ℕ) → q ≡ suc at → at < length f → take (suc k) (drop at f) ≡ getD f at 0 ∷ take k (drop q f)
-next-byte f at q k e h = rw (drop-cons f at 0 h, e) refl
-
-pub two-at : (f : List ℕ) (at : ℕ) → at + 2 ≤ length f → number (take 2 (drop at f)) ≡ getD f at 0 * 256 + getD f (at + 1) 0
-unfolding number
-two-at f at h = rw (next-byte f at (at + 1) 1 (omega arith) (omega arith), next-byte f (at + 1) (at + 2) 0 (omega arith) (omega arith)) (omega arith)
-
-pub four-at : (f : List ℕ) (at : ℕ) → at + 4 ≤ length f →
-    number (take 4 (drop at f)) ≡ getD f at 0 * 16777216 + getD f (at + 1) 0 * 65536 + getD f (at + 2) 0 * 256 + getD f (at + 3) 0
-unfolding number
-four-at f at h =
-    rw (
-      next-byte f at (at + 1) 3 (omega arith) (omega arith),
-      next-byte f (at + 1) (at + 2) 2 (omega arith) (omega arith),
-      next-byte f (at + 2) (at + 3) 1 (omega arith) (omega arith),
-      next-byte f (at + 3) (at + 4) 0 (omega arith) (omega arith),
-    ) (omega arith)

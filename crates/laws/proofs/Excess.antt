@@ -4,7 +4,7 @@ use mathlib.Core.Bool.{Bool, true, false}
 use mathlib.Core.List.{List, [], _∷_, _++_}
 use lib.Dec.{T, leb}
 use Rattle.laws.specs.Polynomial.{Expr, _:+_, Normal, const, horner, normal}
-use Rattle.laws.proofs.Claim.{Fact, _:≤_, _:<_, _:=_, lows, highs, Claim, _⊩⟨_⟩_, left, right, test}
+use Rattle.laws.proofs.Claim.{_:≤_, _:<_, _:=_, lows, highs, Claim, _⊩⟨_⟩_, left, right}
 
 -- `over es a b`: of the monomial with the exponents es the left side has a, and the right side b, which is less
 pub data Excess : Type 0 where

@@ -1,11 +1,11 @@
 -- The sum over a strictly rising list of numbers below n is at most the sum over all of them, and the same exactly when no number
 -- that counts is left out. Assumes nothing.
-use Prim.Native.Nat.{ℕ, zero, suc, _+_, _≤_, _<_, zero-le}
-use mathlib.Core.Path.{_≡_, refl, sym, _∙_}
+use Prim.Native.Nat.{ℕ, suc, _+_, _≤_, _<_, zero-le}
+use mathlib.Core.Path.{_≡_, sym, _∙_}
 use mathlib.Core.List.{List, [], _∷_, List·Memᴰ, List·Memᴰ·head, List·Memᴰ·tail, List·Memᴰ·not-nil, List·Memᴰ·cases-cons}
-use mathlib.Core.Logic.{_↔_, _⊎_, inl, inr, ⊎-elim}
-use native.Mathlib.Nat.{le-antisymm, eq-or-lt-of-le, le-dest}
-use native.Mathlib.Omega.{arith, by-contra, sub-cases}
+use mathlib.Core.Logic.{_↔_, ⊎-elim}
+use native.Mathlib.Nat.{eq-or-lt-of-le, le-dest}
+use native.Mathlib.Omega.{arith, sub-cases}
 use Rattle.laws.specs.Sums.{sumOf, sumBelow, Rising}
 use Rattle.laws.proofs.Sums.{sumBelow-longer, sumBelow-between, sumBelow-split, sumBelow-zero}
 

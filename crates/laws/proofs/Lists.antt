@@ -1,12 +1,12 @@
 -- Lists that are made place by place, and parts of lists that the library has no law for. Assumes nothing.
 use Prim.Native.Nat.{ℕ, zero, suc, _+_, _-_, _≤_, _<_}
 use mathlib.Core.Path.{_≡_, refl, sym, _∙_, ap, ap₂}
-use mathlib.Core.List.{List, [], _∷_, _++_, map}
+use mathlib.Core.List.{List, [], _∷_, _++_}
 use mathlib.Core.Logic.{⊎-elim}
-use native.Mathlib.Nat.{add-zero, add-suc, suc-add, suc-sub-suc, sub-zero, zero-sub, eq-or-lt-of-le, le-of-suc-le-suc}
+use native.Mathlib.Nat.{add-zero, add-suc, suc-add, suc-sub-suc, sub-zero, zero-sub, eq-or-lt-of-le}
 use native.Mathlib.Numerals.{add-one}
 use native.Mathlib.Omega.{arith}
-use lib.ListN.{length, getD, take, drop, set, length-append, length-drop, length-set, length-take, List·getD-append}
+use lib.ListN.{length, getD, take, drop, set, length-append, length-drop, length-set, List·getD-append}
 use lib.Seq.{take-all, take-take, drop-drop, take-suc-set, getD-at, getD-take, getD-drop, ext-getD, sets, length-take-le, take-nil}
 use Rattle.laws.specs.Lists.{tabulate}
 use Rattle.laws.specs.Sums.{sumOf, sumBelow}
@@ -18,7 +18,7 @@ module _ {A : Type 0} where
   pub length-tabulate : (g : ℕ → A) (n : ℕ) → length (tabulate g n) ≡ n
   unfolding tabulate
   length-tabulate g zero = refl
-  length-tabulate g (suc n) = omega (arith, length-append (tabulate g n) (g n ∷ []), length-tabulate g n)
+  length-tabulate g (suc n) = rw length-append (omega (arith, length-tabulate g n))
 
   pub getD-tabulate : (g : ℕ → A) (n i : ℕ) (d : A) → i < n → getD (tabulate g n) i d ≡ g i
   unfolding tabulate

@@ -1,8 +1,7 @@
 -- The normal form of a polynomial has the polynomial's value, and so coefficients decide. Assumes nothing.
 use Prim.Native.Nat.{ℕ, zero, suc, _+_, _*_, _^_, _≤_}
 use mathlib.Core.Path.{_≡_, refl, sym, _∙_, subst₂}
-use mathlib.Core.Bool.{Bool, true, false, _&&_}
-use mathlib.Core.List.{List, [], _∷_}
+use mathlib.Core.List.{List}
 use native.Mathlib.Nat.{add-le-add, mul-le-mul-left, pow-zero, pow-succ'}
 use native.Mathlib.Omega.{arith}
 use lib.Dec.{T, leb→le, eqb→eq}

@@ -1,10 +1,9 @@
 -- Fourth roots without roots: a bound of the fourth power is a bound of the number. Assumes nothing.
 use Prim.Native.Nat.{ℕ, suc, _*_, _^_, _≤_, _<_}
-use mathlib.Core.Path.{_≡_}
 use mathlib.Core.List.{[], _∷_}
 use mathlib.Core.Logic.{_↔_}
 use native.Mathlib.Nat.{lt-of-not-le, not-le-of-lt, le-of-mul-le-mul-right, pow-le-pow-left, pow-lt-pow-left, suc-ne-zero}
-use native.Mathlib.Omega.{arith, by-contra}
+use native.Mathlib.Omega.{by-contra}
 use Rattle.laws.proofs.Polynomial.{_:*_, _:^_, _:≤_, _⊲_, _⊢_, poly6}
 
 -- powers with the exponent k + 1 keep the order, both ways

@@ -1,9 +1,9 @@
 -- Quotients rounded down, n / d, and up, ceil n d: bounds, order, sums, nesting, and how far apart two ends come to lie. Assumes nothing.
 use Prim.Native.Nat.{ℕ, zero, suc, _+_, _-_, _*_, _/_, _≤_, _<_, min, zero-le}
-use mathlib.Core.Path.{_≡_, refl, sym, _∙_, ap}
+use mathlib.Core.Path.{_≡_, sym}
 use mathlib.Core.Logic.{_↔_}
-use native.Mathlib.Nat.{le-refl, le-trans, le-of-eq, le-antisymm, div-zero, eq-zero-or-pos, div-mul-le-self, lt-div-mul-add, le-div-iff-mul-le, lt-of-mul-lt-mul-right, mul-le-mul-left, mul-le-mul-right, mul-pos, le-min, min-le-left, min-le-right, min-eq-left, min-eq-right, lt-of-not-le, not-le-of-lt, le-of-mul-le-mul-left, le-of-mul-le-mul-right, le-of-lt}
-use native.Mathlib.Omega.{arith, sub-cases, by-contra}
+use native.Mathlib.Nat.{le-trans, le-of-eq, le-antisymm, div-zero, div-mul-le-self, lt-div-mul-add, le-div-iff-mul-le, lt-of-mul-lt-mul-right, mul-le-mul-left, mul-le-mul-right, mul-pos, min-eq-left, min-eq-right, lt-of-not-le, not-le-of-lt, le-of-mul-le-mul-left, le-of-mul-le-mul-right, le-of-lt, lt-of-le-of-lt}
+use native.Mathlib.Omega.{arith, sub-cases}
 use mathlib.Core.List.{List, [], _∷_}
 use lib.ListN.{length}
 use Rattle.laws.specs.Rounding.{ceil}
@@ -14,13 +14,16 @@ use Rattle.laws.specs.Sums.{sumOf}
 pub floor-upper : (n d : ℕ) → 0 < d → n < (n / d + 1) * d
 floor-upper n d p = omega (arith, lt-div-mul-add {a = n} {b = d} p)
 
+floor-not-below : (m n d : ℕ) → 0 < d → n + d ≤ m + 1 → n ≤ m / d * d
+floor-not-below m n d p h = omega (arith, lt-div-mul-add {a = m} {b = d} p)
+
 pub ceil-lower : (n d : ℕ) → 0 < d → n ≤ ceil n d * d
 unfolding ceil
-ceil-lower n d p = omega (arith, lt-div-mul-add {a = n + (d - 1)} {b = d} p)
+ceil-lower n d p = floor-not-below _ n d p (omega arith)
 
 pub ceil-upper : (n d : ℕ) → 0 < d → ceil n d * d < n + d
 unfolding ceil
-ceil-upper n d p = omega (arith, div-mul-le-self (n + (d - 1)) d)
+ceil-upper n d p = lt-of-le-of-lt (div-mul-le-self _ d) (omega arith)
 
 -- ---- the ceiling is the least that is not below; that the floor is the greatest that is not above is the library's `le-div-iff-mul-le`
 

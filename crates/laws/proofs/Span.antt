@@ -1,11 +1,11 @@
 -- Span functions: e2 and e3 are some, what is made of them is one again, and for each the share of a group is not negative. Assumes nothing.
-use Prim.Native.Nat.{ℕ, zero, suc, _+_, _-_, _*_, _^_, _≤_, _<_}
-use mathlib.Core.Path.{_≡_, refl, ap}
+use Prim.Native.Nat.{ℕ, zero, suc, _+_, _-_, _*_, _^_, _≤_}
+use mathlib.Core.Path.{_≡_, refl}
 use mathlib.Core.List.{[], _∷_}
-use native.Mathlib.Nat.{add-le-add, le-trans, le-of-eq, mul-le-mul-left, pow-le-pow-left, zero-add, add-zero, mul-add, mul-zero, le-dest, sub-add-cancel, sub-zero, zero-sub, mul-le-mul-right}
-use native.Mathlib.Omega.{arith, sub-cases}
+use native.Mathlib.Nat.{mul-le-mul-left, pow-le-pow-left, zero-add, mul-add, mul-zero, le-dest, sub-zero, zero-sub, mul-le-mul-right}
+use native.Mathlib.Omega.{arith}
 use Rattle.laws.specs.Span.{SpanFunction, e2, e3}
-use Rattle.laws.proofs.Polynomial.{C, _:+_, _:*_, _:^_, _:≤_, _:=_, _⊲_, sq, _⊢_, poly2, poly3, poly4}
+use Rattle.laws.proofs.Polynomial.{C, _:+_, _:*_, _:^_, _:≤_, _⊲_, sq, _⊢_, poly3, poly4}
 
 -- ---- powers of what is left of a length are convex
 
@@ -45,11 +45,11 @@ left-falls w x i = omega arith
 
 pub e2-sum : (w t : ℕ) → e2 w t + w ^ 2 ≡ 2 * w * t + (w - t) ^ 2
 unfolding e2
-e2-sum w t = sub-add-cancel (square-tangent w (w - t) t (omega arith))
+e2-sum w t = omega (arith, square-tangent w (w - t) t (omega arith))
 
 pub e3-sum : (w t : ℕ) → e3 w t + w ^ 3 ≡ 3 * w ^ 2 * t + (w - t) ^ 3
 unfolding e3
-e3-sum w t = sub-add-cancel (cube-tangent w (w - t) t (omega arith))
+e3-sum w t = omega (arith, cube-tangent w (w - t) t (omega arith))
 
 -- a line less what falls and is convex, where both start alike
 line-less : (s c : ℕ) (g h : ℕ → ℕ) → ((t : ℕ) → h t + c ≡ s * t + g t) → g 0 ≡ c → ((x i : ℕ) → g (x + i) ≤ g x) →

@@ -1,7 +1,7 @@
 -- Differences that sum to the whole: second differences over the intervals of n places, first differences over a list of layers.
 -- Assumes nothing.
 use Prim.Native.Nat.{ℕ, zero, suc, _+_, _≤_, _<_}
-use mathlib.Core.Path.{_≡_, refl}
+use mathlib.Core.Path.{_≡_}
 use mathlib.Core.List.{List, [], _∷_}
 use native.Mathlib.Omega.{arith}
 use Rattle.laws.specs.Sums.{sumBelow, triangle, sumSteps, last, Linked}

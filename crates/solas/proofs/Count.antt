@@ -1,10 +1,11 @@
 -- The rules for one, two, three and more zones count the whole ship once. Assumes nothing.
 use Prim.Native.Nat.{ℕ, zero, suc, _+_, _-_, _*_, _≤_, _<_}
 use mathlib.Core.Path.{_≡_, refl, ap, sym, _∙_}
-use native.Mathlib.Nat.{add-zero}
+use native.Mathlib.Nat.{add-zero, le-trans}
 use native.Mathlib.Numerals.{add-one}
 use native.Mathlib.Omega.{arith}
 use Rattle.laws.specs.Sums.{sumBelow}
+use Rattle.laws.proofs.Sums.{sumBelow-same, sumBelow-add, place-not-above}
 use Rattle.solas.specs.Count.{added, taken, groups}
 
 module _ (F : ℕ → ℕ → ℕ) where
@@ -59,3 +60,33 @@ module _ (F : ℕ → ℕ → ℕ) where
   pub counted-once : (m : ℕ) → 0 < m → groups (added F) m ≡ groups (taken F) m + F 1 m
   unfolding groups rest
   counted-once m p = omega (arith, rows m m zero (omega arith) p)
+
+-- ---- sums over all groups
+pub groups-same : (f g : ℕ → ℕ → ℕ) (m : ℕ) → ((a n : ℕ) → 1 ≤ a → 1 ≤ n → a + n ≤ m + 1 → f a n ≡ g a n) → groups f m ≡ groups g m
+unfolding groups
+groups-same f g m h =
+    sumBelow-same (λ i. sumBelow (λ j. f (suc i) (suc j)) (m - i)) (λ i. sumBelow (λ j. g (suc i) (suc j)) (m - i)) m
+    (λ i p. sumBelow-same (λ j. f (suc i) (suc j)) (λ j. g (suc i) (suc j)) (m - i) (λ j q. h (suc i) (suc j) (omega arith) (omega arith) (omega arith)))
+
+pub groups-add : (f g : ℕ → ℕ → ℕ) (m : ℕ) → groups (λ a n. f a n + g a n) m ≡ groups f m + groups g m
+unfolding groups
+groups-add f g m =
+    sumBelow-same (λ i. sumBelow (λ j. f (suc i) (suc j) + g (suc i) (suc j)) (m - i)) (λ i. sumBelow (λ j. f (suc i) (suc j)) (m - i) + sumBelow (λ j. g (suc i) (suc j)) (m - i)) m
+    (λ i p. sumBelow-add (λ j. f (suc i) (suc j)) (λ j. g (suc i) (suc j)) (m - i))
+    ∙ sumBelow-add (λ i. sumBelow (λ j. f (suc i) (suc j)) (m - i)) (λ i. sumBelow (λ j. g (suc i) (suc j)) (m - i)) m
+
+pub group-not-above : (f : ℕ → ℕ → ℕ) (m i j : ℕ) → suc i + suc j ≤ m + 1 → f (suc i) (suc j) ≤ groups f m
+unfolding groups
+group-not-above f m i j h =
+    le-trans (place-not-above (λ j. f (suc i) (suc j)) j (m - i) (omega arith))
+    (place-not-above (λ i. sumBelow (λ j. f (suc i) (suc j)) (m - i)) i m (omega arith))
+
+-- where no group takes away more than it adds, what one adds more is at most the whole ship
+pub excess-not-above : (F : ℕ → ℕ → ℕ) (m : ℕ) → 0 < m → ((a n : ℕ) → 1 ≤ a → 1 ≤ n → a + n ≤ m + 1 → taken F a n ≤ added F a n) →
+    (a n : ℕ) → 1 ≤ a → 1 ≤ n → a + n ≤ m + 1 → added F a n ≤ taken F a n + F 1 m
+excess-not-above F m p h zero n q r t = absurd (omega arith)
+excess-not-above F m p h (suc i) zero q r t = absurd (omega arith)
+excess-not-above F m p h (suc i) (suc j) q r t =
+    let split = groups-same (added F) (λ a n. taken F a n + (added F a n - taken F a n)) m (λ a n x y z. let l : taken F a n ≤ added F a n = h a n x y z in omega arith) in
+    let sums = groups-add (taken F) (λ a n. added F a n - taken F a n) m in
+    omega (arith, split, sums, counted-once F m p, group-not-above (λ a n. added F a n - taken F a n) m i j t, h (suc i) (suc j) q r t)

@@ -1,13 +1,15 @@
 -- The shares of a sound ship over one denominator: what a row adds and takes away, in whole numbers. Assumes nothing.
 use Prim.Native.Nat.{ℕ, zero, suc, _+_, _-_, _*_, _^_, _≤_, _<_}
 use mathlib.Core.Path.{_≡_, refl, ap, sym, _∙_}
-use native.Mathlib.Nat.{le-refl, le-trans, mul-pos, zero-lt-suc}
+use native.Mathlib.Nat.{le-refl}
 use native.Mathlib.Omega.{arith}
-use Rattle.laws.specs.Fraction.{Fraction, Is, whole, _⊹_, _⊝_}
+use mathlib.Core.List.{List, [], _∷_}
+use Rattle.laws.specs.Fraction.{Fraction, Is, whole, total}
+use Rattle.laws.specs.Sums.{last, Linked}
 use Rattle.laws.proofs.Fraction.{is-⊹, is-⊝, is-shifted, is-whole}
 use Rattle.solas.specs.Ship.{Ship, Sound}
-use Rattle.solas.specs.Share.{within, share, before, rowShare}
-use Rattle.solas.specs.General.{Law, Layer, Falling, Rising, inSpan, common, law, layer, unit}
+use Rattle.solas.specs.Share.{within, share, rowShare, layerShares}
+use Rattle.solas.specs.General.{Falling, Rising, inSpan, law, layer, unit}
 use Rattle.solas.specs.Count.{added, taken, Group}
 use Rattle.solas.proofs.GeneralLayer.{depths-add}
 
@@ -55,13 +57,36 @@ module _ (s : Ship) (h : Sound s)
         (within-is b p (a + 1) (a + k + 2) (omega arith) (omega arith) (omega (arith, g .fits))))
         (within-is b p (a + 1) (a + k + 1) (omega arith) (omega arith) (omega (arith, g .fits))))
 
+    -- layers that meet give together what one does
+    meets : (b₀ b₁ b₂ : ℕ) → b₀ ≤ b₁ → b₁ ≤ b₂ → 2 * b₂ ≤ s .B → (a e : ℕ) → figure s b₀ b₁ a e + figure s b₁ b₂ a e ≡ figure s b₀ b₂ a e
+    meets b₀ b₁ b₂ p q r a e = depths-add (s .L) (s .B) b₀ b₁ b₂ falls (rises b₀ b₁ p (omega arith)) (rises b₁ b₂ q r) (s .aft a) (s .fwd e)
+
     -- the share of a row
     pub row-is : (a n b′ b : ℕ) → Group s a n → b′ ≤ b → 2 * b ≤ s .B → Is (rowShare s a n b′ b) (added (figure s b′ b) a n) (taken (figure s b′ b) a n) (over s)
     unfolding rowShare
     row-is a n zero b g q p =
         is-shifted (added (figure s 0 b) a n) (taken (figure s 0 b) a n) (omega arith) (is-⊝ (share-is a n b g p) (is-whole 0 over-positive))
     row-is a n (suc b′) b g q p =
-        let up = added-adds (figure s 0 (suc b′)) (figure s (suc b′) b) (figure s 0 b) (λ i e. depths-add (s .L) (s .B) 0 (suc b′) b falls (rises 0 (suc b′) (omega arith) (omega arith)) (rises (suc b′) b q p) (s .aft i) (s .fwd e)) a n in
-        let dn = taken-adds (figure s 0 (suc b′)) (figure s (suc b′) b) (figure s 0 b) (λ i e. depths-add (s .L) (s .B) 0 (suc b′) b falls (rises 0 (suc b′) (omega arith) (omega arith)) (rises (suc b′) b q p) (s .aft i) (s .fwd e)) a n in
+        let up = added-adds (figure s 0 (suc b′)) (figure s (suc b′) b) (figure s 0 b) (meets 0 (suc b′) b (omega arith) q p) a n in
+        let dn = taken-adds (figure s 0 (suc b′)) (figure s (suc b′) b) (figure s 0 b) (meets 0 (suc b′) b (omega arith) q p) a n in
         is-shifted (added (figure s (suc b′) b) a n) (taken (figure s (suc b′) b) a n) (omega (arith, up, dn))
         (is-⊝ (share-is a n b g p) (share-is a n (suc b′) g (omega arith)))
+
+    -- the penetrations of a list that rises end above the first
+    last-rises : (b : ℕ) (bs : List ℕ) → Linked _<_ b bs → b ≤ last b bs
+    last-rises b [] h = le-refl b
+    last-rises b (c ∷ bs) h = let l = last-rises c bs (h .1) in omega (arith, h .0)
+
+    -- the shares of a group's layers together
+    pub layers-are : (a n : ℕ) → Group s a n → (b′ b : ℕ) (bs : List ℕ) → Linked _<_ b′ (b ∷ bs) → 2 * last b bs ≤ s .B →
+        Is (total (layerShares s a n b′ (b ∷ bs))) (added (figure s b′ (last b bs)) a n) (taken (figure s b′ (last b bs)) a n) (over s)
+    unfolding total layerShares
+    layers-are a n g b′ b [] h p =
+        is-shifted (added (figure s b′ b) a n) (taken (figure s b′ b) a n) (omega arith)
+        (is-⊹ (row-is a n b′ b g (omega (arith, h .0)) p) (is-whole 0 over-positive))
+    layers-are a n g b′ b (c ∷ bs) h p =
+        let up = added-adds (figure s b′ b) (figure s b (last c bs)) (figure s b′ (last c bs)) (meets b′ b (last c bs) (omega (arith, h .0)) (last-rises b (c ∷ bs) (h .1)) p) a n in
+        let dn = taken-adds (figure s b′ b) (figure s b (last c bs)) (figure s b′ (last c bs)) (meets b′ b (last c bs) (omega (arith, h .0)) (last-rises b (c ∷ bs) (h .1)) p) a n in
+        let q : 2 * b ≤ s .B = omega (arith, last-rises b (c ∷ bs) (h .1)) in
+        is-shifted (added (figure s b′ (last c bs)) a n) (taken (figure s b′ (last c bs)) a n) (omega (arith, up, dn))
+        (is-⊹ (row-is a n b′ b g (omega (arith, h .0)) q) (layers-are a n g b c bs (h .1) p))

@@ -8,3 +8,4 @@ pub mod Index
 pub mod General
 pub mod Total
 pub mod Count
+pub mod Promises

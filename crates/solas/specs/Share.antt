@@ -1,5 +1,6 @@
 -- Document 01, "Shares", exact: the chance that damage takes in just the zones of a group, down to a penetration b. Assumes nothing.
 use Prim.Native.Nat.{ℕ, zero, suc, _+_}
+use mathlib.Core.List.{List, [], _∷_}
 use Rattle.laws.specs.Fraction.{Fraction, whole, _⊹_, _⊝_}
 use Rattle.solas.specs.Penetration.{Q}
 use Rattle.solas.specs.Ship.{Ship}
@@ -24,3 +25,8 @@ before s a n (suc b) = share s a n (suc b)
 -- the share of a row: that at its b less that at the layer before, b′ (0 where there is none)
 unfoldable pub rowShare : Ship → ℕ → ℕ → ℕ → ℕ → Fraction
 rowShare s a n b′ b = share s a n b ⊝ before s a n b′
+
+-- the shares of a group's layers at the penetrations bs, from the layer before, b′
+unfoldable pub layerShares : Ship → ℕ → ℕ → ℕ → List ℕ → List Fraction
+layerShares s a n b′ [] = []
+layerShares s a n b′ (b ∷ bs) = rowShare s a n b′ b ∷ layerShares s a n b bs

@@ -1,0 +1,45 @@
+-- What a row of a sound ship takes away is never more than what it adds, and what it adds more is at most the whole ship. Assumes nothing.
+use Prim.Native.Nat.{ℕ, zero, suc, _+_, _-_, _*_, _^_, _≤_, _<_, zero-le}
+use mathlib.Core.Path.{_≡_, refl, ap, sym, _∙_}
+use native.Mathlib.Nat.{le-refl}
+use native.Mathlib.Omega.{arith}
+use Rattle.solas.specs.Ship.{Ship, Sound}
+use Rattle.solas.specs.General.{Law, Layer, Falling, Rising, inSpan, common, law, layer, unit}
+use Rattle.solas.specs.Count.{added, taken, groups, Group}
+use Rattle.solas.proofs.Count.{counted-once, excess-not-above}
+use Rattle.solas.proofs.Ship.{aft-next, fwd-next, aft-rises, fwd-rises, span, ends-within}
+use Rattle.solas.proofs.GeneralSpan.{group-share-not-negative, pair-share-not-negative, whole-ship-at-most-one, whole-ship-one}
+use Rattle.solas.proofs.Figure.{figure, over}
+
+module _ (s : Ship) (h : Sound s) (b′ b : ℕ) where
+  pub taken-not-above : (a n : ℕ) → Group s a n → taken (figure s b′ b) a n ≤ added (figure s b′ b) a n
+  unfolding added taken
+  taken-not-above a zero g = le-refl 0
+  taken-not-above a (suc zero) g = zero-le
+  taken-not-above a (suc (suc zero)) g =
+      pair-share-not-negative (law (s .L) (s .B)) (layer (s .L) (s .B) b′ b) (s .L) (s .aft a) (s .fwd a) (s .aft (a + 1)) (s .fwd (a + 1))
+      (h .zone a (g .from) (omega (arith, g .fits))) (h .next a (g .from) (omega (arith, g .fits)))
+      (h .zone (a + 1) (omega arith) (omega (arith, g .fits))) (ends-within h (omega arith) (omega (arith, g .fits)))
+  taken-not-above a (suc (suc (suc k))) g =
+      let e : s .fwd (a + k + 1 + 1) ≡ s .fwd (a + k + 2) = ap (λ z. s .fwd z) (omega arith) in
+      group-share-not-negative (law (s .L) (s .B)) (layer (s .L) (s .B) b′ b) (s .L) (s .aft a) (s .aft (a + 1)) (s .fwd (a + k + 1)) (s .fwd (a + k + 2))
+      (aft-next h a (g .from) (omega (arith, g .fits)))
+      (omega (arith, fwd-next h (a + k + 1) (omega arith) (omega (arith, g .fits))))
+      (ends-within h (omega arith) (omega (arith, g .fits)))
+
+  -- all that is added more, by all groups together, is the whole ship's
+  figure-of-ship : figure s b′ b 1 (s .m) ≡ inSpan (law (s .L) (s .B)) (layer (s .L) (s .B) b′ b) (s .L) 0 (s .L)
+  figure-of-ship = rw (h .stern, h .bow) refl
+
+  pub ship-not-above : Falling (law (s .L) (s .B)) → Rising (law (s .L) (s .B)) (layer (s .L) (s .B) b′ b) → figure s b′ b 1 (s .m) ≤ over s
+  unfolding layer
+  ship-not-above f r = rw figure-of-ship (whole-ship-at-most-one (law (s .L) (s .B)) (layer (s .L) (s .B) b′ b) (s .L) f r)
+
+  pub added-not-above : Falling (law (s .L) (s .B)) → Rising (law (s .L) (s .B)) (layer (s .L) (s .B) b′ b) →
+      (a n : ℕ) → Group s a n → added (figure s b′ b) a n ≤ taken (figure s b′ b) a n + over s
+  added-not-above f r a n g =
+      omega (
+        arith,
+        ship-not-above f r,
+        excess-not-above (figure s b′ b) (s .m) (h .some) (λ a n x y z. taken-not-above a n (record { from = x; some = y; fits = z })) a n (g .from) (g .some) (g .fits),
+      )

@@ -1,10 +1,11 @@
 -- What a division with a rest says: the bounds of the long division's steps, and the roundings at its end. Assumes nothing.
 use mathlib.Core.Path.{_≡_, sym}
-use Prim.Native.Nat.{ℕ, _+_, _-_, _*_, _/_, _%_, _^_, _≤_, _<_}
+use Prim.Native.Nat.{ℕ, _+_, _*_, _/_, _%_, _^_, _≤_, _<_}
 use native.Mathlib.Nat.{le-of-lt, div-add-mod', mod-lt, div-le-of-le-mul, le-of-mul-le-mul-right, mul-le-mul-left, mul-le-mul-right}
 use native.Mathlib.Omega.{arith}
 use lib.Arith.{digits-div}
 use Rattle.laws.specs.Rounding.{ceil}
+use Rattle.laws.proofs.Rounding.{ceil-exact, ceil-least, above-ceil}
 use Rattle.numbers.specs.Division.{Division, Carries, dividend}
 use Rattle.numbers.specs.declared.Quotient.{Quotient}
 
@@ -31,16 +32,14 @@ module _ {n d : ℕ} {q : Quotient} where
   down p = rw (← p .number) (sym (digits-div (q .whole) (p .small)))
 
   pub up-exact : q .rest ≡ 0 → Division n d q → q .whole ≡ ceil n d
-  unfolding ceil
-  up-exact e p =
-      let h : n + (d - 1) ≡ q .whole * d + (d - 1) = omega (arith, p .number) in
-      rw h (sym (digits-div (q .whole) (omega (arith, p .small))))
+  up-exact e p = sym (ceil-exact (q .whole) d (omega (arith, p .small)) (omega (arith, p .number)))
 
   pub up-more : (q .rest ≡ 0 → ⊥) → Division n d q → q .whole + 1 ≡ ceil n d
-  unfolding ceil
   up-more e p =
-      let h : n + (d - 1) ≡ (q .whole + 1) * d + (q .rest - 1) = omega (arith, p .number, p .small) in
-      rw h (sym (digits-div (q .whole + 1) (omega (arith, p .small))))
+      let hd : 0 < d = omega (arith, p .small) in
+      let least = ceil-least n d (q .whole + 1) hd .1 (omega (arith, p .number, p .small)) in
+      let above = above-ceil n d (q .whole) hd .1 (omega (arith, p .number)) in
+      omega arith
 
 -- the next step fits where `by` times d and `by` times one more than the steps so far do
 pub ready : (s by n : ℕ) (q : Quotient) {d : ℕ}

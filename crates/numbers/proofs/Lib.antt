@@ -1,3 +1,5 @@
 pub mod Division
 pub mod Figures
 pub mod Root
+pub mod RootValue
+pub mod Values

@@ -20,3 +20,8 @@ portionOf x g l = record { lower = x * g .lower / l; upper = ceil (x * g .upper)
 -- "each half is rounded in the direction that widens"
 unfoldable pub halvesOf : Ends → Ends
 halvesOf g = record { lower = g .lower / 2; upper = ceil (g .upper) 2 }
+
+-- n/d is not below the lower end of g, and not above the upper
+pub record Encloses (g : Ends) (n d : ℕ) : Type 0 where
+  pub low : g .lower * d ≤ n
+  pub high : n ≤ g .upper * d

@@ -42,10 +42,10 @@ module _ {n d : ℕ} {q : Quotient} where
       omega arith
 
 -- the next step fits where `by` times d and `by` times one more than the steps so far do
-pub ready : (s by n : ℕ) (q : Quotient) {d : ℕ}
+pub ready : (s n : ℕ) (q : Quotient) {d by : ℕ}
     → (n ≤ d) × (dividend q d ≡ s * n) × (q .rest < d) × (by * d < 2 ^ 64) × (by * (s + 1) < 2 ^ 64)
     → Carries q d by
-ready s by n q {d} h =
+ready s n q {d} {by} h =
     let top : q .whole ≤ s = at-most s (h .0) (record { number = h .1; small = h .2 }) in
     record {
       small = h .2;

@@ -113,7 +113,7 @@ pub fn halves(g: Ends) -> Ends
     ensures { λ r. ⌜ r ≡ halvesOf g ⌝ }
 {
     let lower = g.lower / 2;
-    let upper = ceiling(g.upper, 2);
+    let upper = g.upper / 2 + g.upper % 2;
     Ends { lower, upper }
 }
 

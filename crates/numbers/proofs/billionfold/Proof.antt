@@ -21,7 +21,7 @@ divided-requires-2 : tie.Need-divided-requires-2
 divided-requires-2 c κs = search needs
 
 carried-requires : tie.Need-carried-requires
-carried-requires c κs = ready 100000 10000 (c .before .before .before .args .n) (c .divided2 .result) (omega arith)
+carried-requires c κs = ready 100000 (c .before .before .before .args .n) (c .divided2 .result) (omega arith)
 
 returns-2 : tie.Need-returns-2
 returns-2 c = search needs
@@ -33,10 +33,10 @@ divided-requires-3 : tie.Need-divided-requires-3
 divided-requires-3 c κs = search needs
 
 carried-requires-2 : tie.Need-carried-requires-2
-carried-requires-2 c κs = ready 1000 1000 (c .before .before .before .before .args .n) (c .divided3 .result) (omega arith)
+carried-requires-2 c κs = ready 1000 (c .before .before .before .before .args .n) (c .divided3 .result) (omega arith)
 
 carried-requires-3 : tie.Need-carried-requires-3
-carried-requires-3 c κs = ready 1000000 1000 (c .before .before .before .before .before .args .n) (c .carried2 .result) (omega arith)
+carried-requires-3 c κs = ready 1000000 (c .before .before .before .before .before .args .n) (c .carried2 .result) (omega arith)
 
 returns-3 : tie.Need-returns-3
 returns-3 c = search needs

@@ -1,16 +1,34 @@
 -- What holds of figures with two ends, of billionths, portions and halves: what they enclose, how wide they are, how large, and in what order. Assumes nothing.
 use mathlib.Core.Path.{_≡_, sym}
-use Prim.Native.Nat.{ℕ, _+_, _-_, _*_, _/_, _^_, _≤_, _<_}
+use Prim.Native.Nat.{ℕ, _+_, _*_, _/_, _^_, _≤_, _<_}
 use native.Mathlib.Nat.{le-trans, le-antisymm, le-of-eq, div-mul-le-self, le-div-iff-mul-le, div-le-self, div-le-of-le-mul, le-of-mul-le-mul-right, mul-le-mul-left, mul-le-mul-right}
 use native.Mathlib.Omega.{arith}
 use Rattle.laws.specs.Rounding.{ceil}
-use Rattle.laws.proofs.Rounding.{ceil-lower, ceil-least, ceil-rises, ceil-near-floor, floor-rises, floor-not-above-ceil, floor-product, ceil-product, part-apart, halves-apart}
+use Rattle.laws.proofs.Rounding.{ceil-lower, ceil-least, ceil-near-floor, floor-rises, floor-not-above-ceil, floor-product, ceil-product, part-apart, halves-apart}
 use Rattle.records.specs.declared.Ends.{Ends}
-use Rattle.numbers.specs.Figures.{Encloses, billionthsOf, portionOf, halvesOf}
+use Rattle.numbers.specs.Figures.{Chance, Encloses, billionthsOf, portionOf, halvesOf}
 
 -- figures with the same ends are the same
 pub both : {a b l u : ℕ} → a ≡ l → b ≡ u → _≡_ {A = Ends} (record { lower = a; upper = b }) (record { lower = l; upper = u })
 both p q = cc
+
+-- ---- what a figure encloses
+
+pub encloses-ordered : {g : Ends} {n d : ℕ} → 0 < d → Encloses g n d → g .lower ≤ g .upper
+encloses-ordered hd h = le-of-mul-le-mul-right (le-trans (h .low) (h .high)) hd
+
+-- an equal fraction
+pub encloses-same : {g : Ends} {n d : ℕ} (m c : ℕ) → 0 < d → m * d ≡ n * c → Encloses g n d → Encloses g m c
+encloses-same {g} {n} {d} m c hd e h =
+    let low : g .lower * c * d ≤ m * d = omega (arith, mul-le-mul-right c (h .low)) in
+    let high : m * d ≤ g .upper * c * d = omega (arith, mul-le-mul-right c (h .high)) in
+    record { low = le-of-mul-le-mul-right low hd; high = le-of-mul-le-mul-right high hd }
+
+-- ---- billionths
+
+-- whatever 01 divides by: at the most 59400 L³, of a span at one end of a ship of 198 m
+pub chance : {n d : ℕ} → 0 < d → n ≤ d → d ≤ 59400 * 19800 ^ 3 → Chance n d
+chance hd hn h = record { positive = hd; proper = hn; narrow = omega arith }
 
 module _ (n : ℕ) {d : ℕ} (hd : 0 < d) where
   pub billionths-enclose : Encloses (billionthsOf n d) (10 ^ 9 * n) d
@@ -18,8 +36,7 @@ module _ (n : ℕ) {d : ℕ} (hd : 0 < d) where
   billionths-enclose = record { low = div-mul-le-self (10 ^ 9 * n) d; high = ceil-lower (10 ^ 9 * n) d hd }
 
   pub billionths-ordered : billionthsOf n d .lower ≤ billionthsOf n d .upper
-  unfolding billionthsOf
-  billionths-ordered = floor-not-above-ceil (10 ^ 9 * n) d
+  billionths-ordered = encloses-ordered hd billionths-enclose
 
   pub billionths-near : billionthsOf n d .upper ≤ billionthsOf n d .lower + 1
   unfolding billionthsOf
@@ -54,6 +71,8 @@ billionths-same m n hc hd e =
     (le-antisymm (billionths-lower-rises m n hc hd up) (billionths-lower-rises n m hd hc down))
     (le-antisymm (billionths-upper-rises m n hc hd up) (billionths-upper-rises n m hd hc down))
 
+-- ---- portions
+
 module _ (x : ℕ) (g : Ends) {l : ℕ} (hl : 0 < l) where
   pub portion-encloses : {n d : ℕ} → Encloses g n d → Encloses (portionOf x g l) (x * n) (l * d)
   unfolding portionOf
@@ -75,6 +94,8 @@ module _ (x : ℕ) (g : Ends) {l : ℕ} (hl : 0 < l) where
   pub portion-upper-at-most : x ≤ l → portionOf x g l .upper ≤ g .upper
   unfolding portionOf
   portion-upper-at-most hx = ceil-least (x * g .upper) l (g .upper) hl .1 (omega (arith, mul-le-mul-right (g .upper) hx))
+
+-- ---- halves
 
 module _ (g : Ends) where
   pub halves-enclose : {n d : ℕ} → Encloses g n d → Encloses (halvesOf g) n (2 * d)

@@ -1,4 +1,4 @@
-pub mod Division
+mod Division
 pub mod Figures
 pub mod Root
 pub mod RootValue

@@ -1,6 +1,6 @@
 -- Worked values of 01, computed: the chances and shares of its file in billionths, and the fourth roots of its survivals. Assumes nothing.
 use mathlib.Core.Path.{_≡_, refl}
-use Prim.Native.Nat.{ℕ, _*_, _/_, _^_}
+use Prim.Native.Nat.{ℕ, _/_, _^_}
 use Rattle.laws.specs.Rounding.{ceil}
 use Rattle.records.specs.declared.Ends.{Ends}
 use Rattle.numbers.specs.Figures.{billionthsOf, halvesOf, portionOf}

@@ -6,7 +6,7 @@ use native.Mathlib.Omega.{arith}
 use Rattle.laws.specs.Rounding.{ceil}
 use Rattle.laws.proofs.Rounding.{ceil-lower, ceil-least, ceil-near-floor, floor-rises, floor-not-above-ceil, floor-product, ceil-product, part-apart, halves-apart}
 use Rattle.records.specs.declared.Ends.{Ends}
-use Rattle.numbers.specs.Figures.{Chance, Encloses, billionthsOf, portionOf, halvesOf}
+use Rattle.numbers.specs.Figures.{Proper, Encloses, billionthsOf, portionOf, halvesOf}
 
 -- figures with the same ends are the same
 pub both : {a b l u : ℕ} → a ≡ l → b ≡ u → _≡_ {A = Ends} (record { lower = a; upper = b }) (record { lower = l; upper = u })
@@ -26,9 +26,9 @@ encloses-same {g} {n} {d} m c hd e h =
 
 -- ---- billionths
 
--- whatever 01 divides by: at the most 59400 L³, of a span at one end of a ship of 198 m
-pub chance : {n d : ℕ} → 0 < d → n ≤ d → d ≤ 59400 * 19800 ^ 3 → Chance n d
-chance hd hn h = record { positive = hd; proper = hn; narrow = omega arith }
+-- every divisor of 01 will do: the widest is 59400 L³, of a span at one end of a ship of 198 m
+pub proper : {n d : ℕ} → 0 < d → n ≤ d → d ≤ 59400 * 19800 ^ 3 → Proper n d
+proper hd hn h = record { positive = hd; at-most-one = hn; narrow = omega arith }
 
 module _ (n : ℕ) {d : ℕ} (hd : 0 < d) where
   pub billionths-enclose : Encloses (billionthsOf n d) (10 ^ 9 * n) d
@@ -46,7 +46,7 @@ module _ (n : ℕ) {d : ℕ} (hd : 0 < d) where
   unfolding billionthsOf
   billionths-at-most h = ceil-least (10 ^ 9 * n) d (10 ^ 9) hd .1 (mul-le-mul-left (10 ^ 9) h)
 
--- a chance that is not above another has ends that are not above the other's
+-- a fraction that is not above another has ends that are not above the other's
 module _ (m n : ℕ) {c d : ℕ} (hc : 0 < c) (hd : 0 < d) where
   pub billionths-lower-rises : m * d ≤ n * c → billionthsOf m c .lower ≤ billionthsOf n d .lower
   unfolding billionthsOf

@@ -7,7 +7,7 @@ use Rattle.numbers.specs.declared.Quotient.{Quotient}
 abbrev pub dividend : Quotient → ℕ → ℕ
 dividend q d = q .whole * d + q .rest
 
--- q is the quotient of n by d; no other number pair is
+-- q is n divided by d: no other quotient and rest are
 pub record Division (n d : ℕ) (q : Quotient) : Type 0 where
   pub number : dividend q d ≡ n
   pub small : q .rest < d

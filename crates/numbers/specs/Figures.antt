@@ -3,10 +3,10 @@ use Prim.Native.Nat.{ℕ, _*_, _/_, _^_, _≤_, _<_}
 use Rattle.laws.specs.Rounding.{ceil}
 use Rattle.records.specs.declared.Ends.{Ends}
 
--- n/d is a chance, and 64 bits hold what its long division makes: d may be 59400·19800³
-pub record Chance (n d : ℕ) : Type 0 where
+-- n/d is at most one, and 64 bits hold what its long division makes
+pub record Proper (n d : ℕ) : Type 0 where
   pub positive : 0 < d
-  pub proper : n ≤ d
+  pub at-most-one : n ≤ d
   pub narrow : 40 * d < 2 ^ 64
 
 -- "Probabilities: billionths, as a lower and an upper end"

@@ -1,15 +1,16 @@
-// Machine numbers: quotients rounded up, billionths of a fraction rounded both ways, portions, halves, and the fourth root.
+// Machine numbers: quotients rounded up, billionths of a fraction rounded both ways, portions, halves, and fourth roots.
 use records::Ends;
 ghost use mathlib.Core.Path.{_≡_};
 ghost use Prim.Native.Nat.{_*_, _^_, _≤_, _<_};
 ghost use Rattle.laws.specs.Rounding.{ceil};
 ghost use Rattle.numbers.specs.Division.{Division, Carries, dividend};
-ghost use Rattle.numbers.specs.Figures.{Chance, billionthsOf, portionOf, halvesOf};
+ghost use Rattle.numbers.specs.Figures.{Proper, billionthsOf, portionOf, halvesOf};
 ghost use Rattle.numbers.specs.Root.{fourth, RootDown, RootUp};
 
-// The largest number of 64 bits, and the largest divisors that take steps of 10⁹, 10⁵ and 10³ within it.
+// The largest number that 64 bits hold.
 const LARGEST: u64 = 18_446_744_073_709_551_615;
 
+// The largest divisors that take 10⁹ in one step, in two of 10⁵ and 10⁴, and in three of 10³.
 const ONE_STEP: u64 = LARGEST / 1_000_000_000;
 
 const TWO_STEPS: u64 = LARGEST / 100_000;
@@ -53,7 +54,7 @@ fn carried(q: Quotient, d: u64, by: u64) -> Quotient
 
 // 10⁹ is 40·40·40·25·25·25: the fewest steps for the widest divisors.
 fn in_six_steps(n: u64, d: u64) -> Quotient
-    requires { ⌜ Chance n d ⌝ }
+    requires { ⌜ Proper n d ⌝ }
     ensures { λ r. ⌜ Division (10 ^ 9 * n) d r ⌝ }
 {
     let one = divided(40 * n, d);
@@ -66,7 +67,7 @@ fn in_six_steps(n: u64, d: u64) -> Quotient
 
 // The narrower the divisor, the fewer steps.
 fn billionfold(n: u64, d: u64) -> Quotient
-    requires { ⌜ Chance n d ⌝ }
+    requires { ⌜ Proper n d ⌝ }
     ensures { λ r. ⌜ Division (10 ^ 9 * n) d r ⌝ }
 {
     if d <= ONE_STEP {
@@ -81,9 +82,9 @@ fn billionfold(n: u64, d: u64) -> Quotient
     in_six_steps(n, d)
 }
 
-// The chance n/d in billionths, rounded both ways.
+// The fraction n/d in billionths, rounded both ways.
 pub fn billionths(n: u64, d: u64) -> Ends
-    requires { ⌜ Chance n d ⌝ }
+    requires { ⌜ Proper n d ⌝ }
     ensures { λ r. ⌜ r ≡ billionthsOf n d ⌝ }
 {
     let q = billionfold(n, d);

@@ -1,1 +1,154 @@
-// Machine numbers: billionths of a fraction rounded down and up, halves, and the fourth root.
+// Machine numbers: quotients rounded up, billionths of a fraction rounded both ways, portions, halves, and fourth roots.
+use records::Ends;
+ghost use mathlib.Core.Path.{_≡_};
+ghost use Prim.Native.Nat.{_*_, _^_, _≤_, _<_};
+ghost use Rattle.laws.specs.Rounding.{ceil};
+ghost use Rattle.numbers.specs.Division.{Division, Carries, dividend};
+ghost use Rattle.numbers.specs.Figures.{Proper, billionthsOf, portionOf, halvesOf};
+ghost use Rattle.numbers.specs.Root.{fourth, RootDown, RootUp};
+
+// The largest number that 64 bits hold.
+const LARGEST: u64 = 18_446_744_073_709_551_615;
+
+// The largest divisors that take 10⁹ in one step, in two of 10⁵ and 10⁴, and in three of 10³.
+const ONE_STEP: u64 = LARGEST / 1_000_000_000;
+
+const TWO_STEPS: u64 = LARGEST / 100_000;
+
+const THREE_STEPS: u64 = LARGEST / 1_000;
+
+// How often a divisor goes into a number, and what is left.
+struct Quotient {
+    whole: u64,
+    rest: u64,
+}
+
+// n/d rounded up.
+pub fn ceiling(n: u64, d: u64) -> u64
+    requires { ⌜ 0 < d ⌝ }
+    ensures { λ r. ⌜ r ≡ ceil n d ⌝ }
+{
+    if n % d == 0 { n / d } else { n / d + 1 }
+}
+
+fn divided(n: u64, d: u64) -> Quotient
+    requires { ⌜ 0 < d ⌝ }
+    ensures { λ r. ⌜ Division n d r ⌝ }
+{
+    Quotient {
+        whole: n / d,
+        rest: n % d,
+    }
+}
+
+// A step of long division: from the quotient of a number to that of the number taken `by` times.
+fn carried(q: Quotient, d: u64, by: u64) -> Quotient
+    requires { ⌜ Carries q d by ⌝ }
+    ensures { λ r. ⌜ Division (by * dividend q d) d r ⌝ }
+{
+    let next = q.rest * by;
+    let whole = q.whole * by + next / d;
+    let rest = next % d;
+    Quotient { whole, rest }
+}
+
+// 10⁹ is 40·40·40·25·25·25: the fewest steps for the widest divisors.
+fn in_six_steps(n: u64, d: u64) -> Quotient
+    requires { ⌜ Proper n d ⌝ }
+    ensures { λ r. ⌜ Division (10 ^ 9 * n) d r ⌝ }
+{
+    let one = divided(40 * n, d);
+    let two = carried(one, d, 40);
+    let three = carried(two, d, 40);
+    let four = carried(three, d, 25);
+    let five = carried(four, d, 25);
+    carried(five, d, 25)
+}
+
+// The narrower the divisor, the fewer steps.
+fn billionfold(n: u64, d: u64) -> Quotient
+    requires { ⌜ Proper n d ⌝ }
+    ensures { λ r. ⌜ Division (10 ^ 9 * n) d r ⌝ }
+{
+    if d <= ONE_STEP {
+        return divided(1_000_000_000 * n, d);
+    }
+    if d <= TWO_STEPS {
+        return carried(divided(100_000 * n, d), d, 10_000);
+    }
+    if d <= THREE_STEPS {
+        return carried(carried(divided(1_000 * n, d), d, 1_000), d, 1_000);
+    }
+    in_six_steps(n, d)
+}
+
+// The fraction n/d in billionths, rounded both ways.
+pub fn billionths(n: u64, d: u64) -> Ends
+    requires { ⌜ Proper n d ⌝ }
+    ensures { λ r. ⌜ r ≡ billionthsOf n d ⌝ }
+{
+    let q = billionfold(n, d);
+    let lower = q.whole;
+    if q.rest == 0 {
+        return Ends {
+            lower,
+            upper: lower,
+        };
+    }
+    let upper = lower + 1;
+    Ends { lower, upper }
+}
+
+// The part x/l of a figure, each end rounded outwards.
+pub fn portion(x: u64, g: Ends, l: u64) -> Ends
+    requires { ⌜ (0 < l) × (x ≤ 10 ^ 6) × (g .lower ≤ 10 ^ 12) × (g .upper ≤ 10 ^ 12) ⌝ }
+    ensures { λ r. ⌜ r ≡ portionOf x g l ⌝ }
+{
+    let lower = x * g.lower / l;
+    let upper = ceiling(x * g.upper, l);
+    Ends { lower, upper }
+}
+
+// Half of a figure, each end rounded outwards.
+pub fn halves(g: Ends) -> Ends
+    ensures { λ r. ⌜ r ≡ halvesOf g ⌝ }
+{
+    let lower = g.lower / 2;
+    let upper = g.upper / 2 + g.upper % 2;
+    Ends { lower, upper }
+}
+
+fn fourth_power(s: u64) -> u64
+    requires { ⌜ s < 2 ^ 16 ⌝ }
+    ensures { λ r. ⌜ r ≡ fourth s ⌝ }
+{
+    let square = s * s;
+    square * square
+}
+
+// The fourth root rounded down: what lies between 0 and 10,001 is halved 14 times.
+pub fn root_down(n: u64) -> u64
+    requires { ⌜ n ≤ 10 ^ 16 ⌝ }
+    ensures { λ r. ⌜ RootDown n r × (r ≤ 10000) ⌝ }
+{
+    let mut low: u64 = 0;
+    let mut high: u64 = 10_001;
+    while low + 1 < high {
+        let middle = (low + high) / 2;
+        if fourth_power(middle) <= n {
+            low = middle;
+        } else {
+            high = middle;
+        }
+    }
+    low
+}
+
+// The fourth root rounded up.
+pub fn root_up(n: u64) -> u64
+    requires { ⌜ n ≤ 10 ^ 16 ⌝ }
+    ensures { λ r. ⌜ RootUp n r × (r ≤ 10000) ⌝ }
+{
+    let s = root_down(n);
+    if fourth_power(s) == n { s } else { s + 1 }
+}

@@ -1,0 +1,123 @@
+-- What holds of figures with two ends, of billionths, portions and halves: what they enclose, how wide they are, how large, and in what order. Assumes nothing.
+use mathlib.Core.Path.{_≡_, sym}
+use Prim.Native.Nat.{ℕ, _+_, _*_, _/_, _^_, _≤_, _<_}
+use native.Mathlib.Nat.{le-trans, le-antisymm, le-of-eq, div-mul-le-self, le-div-iff-mul-le, div-le-self, div-le-of-le-mul, le-of-mul-le-mul-right, mul-le-mul-left, mul-le-mul-right}
+use native.Mathlib.Omega.{arith}
+use Rattle.laws.specs.Rounding.{ceil}
+use Rattle.laws.proofs.Rounding.{ceil-lower, ceil-least, ceil-near-floor, floor-rises, floor-not-above-ceil, floor-product, ceil-product, part-apart, halves-apart}
+use Rattle.records.specs.declared.Ends.{Ends}
+use Rattle.numbers.specs.Figures.{Proper, Encloses, billionthsOf, portionOf, halvesOf}
+
+-- figures with the same ends are the same
+pub both : {a b l u : ℕ} → a ≡ l → b ≡ u → _≡_ {A = Ends} (record { lower = a; upper = b }) (record { lower = l; upper = u })
+both p q = cc
+
+-- ---- what a figure encloses
+
+pub encloses-ordered : {g : Ends} {n d : ℕ} → 0 < d → Encloses g n d → g .lower ≤ g .upper
+encloses-ordered hd h = le-of-mul-le-mul-right (le-trans (h .low) (h .high)) hd
+
+-- an equal fraction
+pub encloses-same : {g : Ends} {n d : ℕ} (m c : ℕ) → 0 < d → m * d ≡ n * c → Encloses g n d → Encloses g m c
+encloses-same {g} {n} {d} m c hd e h =
+    let low : g .lower * c * d ≤ m * d = omega (arith, mul-le-mul-right c (h .low)) in
+    let high : m * d ≤ g .upper * c * d = omega (arith, mul-le-mul-right c (h .high)) in
+    record { low = le-of-mul-le-mul-right low hd; high = le-of-mul-le-mul-right high hd }
+
+-- ---- billionths
+
+-- every divisor of 01 will do: the widest is 59400 L³, of a span at one end of a ship of 198 m
+pub proper : {n d : ℕ} → 0 < d → n ≤ d → d ≤ 59400 * 19800 ^ 3 → Proper n d
+proper hd hn h = record { positive = hd; at-most-one = hn; narrow = omega arith }
+
+module _ (n : ℕ) {d : ℕ} (hd : 0 < d) where
+  pub billionths-enclose : Encloses (billionthsOf n d) (10 ^ 9 * n) d
+  unfolding billionthsOf
+  billionths-enclose = record { low = div-mul-le-self (10 ^ 9 * n) d; high = ceil-lower (10 ^ 9 * n) d hd }
+
+  pub billionths-ordered : billionthsOf n d .lower ≤ billionthsOf n d .upper
+  billionths-ordered = encloses-ordered hd billionths-enclose
+
+  pub billionths-near : billionthsOf n d .upper ≤ billionthsOf n d .lower + 1
+  unfolding billionthsOf
+  billionths-near = ceil-near-floor (10 ^ 9 * n) d hd
+
+  pub billionths-at-most : n ≤ d → billionthsOf n d .upper ≤ 10 ^ 9
+  unfolding billionthsOf
+  billionths-at-most h = ceil-least (10 ^ 9 * n) d (10 ^ 9) hd .1 (mul-le-mul-left (10 ^ 9) h)
+
+-- a fraction that is not above another has ends that are not above the other's
+module _ (m n : ℕ) {c d : ℕ} (hc : 0 < c) (hd : 0 < d) where
+  pub billionths-lower-rises : m * d ≤ n * c → billionthsOf m c .lower ≤ billionthsOf n d .lower
+  unfolding billionthsOf
+  billionths-lower-rises h =
+      let low : 10 ^ 9 * m / c * c ≤ 10 ^ 9 * m = div-mul-le-self (10 ^ 9 * m) c in
+      let cross : 10 ^ 9 * m / c * d * c ≤ 10 ^ 9 * n * c = omega (arith, mul-le-mul-right d low) in
+      le-div-iff-mul-le hd .1 (le-of-mul-le-mul-right cross hc)
+
+  pub billionths-upper-rises : m * d ≤ n * c → billionthsOf m c .upper ≤ billionthsOf n d .upper
+  unfolding billionthsOf
+  billionths-upper-rises h =
+      let high : 10 ^ 9 * n ≤ ceil (10 ^ 9 * n) d * d = ceil-lower (10 ^ 9 * n) d hd in
+      let cross : 10 ^ 9 * m * d ≤ ceil (10 ^ 9 * n) d * c * d = omega (arith, mul-le-mul-right c high) in
+      ceil-least (10 ^ 9 * m) c (ceil (10 ^ 9 * n) d) hc .1 (le-of-mul-le-mul-right cross hd)
+
+-- equal fractions have the same ends
+pub billionths-same : (m n : ℕ) {c d : ℕ} → 0 < c → 0 < d → m * d ≡ n * c → billionthsOf m c ≡ billionthsOf n d
+billionths-same m n hc hd e =
+    let up = le-of-eq e in
+    let down = le-of-eq (sym e) in
+    both
+    (le-antisymm (billionths-lower-rises m n hc hd up) (billionths-lower-rises n m hd hc down))
+    (le-antisymm (billionths-upper-rises m n hc hd up) (billionths-upper-rises n m hd hc down))
+
+-- ---- portions
+
+module _ (x : ℕ) (g : Ends) {l : ℕ} (hl : 0 < l) where
+  pub portion-encloses : {n d : ℕ} → Encloses g n d → Encloses (portionOf x g l) (x * n) (l * d)
+  unfolding portionOf
+  portion-encloses {n} {d} h =
+      record { low = floor-product x (g .lower) d n l (h .low); high = ceil-product x (g .upper) d n l hl (h .high) }
+
+  pub portion-ordered : g .lower ≤ g .upper → portionOf x g l .lower ≤ portionOf x g l .upper
+  unfolding portionOf
+  portion-ordered h = le-trans (floor-rises l (mul-le-mul-left x h)) (floor-not-above-ceil (x * g .upper) l)
+
+  pub portion-near : (w : ℕ) → x ≤ l → g .upper ≤ g .lower + w → portionOf x g l .upper ≤ portionOf x g l .lower + (w + 1)
+  unfolding portionOf
+  portion-near w hx h = part-apart (g .upper) (g .lower) w x l hl hx h
+
+  pub portion-lower-at-most : x ≤ l → portionOf x g l .lower ≤ g .lower
+  unfolding portionOf
+  portion-lower-at-most hx = div-le-of-le-mul l (mul-le-mul-right (g .lower) hx)
+
+  pub portion-upper-at-most : x ≤ l → portionOf x g l .upper ≤ g .upper
+  unfolding portionOf
+  portion-upper-at-most hx = ceil-least (x * g .upper) l (g .upper) hl .1 (omega (arith, mul-le-mul-right (g .upper) hx))
+
+-- ---- halves
+
+module _ (g : Ends) where
+  pub halves-enclose : {n d : ℕ} → Encloses g n d → Encloses (halvesOf g) n (2 * d)
+  unfolding halvesOf
+  halves-enclose {n} {d} h =
+      record {
+        low = omega (arith, h .low, mul-le-mul-right d (div-mul-le-self (g .lower) 2));
+        high = omega (arith, h .high, mul-le-mul-right d (ceil-lower (g .upper) 2 (omega arith)));
+      }
+
+  pub halves-ordered : g .lower ≤ g .upper → halvesOf g .lower ≤ halvesOf g .upper
+  unfolding halvesOf
+  halves-ordered h = le-trans (floor-rises 2 h) (floor-not-above-ceil (g .upper) 2)
+
+  pub halves-near : (w : ℕ) → g .upper ≤ g .lower + w → halvesOf g .upper ≤ halvesOf g .lower + (w / 2 + 1)
+  unfolding halvesOf
+  halves-near w h = halves-apart (g .upper) (g .lower) w h
+
+  pub halves-lower-at-most : halvesOf g .lower ≤ g .lower
+  unfolding halvesOf
+  halves-lower-at-most = div-le-self (g .lower) 2
+
+  pub halves-upper-at-most : halvesOf g .upper ≤ g .upper
+  unfolding halvesOf ceil
+  halves-upper-at-most = omega arith

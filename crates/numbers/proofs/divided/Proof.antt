@@ -1,0 +1,17 @@
+-- `numbers::divided` meets its contract. Assumes nothing.
+use borrow.Author.Needs.{needs}
+use Rattle.numbers.proofs.Division.{by-machine}
+use Rattle.numbers.proofs.divided.Statement.{statement}
+use Rattle.numbers.proofs.divided.Tie as tie
+
+div-t3 : tie.Need-div-t3
+div-t3 c = search needs
+
+rem-t4 : tie.Need-rem-t4
+rem-t4 c = search needs
+
+returns : tie.Need-returns
+returns c = by-machine _ _ (search needs)
+
+pub divided-spec : {M : Type 1} → statement M
+divided-spec = tie.close (tie.spec div-t3 rem-t4 returns)

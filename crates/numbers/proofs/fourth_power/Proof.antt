@@ -1,0 +1,20 @@
+-- `numbers::fourth_power` meets its contract: neither product wraps. Assumes nothing.
+use mathlib.Core.Path.{refl}
+use native.Mathlib.Nat.{mul-le-mul}
+use native.Mathlib.Omega.{arith}
+use Rattle.numbers.specs.Root.{fourth}
+use Rattle.numbers.proofs.fourth_power.Statement.{statement}
+use Rattle.numbers.proofs.fourth_power.Tie as tie
+
+mul-square : tie.Need-mul-square
+mul-square c = omega (arith, mul-le-mul (c .pre) (c .pre))
+
+mul-result : tie.Need-mul-result
+mul-result c = omega (arith, mul-le-mul (mul-le-mul (c .pre) (c .pre)) (mul-le-mul (c .pre) (c .pre)))
+
+returns : tie.Need-returns
+unfolding fourth
+returns c = refl
+
+pub fourth-power-spec : {M : Type 1} → statement M
+fourth-power-spec = tie.close (tie.spec mul-square mul-result returns)

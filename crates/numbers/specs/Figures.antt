@@ -1,0 +1,27 @@
+-- Figures with a lower and an upper end: 01, "Units" and "Rounding". Assumes nothing.
+use Prim.Native.Nat.{ℕ, _*_, _/_, _^_, _≤_, _<_}
+use Rattle.laws.specs.Rounding.{ceil}
+use Rattle.records.specs.declared.Ends.{Ends}
+
+-- n/d is at most one, and 64 bits hold what its long division makes
+pub record Proper (n d : ℕ) : Type 0 where
+  pub positive : 0 < d
+  pub at-most-one : n ≤ d
+  pub narrow : 40 * d < 2 ^ 64
+
+-- "Probabilities: billionths, as a lower and an upper end"
+unfoldable pub billionthsOf : ℕ → ℕ → Ends
+billionthsOf n d = record { lower = 10 ^ 9 * n / d; upper = ceil (10 ^ 9 * n) d }
+
+-- "The product x·G1/L is rounded the same way from G1's own end"
+unfoldable pub portionOf : ℕ → Ends → ℕ → Ends
+portionOf x g l = record { lower = x * g .lower / l; upper = ceil (x * g .upper) l }
+
+-- "each half is rounded in the direction that widens"
+unfoldable pub halvesOf : Ends → Ends
+halvesOf g = record { lower = g .lower / 2; upper = ceil (g .upper) 2 }
+
+-- n/d is not below the lower end of g, and not above the upper
+pub record Encloses (g : Ends) (n d : ℕ) : Type 0 where
+  pub low : g .lower * d ≤ n
+  pub high : n ≤ g .upper * d

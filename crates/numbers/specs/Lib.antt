@@ -1,0 +1,3 @@
+pub mod Division
+pub mod Figures
+pub mod Root

@@ -1,7 +1,7 @@
 -- Layers under the general damage length law: what each gives is a span function, and two that meet give what one does. Assumes nothing.
 use Prim.Native.Nat.{ℕ, _+_, _-_, _*_, _^_, _≤_, zero-le}
 use mathlib.Core.Path.{_≡_, refl, ap}
-use native.Mathlib.Nat.{le-refl, sub-zero, mul-le-mul-right}
+use native.Mathlib.Nat.{le-refl, sub-zero, sub-eq-zero-of-le, mul-le-mul-right}
 use native.Mathlib.Omega.{arith}
 use Rattle.laws.specs.Span.{SpanFunction}
 use Rattle.laws.proofs.Span.{e2-spans, e3-spans, steeper, sum-spans, multiple-spans, later-spans}
@@ -27,6 +27,15 @@ beyond-spans l =
   where
     plain : (a b : ℕ) → a * (3 * b) ≤ 3 * a * b
     plain a b = omega arith
+
+-- damage lengths give nothing to a span that is not longer than the shortest of them
+pub between-nothing : (l : Law) (U T X : ℕ) → X ≤ U → between l U T X ≡ 0
+unfolding between
+between-nothing l U T X h = rw (sub-eq-zero-of-le h, e2-spans (T - U) .nothing, e3-spans (T - U) .nothing) (omega arith)
+
+pub beyond-nothing : (l : Law) (X : ℕ) → X ≤ l .κ → beyond l X ≡ 0
+unfolding beyond
+beyond-nothing l X h = rw (sub-eq-zero-of-le h, e3-spans (l .W) .nothing) (omega arith)
 
 pub layer-spans : (l : Law) (y : Layer) → SpanFunction (slope l y) (inLayer l y)
 unfolding inLayer slope

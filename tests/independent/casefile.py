@@ -144,7 +144,7 @@ def row_is_within(row, hull):
 
 
 def is_out_of_order(row, before, hull):
-    """Refusal 8: an earlier group; a smaller b in the same group; in the same layer no higher H, or the top before it."""
+    """Refusal 8: an earlier group; same group and smaller b; same layer and H not higher, or the row before at the top."""
     if row.group != before.group:
         return row.group < before.group
     if row.b != before.b:

@@ -42,6 +42,13 @@ class Printed(unittest.TestCase):
     def test_figures(self):
         self.assertEqual(figures(answer(PRINTED_CASE)), FIGURES)
 
+    def test_answers_do_not_depend_on_files_before(self):
+        other = PRINTED_CASE.replace(b"05dc", b"05dd")
+        turns = [run(data) for data in (other, PRINTED_CASE, other, PRINTED_CASE)]
+        self.assertEqual(turns[1::2], [PRINTED_ANSWER] * 2)
+        self.assertEqual(turns[0], turns[2])
+        self.assertNotEqual(turns[0], PRINTED_ANSWER)
+
     def test_refusals(self):
         self.assertEqual(run(b""), b"8f0a0001\n")
         self.assertEqual(run(b"\n" * 40_000), b"8f010000\n")
@@ -90,7 +97,8 @@ class CommandLine(unittest.TestCase):
 
     def test_exact(self):
         lines = program("--exact", data=PRINTED_CASE).decode().splitlines()
-        self.assertEqual([line.split(" share ")[1] for line in lines if " share " in line], ["95/792", "155/2376", "22/27"])
+        shares = [line.split(" share ")[1] for line in lines if " share " in line]
+        self.assertEqual(shares, ["95/792", "155/2376", "22/27"])
         self.assertIn("  partial: v 916500/916500 s^4 1/16", lines)
         self.assertIn("  light: v 916500/916500 s 10000/10000 given", lines)
         self.assertIn("R 12177/24977", lines)

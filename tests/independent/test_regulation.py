@@ -4,41 +4,12 @@ import random
 import unittest
 from fractions import Fraction
 
+from independent import letters
 from independent.casefile import Case, reading
 from independent.regulation import (
     C, G, G1, P, Q, R, Span, draughts, group_share, group_terms, marks, p, row_share, row_v, s_fourth, v,
 )
 from independent.writing import given_row, hull_line, whole_file
-
-J_M, J_K = Fraction(10, 33), Fraction(5, 33)
-B11, B12, B21, B22 = Fraction(-3267, 50), Fraction(11), Fraction(-363, 50), Fraction(11, 5)
-
-
-def p_by_letters(J):
-    """Regulation 7-1: p of an inner span from Jm, Jk and the four b's."""
-    if J <= J_K:
-        return J**2 * (B11 * J + 3 * B12) / 6
-    Jn = min(J, J_M)
-    below = -B11 * J_K**3 / 3 + (B11 * J - B12) * J_K**2 / 2 + B12 * J * J_K
-    above = -B21 * (Jn**3 - J_K**3) / 3 + (B21 * J - B22) * (Jn**2 - J_K**2) / 2 + B22 * J * (Jn - J_K)
-    return below + above
-
-
-def P_by_letters(J, touched):
-    """Regulation 7-1: p of a span by the ends that it touches."""
-    return [p_by_letters(J), (p_by_letters(J) + J) / 2, Fraction(1)][touched]
-
-
-def p_times_r(J, touched, b, B):
-    """Regulation 7-1: p·r, with r = 1 - (1 - C)(1 - G/p) and G from G1 and G2."""
-    Jb = Fraction(b, 15 * B)
-    J0 = min(J, Jb)
-    c = 12 * Jb * (4 - 45 * Jb)
-    g1 = B11 * Jb**2 / 2 + B12 * Jb
-    g2 = -B11 * J0**3 / 3 + (B11 * J - B12) * J0**2 / 2 + B12 * J * J0
-    g = [g2, (g2 + g1 * J) / 2, g1][touched]
-    chance = P_by_letters(J, touched)
-    return chance * (1 - (1 - c) * (1 - g / chance))
 
 
 def some_spans(chooser, L):
@@ -82,15 +53,16 @@ class RegulationLetters(unittest.TestCase):
         chooser = random.Random(71)
         for L in [8_000, 9_900, 10_000, 13_200, 19_800] + [chooser.randrange(8_000, 19_801) for _ in range(15)]:
             for touched, span in some_spans(chooser, L):
-                self.assertEqual(P(span, L), P_by_letters(Fraction(span.length, L), touched), (L, span))
+                self.assertEqual(P(span, L), letters.p(Fraction(span.length, L), touched), (L, span))
 
-    def test_p_times_r(self):
+    def test_Q_is_p_times_r(self):
         chooser = random.Random(72)
         for _ in range(15):
             L, B = chooser.randrange(8_000, 19_801), 2 * chooser.randrange(500, 3_001)
             for touched, span in some_spans(chooser, L):
+                J = Fraction(span.length, L)
                 for b in (1, chooser.randrange(1, B // 2), B // 2):
-                    expected = p_times_r(Fraction(span.length, L), touched, b, B)
+                    expected = letters.p(J, touched) * letters.r(J, touched, b, B)
                     self.assertEqual(Q(span, b, L, B), expected, (L, B, span, b))
 
     def test_both_forms_of_G_at_the_edge(self):
@@ -100,31 +72,26 @@ class RegulationLetters(unittest.TestCase):
         self.assertEqual(G(edge, 160, 9_900, 1_600), inner)
         self.assertEqual(G(Span(0, 66), 160, 9_900, 1_600), (inner + 66 * G1(160, 1_600) / 9_900) / 2)
 
-    def test_v_by_metres(self):
+    def test_v(self):
         for h in range(-10, 13_000, 7):
-            metres = Fraction(h, 1_000)
-            if metres <= 0:
-                expected = Fraction(0)
-            elif metres <= Fraction(78, 10):
-                expected = Fraction(8, 10) * metres / Fraction(78, 10)
-            else:
-                expected = min(1, Fraction(8, 10) + Fraction(2, 10) * (metres - Fraction(78, 10)) / Fraction(47, 10))
-            self.assertEqual(Fraction(v(h), 916_500), expected, h)
+            self.assertEqual(Fraction(v(h), 916_500), letters.v(Fraction(h, 1_000)), h)
 
-    def test_R_by_metres(self):
+    def test_R(self):
         for L in range(8_000, 19_801, 50):
-            metres = Fraction(L, 100)
-            straight = 1 - Fraction(128) / (metres + 152)
-            expected = straight if L > 10_000 else 1 - 1 / (1 + metres / 100 * straight / (1 - straight))
-            self.assertEqual(R(L), expected, L)
+            self.assertEqual(R(L), letters.R(Fraction(L, 100)), L)
 
-    def test_s_fourth_by_formula(self):
-        self.assertEqual(s_fourth(120, 1_600, 2_500), 1)
+    def test_s_fourth(self):
+        for lever in (0, 1, 119, 120, 121, 5_000):
+            for reach in (0, 1, 1_599, 1_600, 1_601, 9_000):
+                for heel in (0, 2_500, 2_501, 2_750, 2_999, 3_000, 3_001, 9_000):
+                    expected = letters.s_fourth(Fraction(lever, 1_000), Fraction(reach, 100), Fraction(heel, 100))
+                    self.assertEqual(s_fourth(lever, reach, heel), expected, (lever, reach, heel))
+
+    def test_s_fourth_by_hand(self):
         self.assertEqual(s_fourth(5_000, 9_000, 0), 1)
         self.assertEqual(s_fourth(60, 9_000, 2_750), Fraction(1, 8))
         self.assertEqual(s_fourth(5_000, 400, 2_600), Fraction(4, 25))
         self.assertEqual(s_fourth(120, 1_600, 3_000), 0)
-        self.assertEqual(s_fourth(120, 1_600, 9_000), 0)
         self.assertEqual(s_fourth(0, 1_600, 0), 0)
 
 
@@ -165,10 +132,10 @@ class Shares(unittest.TestCase):
         self.assertGreater(group_share(hull, 1, 3), 0)
 
     def test_layers_total_the_group(self):
-        rows = [given_row(1, 2, b, 60_000, (0, 0, 0)) for b in (7, 300, 301, 800)]
+        rows = [given_row(1, 2, b, H, (0, 0, 0)) for b in (7, 300, 301, 800) for H in (9_000, 9_001, 60_000)]
         case = reading(whole_file(hull_line(9_900, 1_600, 6_000, 4_000, [1_500]), rows))
-        self.assertEqual([row.b_before for row in case.rows], [0, 7, 300, 301])
-        self.assertEqual(sum(row_share(case.hull, row) for row in case.rows), Fraction(155, 2_376))
+        self.assertEqual([row.b_before for row in case.rows], 3 * [0] + 3 * [7] + 3 * [300] + 3 * [301])
+        self.assertEqual(sum(row_share(case.hull, row) for row in case.rows), 3 * Fraction(155, 2_376))
 
 
 class DraughtsAndHeights(unittest.TestCase):
@@ -177,6 +144,12 @@ class DraughtsAndHeights(unittest.TestCase):
     def test_draughts(self):
         self.assertEqual(draughts(6_000, 4_000), (6_000, 5_200, 4_000))
         self.assertEqual(draughts(1_005, 1_000), (1_005, 1_003, 1_000))
+
+    def test_new_group_starts_anew(self):
+        rows = [given_row(a, 1, b, H, (0, 0, 0)) for a in (1, 2) for b in (400, 800) for H in (9_000, 18_500)]
+        case = reading(whole_file(hull_line(9_900, 1_600, 6_000, 4_000, [1_500]), rows))
+        self.assertEqual([row.b_before for row in case.rows], 2 * [0, 0, 400, 400])
+        self.assertEqual([row.H_below for row in case.rows], 4 * [None, 9_000])
 
     def test_row_v_is_less_the_row_below(self):
         rows = [given_row(1, 1, b, H, (0, 0, 0)) for b in (400, 800) for H in (5_000, 7_000, 14_000, 18_500)]

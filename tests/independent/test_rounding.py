@@ -10,7 +10,7 @@ from independent.rounding import (
     Ends, G1_ends, G3_ends, G_ends, P_ends, Q_ends, added_ends, attained_ends, billionths, p_ends, product_ends,
     share_ends, survival_ends,
 )
-from independent.writing import given_row, hull_line, whole_file
+from independent.writing import given_row, hull_line, lever_row, whole_file
 
 L, B = 9_900, 1_600
 INNER, AFT, BOW, SHIP = Span(100, 3_100), Span(0, 3_000), Span(6_900, 9_900), Span(0, 9_900)
@@ -59,6 +59,18 @@ class Chances(unittest.TestCase):
         self.assertEqual(479_208 - G3_ends(160, B).upper, 241_216)
         self.assertEqual(G_ends(Span(0, 66), 160, L, B), Ends(360_212, 360_214))
         self.assertEqual(G_ends(Span(9_834, L), 160, L, B), Ends(360_212, 360_214))
+
+    def test_shorter_spans(self):
+        self.assertEqual(p_ends(50, L), Ends(10**9 // 7_200, 10**9 // 7_200 + 1))
+        self.assertEqual(product_ends(50, 160, L, B), Ends(363_037, 363_038))
+        self.assertEqual(G_ends(Span(100, 150), 160, L, B), Ends(138_888, 138_889))
+        self.assertEqual(G_ends(Span(0, 50), 160, L, B), Ends(501_925 // 2, 501_927 // 2 + 1))
+
+    def test_lower_end_of_G_is_held_at_nothing(self):
+        far_outside_the_limits = 100_000
+        self.assertEqual(product_ends(1, 1, 19_800, far_outside_the_limits), Ends(0, 1))
+        self.assertEqual(G3_ends(1, far_outside_the_limits), Ends(0, 1))
+        self.assertEqual(G_ends(Span(1, 2), 1, 19_800, far_outside_the_limits), Ends(0, 1))
 
     def test_Q_is_rounded_once(self):
         self.assertEqual(10_616_430_935, 235_690_235 * 37 + 21_544_230 * 88)
@@ -138,6 +150,7 @@ class Sums(unittest.TestCase):
         row = Row(1, 1, 800, 13_800, None, None)
         self.assertEqual(added_ends(Ends(11, 12), row, 6_000, Ends(5_000, 5_001)), Ends(4, 5))
         self.assertEqual(added_ends(Ends(10, 10), row, 6_000, Ends(5_000, 5_000)), Ends(4, 4))
+        self.assertEqual(added_ends(Ends(1_000, 1_000), row, 6_000, Ends(5_000, 5_001)), Ends(400, 401))
 
     def test_attained(self):
         self.assertEqual(attained_ends(Ends(1, 2), Ends(3, 4), Ends(5, 6)), Ends(2, 4))
@@ -146,12 +159,19 @@ class Sums(unittest.TestCase):
     def test_draughts_have_their_own_survivals(self):
         rows = [given_row(1, 1, 800, 60_000, (1_000, 2_000, 4_000))]
         ends = answer(whole_file(hull_line(L, B, 6_000, 4_000, []), rows)).ends
-        self.assertEqual(ends, tuple(Ends(whole, whole) for whole in (200_000_000, 100_000_000, 200_000_000, 400_000_000)))
+        expected = (200_000_000, 100_000_000, 200_000_000, 400_000_000)
+        self.assertEqual(ends, tuple(Ends(whole, whole) for whole in expected))
+
+    def test_draughts_have_their_own_results(self):
+        rows = [lever_row(1, 1, 800, 60_000, ((120, 1_600, 0), (30, 400, 0), (0, 0, 0)))]
+        ends = answer(whole_file(hull_line(L, B, 6_000, 4_000, []), rows)).ends
+        self.assertEqual(ends, tuple(Ends(whole, whole) for whole in (600_000_000, 10**9, 500_000_000, 0)))
 
     def test_sums_are_not_held_at_one(self):
         zones = range(1, 21)
         rows = [given_row(a, n, 800, 60_000, (10_000,) * 3) for a in zones for n in range(1, 22 - a)]
-        ends = answer(whole_file(hull_line(L, B, 6_000, 4_000, [487 * i for i in range(1, 20)]), rows)).ends
+        bulkheads = [487 * i for i in range(1, 20)]
+        ends = answer(whole_file(hull_line(L, B, 6_000, 4_000, bulkheads), rows)).ends
         self.assertTrue(all(end.lower < 10**9 < end.upper for end in ends))
 
     def test_verdict_at_a_whole_mark(self):

@@ -5,6 +5,7 @@ pub mod Share
 pub mod Height
 pub mod Survival
 pub mod Index
+pub mod Layers
 pub mod General
 pub mod Total
 pub mod Count

@@ -1,5 +1,5 @@
 -- A layer by the heights of its rows, from the lowest up: the v of each row, when the layer is complete, and what its rows share. Assumes nothing.
-use Prim.Native.Nat.{ℕ, _+_, _<_, _≤_}
+use Prim.Native.Nat.{ℕ, _<_, _≤_}
 use mathlib.Core.Path.{_≡_}
 use mathlib.Core.List.{List, [], _∷_, map}
 use Rattle.laws.specs.Sums.{sum, last, Linked}

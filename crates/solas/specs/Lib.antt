@@ -6,6 +6,8 @@ pub mod Height
 pub mod Survival
 pub mod Index
 pub mod Layers
+pub mod RegulationIndex
+pub mod OfSolasIndex
 pub mod General
 pub mod Total
 pub mod Count

@@ -1,0 +1,25 @@
+-- A fraction over another denominator, and one that a test decides. Assumes nothing.
+use Prim.Native.Nat.{ℕ, _+_, _*_, _≤_, _<_}
+use mathlib.Core.Path.{_≡_, refl, ap}
+use mathlib.Core.Bool.{Bool, true, false, cond}
+use native.Mathlib.Omega.{arith}
+use borrow.Author.Tests.{leb-true, leb-false}
+use lib.Dec.{leb}
+use Rattle.laws.specs.Fraction.{Fraction, den, _less_over_, Is}
+use Rattle.laws.proofs.Fraction.{is-less-over, is-narrowed}
+
+-- by cross multiplication
+pub is-recast : {f : Fraction} {a b d : ℕ} (a′ b′ D : ℕ) → 0 < d → a * D + b′ * d ≡ a′ * d + b * D → Is f a b d → Is f a′ b′ D
+is-recast {f} {a} {b} {d} a′ b′ D h e k =
+    is-narrowed d a′ b′ D h (record { cross = omega (arith, ap (λ z. z * D) (k .cross), ap (λ z. z * den f) e) })
+
+pub is-crossed : (a b d n D : ℕ) → 0 < d → a * D ≡ n * d + b * D → Is (a less b over d) n 0 D
+is-crossed a b d n D h e = is-recast n 0 D h (omega (arith, e)) (is-less-over a b h)
+
+-- whichever way a test goes
+pub is-branch : {f g : Fraction} {a b d : ℕ} (m n : ℕ) → (m ≤ n → Is f a b d) → (n < m → Is g a b d) → Is (cond (leb m n) f g) a b d
+is-branch {f} {g} {a} {b} {d} m n h k = go (leb m n) refl
+  where
+    go : (t : Bool) → leb m n ≡ t → Is (cond t f g) a b d
+    go true e = h (leb-true m n e)
+    go false e = k (leb-false m n e)

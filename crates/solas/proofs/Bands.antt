@@ -3,16 +3,16 @@ use Prim.Native.Nat.{ℕ, _+_, _-_, _*_, _^_, _≤_, _<_}
 use mathlib.Core.Path.{_≡_, refl}
 use mathlib.Core.Bool.{true}
 use mathlib.Core.List.{[], _∷_}
-use native.Mathlib.Nat.{sub-eq-zero-of-le, add-sub-cancel-left, le-dest, le-refl, le-add-right, le-of-lt, mul-pos, mul-le-mul-left, one-le-pow}
+use native.Mathlib.Nat.{add-sub-cancel-left, le-dest, le-refl, le-add-right, le-of-lt, mul-pos, mul-le-mul-left, one-le-pow}
 use native.Mathlib.Omega.{arith}
 use borrow.Author.Tests.{leb-true}
 use lib.Dec.{leb}
 use Rattle.laws.specs.Fraction.{_less_over_, Is}
 use Rattle.laws.specs.Span.{e3}
-use Rattle.laws.proofs.Span.{e3-spans}
 use Rattle.laws.proofs.Polynomial.{Expr, C, _:+_, _:*_, _:^_, _:=_, _⊲_, eq, _⊢_, poly1, poly3, poly4, poly7, poly9}
 use Rattle.solas.specs.Span.{p}
 use Rattle.solas.specs.General.{Law, fall, between, mass, beyond, unit, law}
+use Rattle.solas.proofs.GeneralLayer.{beyond-nothing}
 use Rattle.solas.proofs.Recast.{is-crossed, is-branch}
 use Rattle.solas.proofs.Cut.{peak, mass-sum, between-below, between-above, e3-below, e3-above}
 
@@ -33,11 +33,10 @@ even-peak K n = let e : 11 * K - K ≡ 10 * K = omega arith in rw e (poly1 (λ K
 -- inner p in closed form, for a span that is shorter than the knuckle, and one that is longer
 module _ (K n : ℕ) where
   pub inner-below : {X : ℕ} → X ≤ K → inner (even K n) X + 9 * K ^ 2 * X ^ 3 ≡ 30 * K ^ 3 * X ^ 2
-  unfolding beyond
   inner-below {X} h =
-      rw (sub-eq-zero-of-le h, e3-spans K .nothing)
+      rw (beyond-nothing (even K n) X h)
       (poly3 (λ K X T. (K ⊲ T :+ C 9 :* K :* X :^ 3 := C 3 :* (C 10 :* K :^ 2) :* X :^ 2) ∷ [] ⊢
-      K :* T :+ K :^ 2 :* C 0 :+ C 9 :* K :^ 2 :* X :^ 3 := C 30 :* K :^ 3 :* X :^ 2) tt
+      K :* T :+ C 0 :+ C 9 :* K :^ 2 :* X :^ 3 := C 30 :* K :^ 3 :* X :^ 2) tt
       K X (between (even K n) 0 K X) (rw (even-fall K n, even-peak K n) at (between-below (even K n) (le-refl K) h)))
 
   past : (t : ℕ) → between (even K n) 0 K (K + t) + 12 * K ^ 4 ≡ 33 * K ^ 3 * (K + t)
@@ -70,13 +69,15 @@ module _ (K n : ℕ) where
       K t (between (even K n) 0 K (K + t)) (e3 K t) (past t) (e3-above s))
 
 -- ---- each band by its coefficients, where lengths are M times as fine
-abbrev knuckle : Expr → Expr → Expr
+
+-- the knuckle, the length of a span, and what p is over, as they are quoted
+abbrev pub knuckle : Expr → Expr → Expr
 knuckle M L = M :* (C 5 :* L)
 
-abbrev span : Expr → Expr → Expr
+abbrev pub span : Expr → Expr → Expr
 span M x = M :* C 33 :* x
 
-abbrev scale : Expr → Expr → Expr
+abbrev pub scale : Expr → Expr → Expr
 scale M L = C 36 :* knuckle M L :^ 2 :* knuckle M L :^ 2 :* span M L
 
 abbrev fine : ℕ → ℕ → Law

@@ -1,12 +1,14 @@
--- A fraction over another denominator, and one that a test decides. Assumes nothing.
+-- A fraction over another denominator, its half, and one that a test decides. Assumes nothing.
 use Prim.Native.Nat.{ℕ, _+_, _*_, _≤_, _<_}
 use mathlib.Core.Path.{_≡_, refl, ap}
 use mathlib.Core.Bool.{Bool, true, false, cond}
+use native.Mathlib.Nat.{mul-comm}
 use native.Mathlib.Omega.{arith}
 use borrow.Author.Tests.{leb-true, leb-false}
 use lib.Dec.{leb}
 use Rattle.laws.specs.Fraction.{Fraction, den, _less_over_, Is}
-use Rattle.laws.proofs.Fraction.{is-less-over, is-narrowed}
+use Rattle.laws.proofs.Fraction.{is-less-over, is-over, is-narrowed, is-shifted, is-⊛}
+use Rattle.solas.specs.Span.{half}
 
 -- by cross multiplication
 pub is-recast : {f : Fraction} {a b d : ℕ} (a′ b′ D : ℕ) → 0 < d → a * D + b′ * d ≡ a′ * d + b * D → Is f a b d → Is f a′ b′ D
@@ -15,6 +17,13 @@ is-recast {f} {a} {b} {d} a′ b′ D h e k =
 
 pub is-crossed : (a b d n D : ℕ) → 0 < d → a * D ≡ n * d + b * D → Is (a less b over d) n 0 D
 is-crossed a b d n D h e = is-recast n 0 D h (omega (arith, e)) (is-less-over a b h)
+
+-- the same, written in another way
+pub is-rewritten : {f : Fraction} {a b d : ℕ} (a′ b′ d′ : ℕ) → a + b′ ≡ a′ + b → d ≡ d′ → Is f a b d → Is f a′ b′ d′
+is-rewritten a′ b′ d′ e k h = rw (← k) (is-shifted a′ b′ e h)
+
+pub is-half : {f : Fraction} {a b d : ℕ} → Is f a b d → Is (half f) a b (2 * d)
+is-half {f} {a} {b} {d} h = is-rewritten a b (2 * d) (omega arith) (mul-comm d 2) (is-⊛ h (is-over 1 (omega arith)))
 
 -- whichever way a test goes
 pub is-branch : {f g : Fraction} {a b d : ℕ} (m n : ℕ) → (m ≤ n → Is f a b d) → (n < m → Is g a b d) → Is (cond (leb m n) f g) a b d

@@ -71,3 +71,12 @@ layer-rises L B b′ b k g h = record {
   proper = c-at-most B b h;
   positive = omega (arith, one-le-pow 2 B k);
 }
+
+-- the layer from no penetration
+pub no-cut : (L B b : ℕ) → layer L B 0 b .U′ ≡ 0
+unfolding layer
+no-cut L B b = omega arith
+
+pub no-chance : (L B b : ℕ) → layer L B 0 b .c′ ≡ 0
+unfolding layer
+no-chance L B b = omega arith

@@ -87,14 +87,15 @@ scale M L = C 36 :* knuckle M L :^ 2 :* knuckle M L :^ 2 :* span M L
 abbrev fine : ℕ → ℕ → Law
 fine M L = even (M * (5 * L)) (M * 33)
 
+-- what each coefficient is of the divisor
 module _ (M : ℕ) {L : ℕ} (positive : 0 < L) (x : ℕ) where
-  short : (a b d : ℕ) → leb 1 d ≡ true → 10 * a ≡ 55 * d → 100 * b ≡ 1089 * d → 33 * x ≤ 5 * L →
+  short : (a b d : ℕ) → leb 1 d ≡ true → 2 * a ≡ 11 * d → 100 * b ≡ 1089 * d → 33 * x ≤ 5 * L →
       Is ((a * x ^ 2 * L) less (b * x ^ 3) over (d * L ^ 3)) (inner (fine M L) (M * 33 * x)) 0 (full (fine M L) L)
   short a b d q ea eb h =
       let k : M * 33 * x ≤ M * (5 * L) = omega (arith, mul-le-mul-left M h) in
       is-crossed _ _ _ _ _ (mul-pos (leb-true 1 d q) (one-le-pow 3 L positive))
       (poly7 (λ M L x N a b d. eq (C 0) (d :* L :^ 3) (N :+ C 9 :* knuckle M L :^ 2 :* span M x :^ 3) (C 30 :* knuckle M L :^ 3 :* span M x :^ 2) ∷
-      (C 594 :* knuckle M L :^ 3 :* M :^ 2 :* L :^ 3 :* x :^ 2 ⊲ C 10 :* a := C 55 :* d) ∷
+      (C 2970 :* knuckle M L :^ 3 :* M :^ 2 :* L :^ 3 :* x :^ 2 ⊲ C 2 :* a := C 11 :* d) ∷
       eq (C 0) (C 297 :* knuckle M L :^ 2 :* M :^ 3 :* L :^ 3 :* x :^ 3) (C 100 :* b) (C 1089 :* d) ∷ [] ⊢
       a :* x :^ 2 :* L :* scale M L := N :* (d :* L :^ 3) :+ b :* x :^ 3 :* scale M L) tt
       M L x (inner (fine M L) (M * 33 * x)) a b d (inner-below (M * (5 * L)) (M * 33) k) ea eb)

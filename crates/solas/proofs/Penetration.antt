@@ -49,7 +49,8 @@ module _ (L B b : ℕ) (positive : 0 < B) where
       (is-recast _ _ _ (mul-pos (leb-true 1 d q) (one-le-pow 3 B positive))
       (poly6 (λ L B b a e d. (C 2970 :* b :^ 2 :* B :^ 3 :* L :^ 2 :* κ B L :^ 3 ⊲ C 450 :* a := C 11 :* d) ∷
       eq (C 0) (C 5346 :* b :^ 3 :* B :^ 3 :* L :^ 3 :* κ B L :^ 2) (C 18750 :* e) (C 121 :* d) ∷ [] ⊢
-      a :* b :^ 2 :* B :* scale (C 15 :* B) L :+ κ B L :* (C 2 :* (C 9 :* κ B L) :* cut b L :^ 3) :* (d :* B :^ 3) := κ B L :* (C 3 :* (C 10 :* κ B L :^ 2) :* cut b L :^ 2) :* (d :* B :^ 3) :+ e :* b :^ 3 :* scale (C 15 :* B) L) tt
+      a :* b :^ 2 :* B :* scale (C 15 :* B) L :+ κ B L :* (C 2 :* (C 9 :* κ B L) :* cut b L :^ 3) :* (d :* B :^ 3) :=
+      κ B L :* (C 3 :* (C 10 :* κ B L :^ 2) :* cut b L :^ 2) :* (d :* B :^ 3) :+ e :* b :^ 3 :* scale (C 15 :* B) L) tt
       L B b a e d ea ee)
       (is-less-over (a * b ^ 2 * B) (e * b ^ 3) (mul-pos (leb-true 1 d q) (one-le-pow 3 B positive))))
 

@@ -16,7 +16,11 @@ use Rattle.solas.proofs.GeneralLayer.{beyond-nothing}
 use Rattle.solas.proofs.Recast.{is-crossed, is-branch}
 use Rattle.solas.proofs.Cut.{peak, mass-sum, between-below, between-above, e3-below, e3-above}
 
--- what all damage lengths give to an inner span of length X: p times 36W²κ²·λL
+-- one, on the scale of a ship of length L: 36W²κ²·λL
+abbrev pub full : Law → ℕ → ℕ
+full l L = unit l * (l .λx * L)
+
+-- inner p on that scale, for a span of length X
 abbrev pub inner : Law → ℕ → ℕ
 inner l X = l .W * between l 0 (l .κ) X + beyond l X
 
@@ -83,20 +87,21 @@ scale M L = C 36 :* knuckle M L :^ 2 :* knuckle M L :^ 2 :* span M L
 abbrev fine : ℕ → ℕ → Law
 fine M L = even (M * (5 * L)) (M * 33)
 
+-- what each coefficient is of the divisor
 module _ (M : ℕ) {L : ℕ} (positive : 0 < L) (x : ℕ) where
-  short : (a b d : ℕ) → leb 1 d ≡ true → 10 * a ≡ 55 * d → 100 * b ≡ 1089 * d → 33 * x ≤ 5 * L →
-      Is ((a * x ^ 2 * L) less (b * x ^ 3) over (d * L ^ 3)) (inner (fine M L) (M * 33 * x)) 0 (unit (fine M L) * (M * 33 * L))
+  short : (a b d : ℕ) → leb 1 d ≡ true → 2 * a ≡ 11 * d → 100 * b ≡ 1089 * d → 33 * x ≤ 5 * L →
+      Is ((a * x ^ 2 * L) less (b * x ^ 3) over (d * L ^ 3)) (inner (fine M L) (M * 33 * x)) 0 (full (fine M L) L)
   short a b d q ea eb h =
       let k : M * 33 * x ≤ M * (5 * L) = omega (arith, mul-le-mul-left M h) in
       is-crossed _ _ _ _ _ (mul-pos (leb-true 1 d q) (one-le-pow 3 L positive))
       (poly7 (λ M L x N a b d. eq (C 0) (d :* L :^ 3) (N :+ C 9 :* knuckle M L :^ 2 :* span M x :^ 3) (C 30 :* knuckle M L :^ 3 :* span M x :^ 2) ∷
-      (C 594 :* knuckle M L :^ 3 :* M :^ 2 :* L :^ 3 :* x :^ 2 ⊲ C 10 :* a := C 55 :* d) ∷
+      (C 2970 :* knuckle M L :^ 3 :* M :^ 2 :* L :^ 3 :* x :^ 2 ⊲ C 2 :* a := C 11 :* d) ∷
       eq (C 0) (C 297 :* knuckle M L :^ 2 :* M :^ 3 :* L :^ 3 :* x :^ 3) (C 100 :* b) (C 1089 :* d) ∷ [] ⊢
       a :* x :^ 2 :* L :* scale M L := N :* (d :* L :^ 3) :+ b :* x :^ 3 :* scale M L) tt
       M L x (inner (fine M L) (M * 33 * x)) a b d (inner-below (M * (5 * L)) (M * 33) k) ea eb)
 
   middle : (a b c e d : ℕ) → leb 1 d ≡ true → 3 * a ≡ 2 * d → 10 * b ≡ 11 * d → 297 * c ≡ 10 * d → 100 * e ≡ 121 * d → 5 * L ≤ 33 * x → 33 * x ≤ 10 * L →
-      Is ((a * x * L ^ 2 + b * x ^ 2 * L) less (c * L ^ 3 + e * x ^ 3) over (d * L ^ 3)) (inner (fine M L) (M * 33 * x)) 0 (unit (fine M L) * (M * 33 * L))
+      Is ((a * x * L ^ 2 + b * x ^ 2 * L) less (c * L ^ 3 + e * x ^ 3) over (d * L ^ 3)) (inner (fine M L) (M * 33 * x)) 0 (full (fine M L) L)
   middle a b c e d q ea eb ec ee g h =
       let j : M * (5 * L) ≤ M * 33 * x = omega (arith, mul-le-mul-left M g) in
       let k : M * 33 * x ≤ 2 * (M * (5 * L)) = omega (arith, mul-le-mul-left M h) in
@@ -110,7 +115,7 @@ module _ (M : ℕ) {L : ℕ} (positive : 0 < L) (x : ℕ) where
       M L x (inner (fine M L) (M * 33 * x)) a b c e d (inner-near (M * (5 * L)) (M * 33) j k) ea eb ec ee)
 
   long : (a c d : ℕ) → leb 1 d ≡ true → a ≡ d → 297 * c ≡ 20 * d → 10 * L ≤ 33 * x →
-      Is ((a * x) less (c * L) over (d * L)) (inner (fine M L) (M * 33 * x)) 0 (unit (fine M L) * (M * 33 * L))
+      Is ((a * x) less (c * L) over (d * L)) (inner (fine M L) (M * 33 * x)) 0 (full (fine M L) L)
   long a c d q ea ec h =
       let k : 2 * (M * (5 * L)) ≤ M * 33 * x = omega (arith, mul-le-mul-left M h) in
       is-crossed _ _ _ _ _ (mul-pos (leb-true 1 d q) positive)
@@ -120,7 +125,7 @@ module _ (M : ℕ) {L : ℕ} (positive : 0 < L) (x : ℕ) where
       M L x (inner (fine M L) (M * 33 * x)) a c d (inner-far (M * (5 * L)) (M * 33) k) ea ec)
 
 -- inner p, by the coefficients that document 01 has
-pub p-is : {L : ℕ} → 0 < L → (B x : ℕ) → Is (p L x) (inner (law L B) (law L B .λx * x)) 0 (unit (law L B) * (law L B .λx * L))
+pub p-is : {L : ℕ} → 0 < L → (B x : ℕ) → Is (p L x) (inner (law L B) (law L B .λx * x)) 0 (full (law L B) L)
 unfolding p law
 p-is {L} h B x =
     is-branch (33 * x) (5 * L) (short (15 * B) h x _ _ _ refl refl refl)

@@ -7,11 +7,10 @@ use native.Mathlib.Nat.{sub-add-cancel, le-dest, le-of-eq, mul-pos, mul-le-mul-r
 use native.Mathlib.Omega.{arith}
 use borrow.Author.Tests.{leb-true}
 use lib.Dec.{leb}
-use Rattle.laws.specs.Fraction.{_less_over_, whole, Is, _≈_, _≼_}
-use Rattle.laws.proofs.Fraction.{is-whole, same, below}
+use Rattle.laws.specs.Fraction.{_less_over_, Is}
 use Rattle.laws.proofs.Polynomial.{C, _:+_, _:*_, _:^_, _:≤_, _:=_, _⊲_, eq, _⊢_, poly2, poly3, poly5, poly6}
 use Rattle.solas.specs.Penetration.{C as chance}
-use Rattle.solas.specs.General.{Falling, Rising, law, layer}
+use Rattle.solas.specs.General.{Law, Falling, Layer, Rising, common, law, layer}
 use Rattle.solas.proofs.Recast.{is-crossed}
 
 -- ---- C: (16bB - 12b²)/(5B²), at most one up to the half breadth
@@ -80,3 +79,12 @@ no-cut L B b = omega arith
 pub no-chance : (L B b : ℕ) → layer L B 0 b .c′ ≡ 0
 unfolding layer
 no-chance L B b = omega arith
+
+-- ---- what Q is over is not 0
+pub common-positive : {l : Law} {y : Layer} → Falling l → Rising l y → (L : ℕ) → 0 < l .λx * L → 0 < common l y L
+common-positive {l} f r L h =
+    mul-pos (omega arith) (mul-pos (mul-pos (r .positive) (mul-pos (mul-pos (omega arith) (one-le-pow 2 (l .W) (f .stretch))) (one-le-pow 2 (l .κ) (f .knuckle)))) h)
+
+pub law-common-positive : {L B : ℕ} → 0 < L → 0 < B → (b′ b : ℕ) → b′ ≤ b → 2 * b ≤ B → 0 < common (law L B) (layer L B b′ b) L
+unfolding law
+law-common-positive {L} {B} hL hB b′ b g h = common-positive (law-falls hL hB) (layer-rises L B b′ b hB g h) L (omega (arith, mul-pos hB hL))

@@ -1,23 +1,23 @@
 -- Document 01's G1, G3 and inner G are the general law with its damage lengths cut at the penetration. Assumes nothing.
 use Prim.Native.Nat.{ℕ, _+_, _*_, _^_, _≤_, _<_, zero-le}
-use mathlib.Core.Path.{_≡_, refl, ap}
+use mathlib.Core.Path.{_≡_, refl}
 use mathlib.Core.Bool.{true}
 use mathlib.Core.List.{[], _∷_}
 use native.Mathlib.Nat.{le-refl, le-trans, mul-add, mul-pos, one-le-pow}
 use native.Mathlib.Omega.{arith}
 use borrow.Author.Tests.{leb-true}
 use lib.Dec.{leb}
-use Rattle.laws.specs.Fraction.{Fraction, _less_over_, _over_, Is, _⊛_, _⊝_}
+use Rattle.laws.specs.Fraction.{Fraction, _less_over_, _over_, Is, _⊛_}
 use Rattle.laws.proofs.Fraction.{is-less-over, is-over, is-⊝, is-⊛, is-widened}
 use Rattle.laws.proofs.Polynomial.{Expr, C, _:+_, _:*_, _:^_, _:=_, _⊲_, eq, _⊢_, poly3, poly4, poly6, poly7}
 use Rattle.solas.specs.Span.{neither, p}
 use Rattle.solas.specs.Penetration.{G1, G3, GAt}
-use Rattle.solas.specs.General.{Law, Falling, fall, between, mass, unit, law}
+use Rattle.solas.specs.General.{Law, Falling, fall, between, mass, law}
 use Rattle.solas.proofs.General.{between-adds}
 use Rattle.solas.proofs.GeneralLayer.{between-nothing, beyond-nothing}
 use Rattle.solas.proofs.Recast.{is-recast, is-crossed, is-rewritten, is-branch}
 use Rattle.solas.proofs.Cut.{peak, mass-sum, between-above}
-use Rattle.solas.proofs.Bands.{inner, knuckle, scale, even-fall, even-peak, p-is}
+use Rattle.solas.proofs.Bands.{full, inner, knuckle, scale, even-fall, even-peak, p-is}
 use Rattle.solas.proofs.Depth.{law-falls, shallow}
 
 -- the knuckle and the cut, as they are quoted
@@ -42,14 +42,15 @@ module _ (L B b : ℕ) (positive : 0 < B) where
 
   -- what a span that is longer than the cut lacks
   G3-by : (a e d : ℕ) → leb 1 d ≡ true → 450 * a ≡ 11 * d → 18750 * e ≡ 121 * d →
-      Is ((a * b ^ 2 * B) less (e * b ^ 3) over (d * B ^ 3)) (law L B .W * (3 * peak (law L B) * (33 * b * L) ^ 2)) (law L B .W * (2 * fall (law L B) * (33 * b * L) ^ 3)) (unit (law L B) * (law L B .λx * L))
+      Is ((a * b ^ 2 * B) less (e * b ^ 3) over (d * B ^ 3)) (law L B .W * (3 * peak (law L B) * (33 * b * L) ^ 2)) (law L B .W * (2 * fall (law L B) * (33 * b * L) ^ 3)) (full (law L B) L)
   unfolding law
   G3-by a e d q ea ee =
       rw (even-fall (law L B .κ) (law L B .λx), even-peak (law L B .κ) (law L B .λx))
       (is-recast _ _ _ (mul-pos (leb-true 1 d q) (one-le-pow 3 B positive))
       (poly6 (λ L B b a e d. (C 2970 :* b :^ 2 :* B :^ 3 :* L :^ 2 :* κ B L :^ 3 ⊲ C 450 :* a := C 11 :* d) ∷
       eq (C 0) (C 5346 :* b :^ 3 :* B :^ 3 :* L :^ 3 :* κ B L :^ 2) (C 18750 :* e) (C 121 :* d) ∷ [] ⊢
-      a :* b :^ 2 :* B :* scale (C 15 :* B) L :+ κ B L :* (C 2 :* (C 9 :* κ B L) :* cut b L :^ 3) :* (d :* B :^ 3) := κ B L :* (C 3 :* (C 10 :* κ B L :^ 2) :* cut b L :^ 2) :* (d :* B :^ 3) :+ e :* b :^ 3 :* scale (C 15 :* B) L) tt
+      a :* b :^ 2 :* B :* scale (C 15 :* B) L :+ κ B L :* (C 2 :* (C 9 :* κ B L) :* cut b L :^ 3) :* (d :* B :^ 3) :=
+      κ B L :* (C 3 :* (C 10 :* κ B L :^ 2) :* cut b L :^ 2) :* (d :* B :^ 3) :+ e :* b :^ 3 :* scale (C 15 :* B) L) tt
       L B b a e d ea ee)
       (is-less-over (a * b ^ 2 * B) (e * b ^ 3) (mul-pos (leb-true 1 d q) (one-le-pow 3 B positive))))
 
@@ -58,7 +59,7 @@ module _ (L B b : ℕ) (positive : 0 < B) where
   unfolding G1
   G1-is h = G1-by L B b positive _ _ _ refl refl refl h
 
-  pub G3-is : Is (G3 B b) (law L B .W * (3 * peak (law L B) * (33 * b * L) ^ 2)) (law L B .W * (2 * fall (law L B) * (33 * b * L) ^ 3)) (unit (law L B) * (law L B .λx * L))
+  pub G3-is : Is (G3 B b) (law L B .W * (3 * peak (law L B) * (33 * b * L) ^ 2)) (law L B .W * (2 * fall (law L B) * (33 * b * L) ^ 3)) (full (law L B) L)
   unfolding G3
   G3-is = G3-by L B b positive _ _ _ refl refl refl
 
@@ -88,24 +89,24 @@ pub lacks : (l : Law) (U X : ℕ) → U ≤ l .κ → U ≤ X →
     l .W * (mass l 0 U * X) + l .W * (2 * fall l * U ^ 3) ≡ l .W * between l 0 U X + l .W * (3 * peak l * U ^ 2)
 lacks l U X h k = simp (← mul-add, between-above l h k)
 
+-- the test of document 01 compares the span with the cut
+pub up-to-cut : (L B x b : ℕ) → 15 * B * x ≤ b * L → law L B .λx * x ≤ 33 * b * L
+unfolding law
+up-to-cut L B x b k = omega arith
+
+pub past-cut : (L B x b : ℕ) → b * L < 15 * B * x → 33 * b * L ≤ law L B .λx * x
+unfolding law
+past-cut L B x b k = omega arith
+
 module _ {L B : ℕ} (hL : 0 < L) (hB : 0 < B) (x b : ℕ) (h : 2 * b ≤ B) where
-  pub along-is : Is ((x over L) ⊛ G1 B b) (law L B .W * (mass (law L B) 0 (33 * b * L) * (law L B .λx * x))) 0 (unit (law L B) * (law L B .λx * L))
+  pub along-is : Is ((x over L) ⊛ G1 B b) (law L B .W * (mass (law L B) 0 (33 * b * L) * (law L B .λx * x))) 0 (full (law L B) L)
   along-is = is-along (law L B .W) (law L B .κ) (law L B .λx) x hL (G1-is L B b hB h)
 
   -- a span that the cut is not above
-  pub p-shallow : law L B .λx * x ≤ 33 * b * L → Is (p L x) (law L B .W * between (law L B) 0 (33 * b * L) (law L B .λx * x)) 0 (unit (law L B) * (law L B .λx * L))
+  pub p-shallow : law L B .λx * x ≤ 33 * b * L → Is (p L x) (law L B .W * between (law L B) 0 (33 * b * L) (law L B .λx * x)) 0 (full (law L B) L)
   p-shallow k = rw (← inner-shallow (law-falls hL hB) (33 * b * L) (law L B .λx * x) (shallow L B b h) k) (p-is hL B x)
 
-  -- the test of document 01 compares the span with the cut
-  pub up-to-cut : 15 * B * x ≤ b * L → law L B .λx * x ≤ 33 * b * L
-  unfolding law
-  up-to-cut k = omega arith
-
-  pub past-cut : b * L < 15 * B * x → 33 * b * L ≤ law L B .λx * x
-  unfolding law
-  past-cut k = omega arith
-
-  pub inner-G-is : Is (GAt neither L B x b) (law L B .W * between (law L B) 0 (33 * b * L) (law L B .λx * x)) 0 (unit (law L B) * (law L B .λx * L))
+  pub inner-G-is : Is (GAt neither L B x b) (law L B .W * between (law L B) 0 (33 * b * L) (law L B .λx * x)) 0 (full (law L B) L)
   inner-G-is =
-      is-branch (15 * B * x) (b * L) (λ k. p-shallow (up-to-cut k))
-      (λ k. is-rewritten _ 0 _ (omega (arith, lacks (law L B) (33 * b * L) (law L B .λx * x) (shallow L B b h) (past-cut k))) refl (is-⊝ along-is (G3-is L B b hB)))
+      is-branch (15 * B * x) (b * L) (λ k. p-shallow (up-to-cut L B x b k))
+      (λ k. is-rewritten _ 0 _ (omega (arith, lacks (law L B) (33 * b * L) (law L B .λx * x) (shallow L B b h) (past-cut L B x b k))) refl (is-⊝ along-is (G3-is L B b hB)))

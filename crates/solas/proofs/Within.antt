@@ -1,19 +1,19 @@
 -- Document 01's chance of damage within a span and a penetration is the general law's, for every span of the ship. Assumes nothing.
 use Prim.Native.Nat.{ℕ, _+_, _-_, _*_, _^_, _≤_, _<_, zero-le}
-use mathlib.Core.Path.{_≡_, refl, ap}
+use mathlib.Core.Path.{_≡_, refl}
 use mathlib.Core.Bool.{Bool, true, false, cond}
 use native.Mathlib.Nat.{sub-zero, add-sub-cancel-left, le-dest, le-refl, mul-assoc}
 use native.Mathlib.Omega.{arith}
 use borrow.Author.Tests.{eqb-true}
 use lib.Dec.{eqb}
-use Rattle.laws.specs.Fraction.{_over_, whole, Is, _⊹_, _⊝_, _⊛_}
-use Rattle.laws.proofs.Fraction.{is-whole, is-over, is-widened, is-⊹, is-⊝, is-⊛}
+use Rattle.laws.specs.Fraction.{_over_, whole, Is}
+use Rattle.laws.proofs.Fraction.{is-over, is-widened, is-⊹, is-⊝}
 use Rattle.solas.specs.Span.{Touch, neither, one, both, touch, PAt, P}
 use Rattle.solas.specs.Penetration.{GAt, G, Q}
 use Rattle.solas.specs.General.{Law, Falling, Layer, Rising, between, mass, beyond, unit, inLayer, slope, twice, inSpan, common, law, layer}
 use Rattle.solas.proofs.General.{between-adds, mass-adds, mass-one}
 use Rattle.solas.proofs.Recast.{is-rewritten, one-is, is-mixed, is-half, is-branch}
-use Rattle.solas.proofs.Bands.{inner, p-is}
+use Rattle.solas.proofs.Bands.{full, inner, p-is}
 use Rattle.solas.proofs.Depth.{C-is, c-at-most, law-falls, shallow, layer-rises, no-cut, no-chance}
 use Rattle.solas.proofs.Penetration.{G1-is, G3-is, is-throughout, along-is, p-shallow, inner-G-is, up-to-cut, past-cut, lacks}
 
@@ -43,23 +43,35 @@ span-fits L aft fwd = tests (eqb aft 0) (eqb fwd L) refl refl
 part-is : {L : ℕ} (x u n : ℕ) → 0 < L → Is (x over L) (u * (n * x)) 0 (u * (n * L))
 part-is {L} x u n h = is-rewritten (u * (n * x)) 0 (u * (n * L)) (omega arith) (mul-assoc u n L) (is-widened (u * n) (is-over x h))
 
--- ---- P and G for every span
-module _ {L B : ℕ} (hL : 0 < L) (hB : 0 < B) (x : ℕ) where
-  pub P-at : (t : Touch) → Fits t L x → Is (PAt t L x) (doubled t (inner (law L B) (law L B .λx * x)) (unit (law L B) * (law L B .λx * x))) 0 (2 * (unit (law L B) * (law L B .λx * L)))
-  P-at neither f = is-widened 2 (p-is hL B x)
-  P-at one f = is-half (is-⊹ (p-is hL B x) (part-is x (unit (law L B)) (law L B .λx) hL))
-  P-at both f = rw f (one-is (2 * (unit (law L B) * (law L B .λx * L))))
+-- ---- P and G of a span of length x that touches so many ends, and of the span from aft to fwd
+module _ {L : ℕ} (hL : 0 < L) (B : ℕ) where
+  pub P-at : (x : ℕ) (t : Touch) → Fits t L x → Is (PAt t L x) (doubled t (inner (law L B) (law L B .λx * x)) (unit (law L B) * (law L B .λx * x))) 0 (2 * full (law L B) L)
+  P-at x neither f = is-widened 2 (p-is hL B x)
+  P-at x one f = is-half (is-⊹ (p-is hL B x) (part-is x (unit (law L B)) (law L B .λx) hL))
+  P-at x both f = rw f (one-is (2 * full (law L B) L))
 
-  pub G-at : (b : ℕ) → 2 * b ≤ B → (t : Touch) → Fits t L x →
+  pub P-is : (aft fwd : ℕ) →
+      Is (P L aft fwd) (doubled (touch L aft fwd) (inner (law L B) (law L B .λx * (fwd - aft))) (unit (law L B) * (law L B .λx * (fwd - aft)))) 0 (2 * full (law L B) L)
+  unfolding P
+  P-is aft fwd = P-at (fwd - aft) (touch L aft fwd) (span-fits L aft fwd)
+
+module _ {L B : ℕ} (hL : 0 < L) (hB : 0 < B) (b : ℕ) (h : 2 * b ≤ B) where
+  pub G-at : (x : ℕ) (t : Touch) → Fits t L x →
       Is (GAt t L B x b) (doubled t (law L B .W * between (law L B) 0 (33 * b * L) (law L B .λx * x)) (law L B .W * (mass (law L B) 0 (33 * b * L) * (law L B .λx * x)))) 0
-      (2 * (unit (law L B) * (law L B .λx * L)))
-  G-at b h neither f = is-widened 2 (inner-G-is hL hB x b h)
-  G-at b h one f =
-      is-branch (15 * B * x) (b * L)
-      (λ k. is-half (is-⊹ (p-shallow hL hB x b h (up-to-cut hL hB x b h k)) (along-is hL hB x b h)))
-      (λ k. is-rewritten _ 0 _ (omega (arith, lacks (law L B) (33 * b * L) (law L B .λx * x) (shallow L B b h) (past-cut hL hB x b h k))) refl
+      (2 * full (law L B) L)
+  G-at x neither f = is-widened 2 (inner-G-is hL hB x b h)
+  G-at x one f =
+      is-branch (15 * B * x) (b * L) (λ k. is-half (is-⊹ (p-shallow hL hB x b h (up-to-cut L B x b k)) (along-is hL hB x b h)))
+      (λ k. is-rewritten _ 0 _ (omega (arith, lacks (law L B) (33 * b * L) (law L B .λx * x) (shallow L B b h) (past-cut L B x b k))) refl
       (is-⊝ (is-widened 2 (along-is hL hB x b h)) (is-half (G3-is L B b hB))))
-  G-at b h both f = rw f (is-widened 2 (is-throughout (law L B .W) (law L B .κ) (law L B .λx * L) (G1-is L B b hB h)))
+  G-at x both f = rw f (is-widened 2 (is-throughout (law L B .W) (law L B .κ) (law L B .λx * L) (G1-is L B b hB h)))
+
+  pub G-is : (aft fwd : ℕ) →
+      Is (G L B aft fwd b)
+      (doubled (touch L aft fwd) (law L B .W * between (law L B) 0 (33 * b * L) (law L B .λx * (fwd - aft))) (law L B .W * (mass (law L B) 0 (33 * b * L) * (law L B .λx * (fwd - aft))))) 0
+      (2 * full (law L B) L)
+  unfolding G
+  G-is aft fwd = G-at (fwd - aft) (touch L aft fwd) (span-fits L aft fwd)
 
 -- ---- Q: the layer from no penetration
 doubled-mixes : (t : Touch) (i j i′ j′ c r : ℕ) → doubled t i j * c + doubled t i′ j′ * r ≡ doubled t (i * c + i′ * r) (j * c + j′ * r)
@@ -99,13 +111,10 @@ module _ {l : Law} {y : Layer} (f : Falling l) (r : Rising l y) (none : y .U′ 
 
 -- the chance of damage within the span from aft to fwd and within b
 pub Q-is : {L B : ℕ} → 0 < L → 0 < B → (aft fwd b : ℕ) → 2 * b ≤ B → Is (Q L B aft fwd b) (inSpan (law L B) (layer L B 0 b) L aft fwd) 0 (common (law L B) (layer L B 0 b) L)
-unfolding Q P G inSpan layer
+unfolding Q inSpan layer
 Q-is {L} {B} hL hB aft fwd b h =
-    let t = touch L aft fwd in
-    let x = fwd - aft in
-    let k = span-fits L aft fwd in
-    rw (← twice-from-nothing (law-falls hL hB) (layer-rises L B 0 b hB zero-le h) (no-cut L B b) (no-chance L B b) t x, denominators (unit (law L B)) (law L B .λx * L) (5 * B ^ 2))
-    (is-mixed (P-at hL hB x t k) (G-at hL hB x b h t k) (C-is B b hB h) (c-at-most B b h))
+    rw (← twice-from-nothing (law-falls hL hB) (layer-rises L B 0 b hB zero-le h) (no-cut L B b) (no-chance L B b) (touch L aft fwd) (fwd - aft), denominators (unit (law L B)) (law L B .λx * L) (5 * B ^ 2))
+    (is-mixed (P-is hL B aft fwd) (G-is hL hB b h aft fwd) (C-is B b hB h) (c-at-most B b h))
   where
     denominators : (u z d : ℕ) → 2 * (d * u * z) ≡ 2 * (u * z) * d
     denominators u z d = omega arith

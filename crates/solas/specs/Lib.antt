@@ -6,3 +6,5 @@ pub mod Height
 pub mod Survival
 pub mod Index
 pub mod General
+pub mod Regulation
+pub mod OfSolas

@@ -1,0 +1,88 @@
+-- Fractions whose parts are polynomials in some numbers: what sums, products and quotients come to, and which are equal, by computation. Assumes nothing.
+use Prim.Native.Nat.{ℕ, _+_, _*_, _<_}
+use mathlib.Core.Path.{_≡_, ap}
+use mathlib.Core.List.{List, [], _∷_}
+use native.Mathlib.Nat.{mul-pos, mul-comm, eq-of-mul-eq-mul-right}
+use native.Mathlib.Omega.{arith}
+use lib.Dec.{T, ltb, lit<}
+use Rattle.laws.specs.Polynomial.{Expr, C, _:+_, _:*_, value}
+use Rattle.laws.specs.Fraction.{Fraction, den, _over_, Is, _≈_, _⊹_, _⊝_, _⊛_, _⊘_}
+use Rattle.laws.proofs.Claim.{_:=_, _⊢_, test}
+use Rattle.laws.proofs.Certificate.{claim-holds}
+use Rattle.laws.proofs.Fraction.{is-over, is-widened, is-⊹, is-⊝, is-⊛, is-⊘, same}
+
+infixl 6 _⊹ᵗ_
+infixl 6 _⊝ᵗ_
+infixl 7 _⊛ᵗ_
+-- ---- (a - b)/d in other words
+
+pub is-also : {f : Fraction} {a b d : ℕ} (a′ b′ d′ : ℕ) → 0 < d → a * d′ + b′ * d ≡ a′ * d + b * d′ → Is f a b d → Is f a′ b′ d′
+is-also {f} {a} {b} {d} a′ b′ d′ p e h =
+    record { cross = eq-of-mul-eq-mul-right d p (f .up * d′ + b′ * den f) (a′ * den f + f .down * d′) (omega (arith, ap (λ z. z * d′) (h .cross), ap (λ z. z * den f) e)) }
+
+pub is-widened-behind : {f : Fraction} {a b d : ℕ} (k : ℕ) → Is f a b d → Is f (k * a) (k * b) (d * k)
+is-widened-behind {f} {a} {b} {d} k h = rw (mul-comm d k) (is-widened k h)
+
+-- ---- f is (plus - minus)/under, where the variables are ρ
+
+pub record Term (ρ : List ℕ) (f : Fraction) : Type 0 where
+  pub plus : Expr
+  pub minus : Expr
+  pub under : Expr
+  pub positive : 0 < value under ρ
+  pub is : Is f (value plus ρ) (value minus ρ) (value under ρ)
+
+abbrev pub constant : {ρ : List ℕ} {f : Fraction} {a b d : ℕ} → T (ltb 0 d) → Is f a b d → Term ρ f
+constant {a} {b} {d} p h = record { plus = C a; minus = C b; under = C d; positive = lit< p; is = h }
+
+abbrev pub number : {ρ : List ℕ} (n d : ℕ) → T (ltb 0 d) → Term ρ (n over d)
+number n d p = constant p (is-over n (lit< p))
+
+abbrev pub _⊹ᵗ_ : {ρ : List ℕ} {f g : Fraction} → Term ρ f → Term ρ g → Term ρ (f ⊹ g)
+_⊹ᵗ_ {ρ} s t = record {
+  plus = t .under :* s .plus :+ s .under :* t .plus;
+  minus = t .under :* s .minus :+ s .under :* t .minus;
+  under = t .under :* s .under;
+  positive = mul-pos (t .positive) (s .positive);
+  is = is-⊹ (is-widened (value (t .under) ρ) (s .is)) (is-widened-behind (value (s .under) ρ) (t .is));
+}
+
+abbrev pub _⊝ᵗ_ : {ρ : List ℕ} {f g : Fraction} → Term ρ f → Term ρ g → Term ρ (f ⊝ g)
+_⊝ᵗ_ {ρ} s t = record {
+  plus = t .under :* s .plus :+ s .under :* t .minus;
+  minus = t .under :* s .minus :+ s .under :* t .plus;
+  under = t .under :* s .under;
+  positive = mul-pos (t .positive) (s .positive);
+  is = is-⊝ (is-widened (value (t .under) ρ) (s .is)) (is-widened-behind (value (s .under) ρ) (t .is));
+}
+
+abbrev pub _⊛ᵗ_ : {ρ : List ℕ} {f g : Fraction} → Term ρ f → Term ρ g → Term ρ (f ⊛ g)
+_⊛ᵗ_ s t = record {
+  plus = s .plus :* t .plus :+ s .minus :* t .minus;
+  minus = s .plus :* t .minus :+ s .minus :* t .plus;
+  under = s .under :* t .under;
+  positive = mul-pos (s .positive) (t .positive);
+  is = is-⊛ (s .is) (t .is);
+}
+
+-- ---- terms are compared as polynomials
+
+-- f is (a - b)/d too
+abbrev pub Also : {ρ : List ℕ} {f : Fraction} → Term ρ f → Expr → Expr → Expr → Type 0
+Also t a b d = T (test ([] ⊢ t .plus :* d :+ b :* t .under := a :* t .under :+ t .minus :* d))
+
+pub also : {ρ : List ℕ} {f : Fraction} (t : Term ρ f) (a b d : Expr) → Also t a b d → Is f (value a ρ) (value b ρ) (value d ρ)
+also {ρ} t a b d h = is-also (value a ρ) (value b ρ) (value d ρ) (t .positive) (claim-holds ρ ([] ⊢ t .plus :* d :+ b :* t .under := a :* t .under :+ t .minus :* d) h) (t .is)
+
+pub agree : {ρ : List ℕ} {f g : Fraction} (s : Term ρ f) (t : Term ρ g) → Also s (t .plus) (t .minus) (t .under) → f ≈ g
+agree s t h = same (t .positive) (also s (t .plus) (t .minus) (t .under) h) (t .is)
+
+-- f divided by a g that is c/e and above 0
+abbrev pub quotient : {ρ : List ℕ} {f g : Fraction} → Term ρ f → (t : Term ρ g) (c e : Expr) → 0 < value c ρ → Also t c (C 0) e → Term ρ (f ⊘ g)
+quotient s t c e p h = record {
+  plus = s .plus :* e;
+  minus = s .minus :* e;
+  under = s .under :* c;
+  positive = mul-pos (s .positive) p;
+  is = is-⊘ p (s .is) (also t c (C 0) e h);
+}

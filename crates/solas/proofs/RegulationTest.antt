@@ -1,0 +1,57 @@
+-- Which of two fractions is the lesser, by the numerators over one denominator; and the root of one. Assumes nothing.
+use Prim.Native.Nat.{ℕ, _+_, _-_, _*_, _≤_, _<_}
+use mathlib.Core.Path.{_≡_, refl, ap, sym, _∙_}
+use mathlib.Core.Bool.{Bool, true, false, not, cond}
+use native.Mathlib.Nat.{mul-pos, mul-lt-mul-of-pos-left, mul-le-mul-left, mul-le-mul-right, le-antisymm, le-dest}
+use native.Mathlib.Omega.{arith, by-contra}
+use lib.Dec.{T, leb, leb→le, le→leb}
+use Rattle.laws.specs.Fraction.{Fraction, den, Is, _≈_, _≼_, whole, _⊛_}
+use Rattle.laws.proofs.Fraction.{positive, below, numerators-below, numerators-same, is-self, is-whole, is-⊛, is-≈, is-shifted, same, ≈-trans}
+use Rattle.solas.specs.Regulation.{_≼?_, lesser, IsRoot}
+
+-- ---- tests
+
+equal-tests : (b c : Bool) → (T b → T c) → (T c → T b) → b ≡ c
+equal-tests true true f g = refl
+equal-tests true false f g = absurd (f tt)
+equal-tests false true f g = absurd (g tt)
+equal-tests false false f g = refl
+
+pub passed : (b : Bool) → T b → b ≡ true
+passed true t = refl
+passed false t = absurd t
+
+-- a fact on a test holds where it holds in both cases
+pub by-test : (b : Bool) (P : Bool → Type 0) → (T b → P true) → (T (not b) → P false) → P b
+by-test true P f g = f tt
+by-test false P f g = g tt
+
+-- ---- f ≤ g, where f = (a - b)/d and g = (a′ - b′)/d
+
+pub test-by-numerators : {f g : Fraction} {a b a′ b′ d : ℕ} → 0 < d → Is f a b d → Is g a′ b′ d → (f ≼? g) ≡ leb (a + b′) (a′ + b)
+unfolding _≼?_
+test-by-numerators {f} {g} {a} {b} {a′} {b′} {d} p h k =
+    equal-tests (leb (f .up * den g + g .down * den f) (g .up * den f + f .down * den g)) (leb (a + b′) (a′ + b))
+    (λ t. let l : f ≼ g = record { cross = leb→le _ _ t } in le→leb (a + b′) (a′ + b) (numerators-below l h k))
+    (λ t. le→leb _ _ ((below p h k (leb→le (a + b′) (a′ + b) t)) .cross))
+
+pub lesser-by-numerators : {f g : Fraction} {a b a′ b′ d : ℕ} → 0 < d → Is f a b d → Is g a′ b′ d → lesser f g ≡ cond (leb (a + b′) (a′ + b)) f g
+unfolding lesser
+lesser-by-numerators p h k = rw (test-by-numerators p h k)
+
+-- ---- roots
+
+not-above : (w d : ℕ) → w * w ≡ d * d → w ≤ d
+not-above w d e = by-contra w d (λ (h : d < w). let (k, f) = le-dest h in omega (arith, rw (← f) at e))
+
+pub root-of-one : {r f : Fraction} → IsRoot r f → f ≈ whole 1 → r ≈ whole 1
+root-of-one {r} {f} h e =
+    let s = numerators-below (h .notNegative) (is-whole 0 (positive r)) (is-self r) in
+    let q = numerators-same (≈-trans (h .square) e) (is-⊛ (is-self r) (is-self r)) (is-whole 1 (mul-pos (positive r) (positive r))) in
+    same (positive r) (is-self r) (is-shifted (r .up) (r .down) (apart (r .up) (r .down) (den r) (omega (arith, s)) (omega (arith, q))) (is-whole 1 (positive r)))
+  where
+    apart : (u v D : ℕ) → v ≤ u → u * u + v * v ≡ D * D + (u * v + v * u) → 1 * D + v ≡ u + 0
+    apart u v D l q =
+        let (w, g) = le-dest l in
+        let z : w * w ≡ D * D = omega (arith, rw (← g) at q) in
+        omega (arith, le-antisymm (not-above w D z) (not-above D w (sym z)))

@@ -1,0 +1,31 @@
+-- What "those of SOLAS" means: the letters of regulation 7-1 come to document 01's forms, for every ship of up to 198 m. Assumes nothing.
+use Prim.Native.Nat.{ℕ, _+_, _-_, _*_, _≤_, _<_}
+use Rattle.laws.specs.Fraction.{Fraction, _less_over_, _over_, whole, _≈_, _≼_, _≺_, _⊛_}
+use Rattle.solas.specs.Regulation
+use Rattle.solas.specs.Regulation.{IsRoot, L*, Jm, under√, Jk, b0, b11, b12, b21, b22}
+
+-- 01 starts at 80 m, which nothing here needs; √ is the root in the ship's Jk
+pub record UpTo198m (Ls : ℕ) (√ : Fraction) : Type 0 where
+  pub some : 0 < Ls
+  pub short : Ls ≤ 19800
+  pub root : IsRoot √ (under√ Ls)
+
+-- 01: "For Ls up to 198 m the regulation's constants become .."
+pub record Constants (Ls : ℕ) (√ : Fraction) : Type 0 where
+  pub not-long : whole Ls ≼ L*
+  pub the-Jm : Jm Ls ≈ 10 over 33
+  pub the-under√ : under√ Ls ≈ whole 1
+  pub the-√ : √ ≈ whole 1
+  pub the-Jk : Jk Ls √ ≈ 5 over 33
+  pub the-b0 : b0 ≈ whole 11
+  pub the-b11 : b11 Ls √ ≈ 0 less 3267 over 50
+  pub the-b12 : b12 Ls √ ≈ whole 11
+  pub the-b21 : b21 Ls √ ≈ 0 less 363 over 50
+  pub the-b22 : b22 Ls √ ≈ 11 over 5
+
+abbrev pub ConstantsAre01's : Type 0
+ConstantsAre01's = (Ls : ℕ) (√ : Fraction) → UpTo198m Ls √ → Constants Ls √
+
+-- there is such a root for each of these ships, and so nothing here is said of none
+abbrev pub RootsAreThere : Type 0
+RootsAreThere = (Ls : ℕ) → 0 < Ls → Ls ≤ 19800 → UpTo198m Ls (whole 1)

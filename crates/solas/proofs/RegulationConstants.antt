@@ -21,7 +21,7 @@ Jm-is-Jmax Ls p h =
     let d : 0 < 33 * Ls = omega arith in
     let f : Is (10 over 33) (10 * Ls) 0 (33 * Ls) = is-also (10 * Ls) 0 (33 * Ls) (lit< tt) (omega arith) (is-over 10 {d = 33} (lit< tt)) in
     let g : Is (whole 6000 ⊘ whole Ls) 198000 0 (33 * Ls) = is-also 198000 0 (33 * Ls) (omega arith) (omega arith) (is-⊘ p (is-over 6000 {d = 1} (lit< tt)) (is-over Ls {d = 1} (lit< tt))) in
-    let t : leb (10 * Ls + 0) (198000 + 0) ≡ true = passed _ (le→leb (10 * Ls + 0) (198000 + 0) (omega arith)) in
+    let t : leb (10 * Ls) 198000 ≡ true = passed _ (le→leb (10 * Ls) 198000 (omega arith)) in
     rw (lesser-by-numerators d f g, t)
 
 closed-root : whole 1 ⊹ (whole 1 ⊝ whole 2 ⊛ pk) ⊛ b0 ⊛ Jmax ⊹ ¼ ⊛ b0 ² ⊛ Jmax ² ≈ whole 1

@@ -5,11 +5,11 @@ use mathlib.Core.List.{List, [], _∷_}
 use native.Mathlib.Nat.{mul-pos, mul-comm, eq-of-mul-eq-mul-right}
 use native.Mathlib.Omega.{arith}
 use lib.Dec.{T, ltb, lit<}
-use Rattle.laws.specs.Polynomial.{Expr, C, _:+_, _:*_, value}
-use Rattle.laws.specs.Fraction.{Fraction, den, _over_, Is, _≈_, _⊹_, _⊝_, _⊛_, _⊘_}
+use Rattle.laws.specs.Polynomial.{Expr, X, C, _:+_, _:*_, place, value}
+use Rattle.laws.specs.Fraction.{Fraction, den, _less_over_, _over_, Is, _≈_, _⊹_, _⊝_, _⊛_, _⊘_}
 use Rattle.laws.proofs.Claim.{_:=_, _⊢_, test}
 use Rattle.laws.proofs.Certificate.{claim-holds}
-use Rattle.laws.proofs.Fraction.{is-over, is-widened, is-⊹, is-⊝, is-⊛, is-⊘, same}
+use Rattle.laws.proofs.Fraction.{is-over, is-less-over, is-widened, is-⊹, is-⊝, is-⊛, is-⊘, same}
 
 infixl 6 _⊹ᵗ_
 infixl 6 _⊝ᵗ_
@@ -37,6 +37,13 @@ constant {a} {b} {d} p h = record { plus = C a; minus = C b; under = C d; positi
 
 abbrev pub number : {ρ : List ℕ} (n d : ℕ) → T (ltb 0 d) → Term ρ (n over d)
 number n d p = constant p (is-over n (lit< p))
+
+-- a fraction that is not looked into: its parts are variables from place i on
+abbrev pub unknown : {ρ : List ℕ} {f : Fraction} (i : ℕ) → 0 < place (i + 2) ρ → Is f (place i ρ) (place (i + 1) ρ) (place (i + 2) ρ) → Term ρ f
+unknown i p h = record { plus = X i; minus = X (i + 1); under = X (i + 2); positive = p; is = h }
+
+abbrev pub polynomial : {ρ : List ℕ} (a b d : Expr) → 0 < value d ρ → Term ρ (value a ρ less value b ρ over value d ρ)
+polynomial {ρ} a b d p = record { plus = a; minus = b; under = d; positive = p; is = is-less-over (value a ρ) (value b ρ) p }
 
 abbrev pub _⊹ᵗ_ : {ρ : List ℕ} {f g : Fraction} → Term ρ f → Term ρ g → Term ρ (f ⊹ g)
 _⊹ᵗ_ {ρ} s t = record {

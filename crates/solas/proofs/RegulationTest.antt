@@ -21,21 +21,26 @@ pub passed : (b : Bool) → T b → b ≡ true
 passed true t = refl
 passed false t = absurd t
 
--- a fact on a test holds where it holds in both cases
-pub by-test : (b : Bool) (P : Bool → Type 0) → (T b → P true) → (T (not b) → P false) → P b
-by-test true P f g = f tt
-by-test false P f g = g tt
+-- two choices by one test
+pub same-choice : (t : Bool) {f g f′ g′ : Fraction} → f ≈ f′ → g ≈ g′ → cond t f g ≈ cond t f′ g′
+same-choice true h k = h
+same-choice false h k = k
 
--- ---- f ≤ g, where f = (a - b)/d and g = (a′ - b′)/d
+-- what is so for either outcome is so for the choice
+pub chosen : (t : Bool) {c f g e f′ g′ : Fraction} → c ≡ cond t f g → (c ≡ f → e ≈ f′) → (c ≡ g → e ≈ g′) → e ≈ cond t f′ g′
+chosen true e h k = h e
+chosen false e h k = k e
 
-pub test-by-numerators : {f g : Fraction} {a b a′ b′ d : ℕ} → 0 < d → Is f a b d → Is g a′ b′ d → (f ≼? g) ≡ leb (a + b′) (a′ + b)
+-- ---- f and g, where f = a/d and g = c/d
+
+pub test-by-numerators : {f g : Fraction} {a c d : ℕ} → 0 < d → Is f a 0 d → Is g c 0 d → (f ≼? g) ≡ leb a c
 unfolding _≼?_
-test-by-numerators {f} {g} {a} {b} {a′} {b′} {d} p h k =
-    equal-tests (leb (f .up * den g + g .down * den f) (g .up * den f + f .down * den g)) (leb (a + b′) (a′ + b))
-    (λ t. let l : f ≼ g = record { cross = leb→le _ _ t } in le→leb (a + b′) (a′ + b) (numerators-below l h k))
-    (λ t. le→leb _ _ ((below p h k (leb→le (a + b′) (a′ + b) t)) .cross))
+test-by-numerators {f} {g} {a} {c} {d} p h k =
+    equal-tests (leb (f .up * den g + g .down * den f) (g .up * den f + f .down * den g)) (leb a c)
+    (λ t. let l : f ≼ g = record { cross = leb→le _ _ t } in le→leb a c (omega (arith, numerators-below l h k)))
+    (λ t. le→leb _ _ ((below p h k (omega (arith, leb→le a c t))) .cross))
 
-pub lesser-by-numerators : {f g : Fraction} {a b a′ b′ d : ℕ} → 0 < d → Is f a b d → Is g a′ b′ d → lesser f g ≡ cond (leb (a + b′) (a′ + b)) f g
+pub lesser-by-numerators : {f g : Fraction} {a c d : ℕ} → 0 < d → Is f a 0 d → Is g c 0 d → lesser f g ≡ cond (leb a c) f g
 unfolding lesser
 lesser-by-numerators p h k = rw (test-by-numerators p h k)
 

@@ -1,8 +1,9 @@
 -- What "those of SOLAS" means: the letters of regulation 7-1 come to document 01's forms, for every ship of up to 198 m. Assumes nothing.
 use Prim.Native.Nat.{ℕ, _+_, _-_, _*_, _≤_, _<_}
 use Rattle.laws.specs.Fraction.{Fraction, _less_over_, _over_, whole, _≈_, _≼_, _≺_, _⊛_}
-use Rattle.solas.specs.Regulation
-use Rattle.solas.specs.Regulation.{IsRoot, L*, Jm, under√, Jk, b0, b11, b12, b21, b22}
+use Rattle.solas.specs.Span
+use Rattle.solas.specs.Span.{P}
+use Rattle.solas.specs.Regulation.{IsRoot, L*, Jm, under√, Jk, b0, b11, b12, b21, b22, p1or2, p}
 
 -- 01 starts at 80 m, which nothing here needs; √ is the root in the ship's Jk
 pub record UpTo198m (Ls : ℕ) (√ : Fraction) : Type 0 where
@@ -23,9 +24,18 @@ pub record Constants (Ls : ℕ) (√ : Fraction) : Type 0 where
   pub the-b21 : b21 Ls √ ≈ 0 less 363 over 50
   pub the-b22 : b22 Ls √ ≈ 11 over 5
 
+-- 2.6.2 and 01's bands; its p and 01's P, by the ends that the span touches
+pub record Spans (Ls : ℕ) (√ : Fraction) (x1 x2 : ℕ) : Type 0 where
+  pub inner : p1or2 Ls √ x1 x2 ≈ Span.p Ls (x2 - x1)
+  pub outer : p Ls √ x1 x2 ≈ P Ls x1 x2
+
+-- ---- the promises
 abbrev pub ConstantsAre01's : Type 0
 ConstantsAre01's = (Ls : ℕ) (√ : Fraction) → UpTo198m Ls √ → Constants Ls √
 
--- there is such a root for each of these ships, and so nothing here is said of none
+-- each of these ships has such a root: nothing here is said of none
 abbrev pub RootsAreThere : Type 0
 RootsAreThere = (Ls : ℕ) → 0 < Ls → Ls ≤ 19800 → UpTo198m Ls (whole 1)
+
+abbrev pub SpansAre01's : Type 0
+SpansAre01's = (Ls : ℕ) (√ : Fraction) → UpTo198m Ls √ → (x1 x2 : ℕ) → x1 ≤ x2 → Spans Ls √ x1 x2

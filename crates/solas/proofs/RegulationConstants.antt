@@ -12,17 +12,15 @@ use Rattle.laws.proofs.Fraction.{is-over, is-whole, is-⊘, is-≈, is-less-ove
 use Rattle.solas.specs.Regulation.{¼, _², lesser, IsRoot, Jmax, Jkn, pk, lmax, L*, b0, Jm, under√, Jk, b11, b12, b21, b22}
 use Rattle.solas.specs.OfSolas.{UpTo198m, Constants, ConstantsAre01's, RootsAreThere}
 use Rattle.solas.proofs.RegulationTerm.{is-also, Term, number, _⊹ᵗ_, _⊝ᵗ_, _⊛ᵗ_, constant, Also, also, agree, quotient}
-use Rattle.solas.proofs.RegulationTest.{passed, lesser-by-numerators, root-of-one}
+use Rattle.solas.proofs.RegulationTest.{passed, lesser-crossed, root-of-one}
 
 -- lmax/Ls is not below 10/33 where Ls is not above 198 m
 Jm-is-Jmax : (Ls : ℕ) → 0 < Ls → Ls ≤ 19800 → Jm Ls ≡ Jmax
 unfolding Jm Jmax lmax
 Jm-is-Jmax Ls p h =
-    let d : 0 < 33 * Ls = omega arith in
-    let f : Is (10 over 33) (10 * Ls) 0 (33 * Ls) = is-also (10 * Ls) 0 (33 * Ls) (lit< tt) (omega arith) (is-over 10 {d = 33} (lit< tt)) in
-    let g : Is (whole 6000 ⊘ whole Ls) 198000 0 (33 * Ls) = is-also 198000 0 (33 * Ls) (omega arith) (omega arith) (is-⊘ p (is-over 6000 {d = 1} (lit< tt)) (is-over Ls {d = 1} (lit< tt))) in
-    let t : leb (10 * Ls) 198000 ≡ true = passed _ (le→leb (10 * Ls) 198000 (omega arith)) in
-    rw (lesser-by-numerators d f g, t)
+    let g : Is (whole 6000 ⊘ whole Ls) 6000 0 Ls = is-also 6000 0 Ls (omega arith) (omega arith) (is-⊘ p (is-over 6000 {d = 1} (lit< tt)) (is-over Ls {d = 1} (lit< tt))) in
+    let t : leb (Ls * 10) (6000 * 33) ≡ true = passed _ (le→leb (Ls * 10) (6000 * 33) (omega arith)) in
+    rw (lesser-crossed (lit< tt) p (is-over 10 {d = 33} (lit< tt)) g, t)
 
 closed-root : whole 1 ⊹ (whole 1 ⊝ whole 2 ⊛ pk) ⊛ b0 ⊛ Jmax ⊹ ¼ ⊛ b0 ² ⊛ Jmax ² ≈ whole 1
 unfolding Jmax Jkn pk b0 _⊹_ _⊝_ _⊛_ _⊘_ _less_over_

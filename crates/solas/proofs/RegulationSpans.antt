@@ -5,7 +5,7 @@ use mathlib.Core.List.{List, [], _∷_}
 use mathlib.Core.Bool.{Bool, true, false, cond, _&&_, _||_}
 use native.Mathlib.Nat.{mul-pos, one-le-pow}
 use native.Mathlib.Omega.{arith}
-use lib.Dec.{leb, eqb, lit<}
+use lib.Dec.{leb, le→leb, eqb, lit<}
 use Rattle.laws.specs.Polynomial.{Expr, X, C, _:+_, _:*_, _:^_, value}
 use Rattle.laws.specs.Fraction.{Fraction, den, _less_over_, _over_, whole, Is, _≈_, _⊹_, _⊝_, _⊛_, _⊘_}
 use Rattle.laws.proofs.Fraction.{is-over, is-less-over, is-⊝, is-⊘, is-shifted, is-self, is-≈, positive, same, ≈-refl, ⊹-≈}
@@ -14,14 +14,11 @@ use Rattle.solas.specs.Span.{Touch, neither, one, both, touch, half, PAt
 use Rattle.solas.specs.Regulation.{½, ⅓, ⅙, ⊖_, _², _³, _≼?_, lesser, Jm, Jk, b11, b12, b21, b22, J, Jn, p1, p2, p1or2, byEnds, p}
 use Rattle.solas.specs.OfSolas.{UpTo198m, SpansAre01's}
 use Rattle.solas.proofs.RegulationTerm.{is-also, Term, number, constant, unknown, polynomial, _⊹ᵗ_, _⊝ᵗ_, _⊛ᵗ_, agree}
-use Rattle.solas.proofs.RegulationTest.{same-choice, chosen, test-by-numerators, lesser-by-numerators}
+use Rattle.solas.proofs.RegulationTest.{passed, same-choice, chosen, test-crossed, lesser-crossed}
 use Rattle.solas.proofs.RegulationConstants.{Jm-is, Jk-is, b11-is, b12-is, b21-is, b22-is}
 
 by-whole : {f : Fraction} (x L : ℕ) → 0 < L → Is f x 0 1 → Is (f ⊘ whole L) x 0 L
 by-whole x L p h = is-also x 0 L (omega arith) (omega arith) (is-⊘ p h (is-over L {d = 1} (lit< tt)))
-
-in-33rds : {f : Fraction} {x L : ℕ} → 0 < L → Is f x 0 L → Is f (33 * x) 0 (33 * L)
-in-33rds {f} {x} {L} p h = is-also (33 * x) 0 (33 * L) p (omega arith) h
 
 -- ---- 002's order of the ends and 01's
 
@@ -53,13 +50,17 @@ module _ {Ls : ℕ} {√ : Fraction} (u : UpTo198m Ls √) {x1 x2 : ℕ} (h : x1
     abbrev pub b12ᵗ : Term ((x2 - x1) ∷ Ls ∷ ρ) (b12 Ls √)
     b12ᵗ = constant tt (b12-is u)
 
+    unfoldable pub p1ᵗ : Term ((x2 - x1) ∷ Ls ∷ ρ) (p1 Ls √ x1 x2)
+    unfolding p1
+    p1ᵗ = number 1 6 tt ⊛ᵗ (Jᵗ ⊛ᵗ Jᵗ) ⊛ᵗ (b11ᵗ ⊛ᵗ Jᵗ ⊹ᵗ number 3 1 tt ⊛ᵗ b12ᵗ)
+
   cube : 0 < Ls ^ 3
   cube = one-le-pow 3 Ls (u .some)
 
   first-band : p1 Ls √ x1 x2 ≈ (550 * (x2 - x1) ^ 2 * Ls) less (1089 * (x2 - x1) ^ 3) over (100 * Ls ^ 3)
-  unfolding p1
+  unfolding p1ᵗ
   first-band =
-      agree (number 1 6 tt ⊛ᵗ (Jᵗ [] ⊛ᵗ Jᵗ []) ⊛ᵗ (b11ᵗ [] ⊛ᵗ Jᵗ [] ⊹ᵗ number 3 1 tt ⊛ᵗ b12ᵗ []))
+      agree (p1ᵗ [])
       (polynomial (C 550 :* X 0 :^ 2 :* X 1) (C 1089 :* X 0 :^ 3) (C 100 :* X 1 :^ 3) (mul-pos (lit< tt) cube)) tt
 
   -- p2, by what Jn is
@@ -91,21 +92,20 @@ module _ {Ls : ℕ} {√ : Fraction} (u : UpTo198m Ls √) {x1 x2 : ℕ} (h : x1
   unfolding p2ᵗ
   third-band e = agree (p2ᵗ (constant tt (rw (← e) at (Jm-is u)))) (polynomial (C 297 :* X 0) (C 20 :* X 1) (C 297 :* X 1) (mul-pos (lit< tt) (u .some))) tt
 
-  over-33 : 0 < 33 * Ls
-  over-33 = mul-pos (lit< tt) (u .some)
-
-  of-33 : {f : Fraction} {c : ℕ} → Is f c 0 33 → Is f (c * Ls) 0 (33 * Ls)
-  of-33 {f} {c} k = is-also (c * Ls) 0 (33 * Ls) (lit< tt) (omega arith) k
-
   Jn-is : Jn Ls √ x1 x2 ≡ cond (leb (33 * (x2 - x1)) (10 * Ls)) (J Ls √ x1 x2) (Jm Ls)
   unfolding Jn
-  Jn-is = lesser-by-numerators over-33 (in-33rds (u .some) J-is) (of-33 (Jm-is u))
+  Jn-is = lesser-crossed (u .some) (lit< tt) J-is (Jm-is u)
 
   pub inner-p : p1or2 Ls √ x1 x2 ≈ Span.p Ls (x2 - x1)
   unfolding p1or2 Span.p
   inner-p =
-      rw (test-by-numerators over-33 (in-33rds (u .some) J-is) (of-33 (Jk-is u)))
-      (same-choice (leb (33 * (x2 - x1)) (5 * Ls)) first-band (chosen (leb (33 * (x2 - x1)) (10 * Ls)) Jn-is second-band third-band))
+      rw (test-crossed (u .some) (lit< tt) J-is (Jk-is u))
+      (same-choice (leb (33 * (x2 - x1)) (5 * Ls)) first-band (chosen (leb (33 * (x2 - x1)) (10 * Ls)) Jn-is (λ t e. second-band e) third-band))
+
+  -- in the first band
+  pub p1-is-p : 33 * (x2 - x1) ≤ 5 * Ls → p1 Ls √ x1 x2 ≈ Span.p Ls (x2 - x1)
+  unfolding Span.p
+  p1-is-p k = rw (passed (leb (33 * (x2 - x1)) (5 * Ls)) (le→leb _ _ k)) first-band
 
   pub J-≈ : J Ls √ x1 x2 ≈ ((x2 - x1) over Ls)
   J-≈ = same (u .some) J-is (is-over (x2 - x1) (u .some))

@@ -7,6 +7,7 @@ use native.Mathlib.Omega.{arith, by-contra}
 use lib.Dec.{T, leb, leb→le, le→leb}
 use Rattle.laws.specs.Fraction.{Fraction, den, Is, _≈_, _≼_, whole, _⊛_}
 use Rattle.laws.proofs.Fraction.{positive, below, numerators-below, numerators-same, is-self, is-whole, is-⊛, is-≈, is-shifted, same, ≈-trans}
+use Rattle.solas.proofs.RegulationTerm.{is-also}
 use Rattle.solas.specs.Regulation.{_≼?_, lesser, IsRoot}
 
 -- ---- tests
@@ -27,22 +28,24 @@ same-choice true h k = h
 same-choice false h k = k
 
 -- what is so for either outcome is so for the choice
-pub chosen : (t : Bool) {c f g e f′ g′ : Fraction} → c ≡ cond t f g → (c ≡ f → e ≈ f′) → (c ≡ g → e ≈ g′) → e ≈ cond t f′ g′
-chosen true e h k = h e
+pub chosen : (t : Bool) {c f g e f′ g′ : Fraction} → c ≡ cond t f g → (T t → c ≡ f → e ≈ f′) → (c ≡ g → e ≈ g′) → e ≈ cond t f′ g′
+chosen true e h k = h tt e
 chosen false e h k = k e
 
--- ---- f and g, where f = a/d and g = c/d
+-- ---- f and g, where f = a/d and g = c/e
 
-pub test-by-numerators : {f g : Fraction} {a c d : ℕ} → 0 < d → Is f a 0 d → Is g c 0 d → (f ≼? g) ≡ leb a c
+pub test-crossed : {f g : Fraction} {a d c e : ℕ} → 0 < d → 0 < e → Is f a 0 d → Is g c 0 e → (f ≼? g) ≡ leb (e * a) (c * d)
 unfolding _≼?_
-test-by-numerators {f} {g} {a} {c} {d} p h k =
-    equal-tests (leb (f .up * den g + g .down * den f) (g .up * den f + f .down * den g)) (leb a c)
-    (λ t. let l : f ≼ g = record { cross = leb→le _ _ t } in le→leb a c (omega (arith, numerators-below l h k)))
-    (λ t. le→leb _ _ ((below p h k (omega (arith, leb→le a c t))) .cross))
+test-crossed {f} {g} {a} {d} {c} {e} p q h k =
+    let m : Is f (e * a) 0 (e * d) = is-also (e * a) 0 (e * d) p (omega arith) h in
+    let n : Is g (c * d) 0 (e * d) = is-also (c * d) 0 (e * d) q (omega arith) k in
+    equal-tests (leb (f .up * den g + g .down * den f) (g .up * den f + f .down * den g)) (leb (e * a) (c * d))
+    (λ t. let l : f ≼ g = record { cross = leb→le _ _ t } in le→leb (e * a) (c * d) (omega (arith, numerators-below l m n)))
+    (λ t. le→leb _ _ ((below (mul-pos q p) m n (omega (arith, leb→le (e * a) (c * d) t))) .cross))
 
-pub lesser-by-numerators : {f g : Fraction} {a c d : ℕ} → 0 < d → Is f a 0 d → Is g c 0 d → lesser f g ≡ cond (leb a c) f g
+pub lesser-crossed : {f g : Fraction} {a d c e : ℕ} → 0 < d → 0 < e → Is f a 0 d → Is g c 0 e → lesser f g ≡ cond (leb (e * a) (c * d)) f g
 unfolding lesser
-lesser-by-numerators p h k = rw (test-by-numerators p h k)
+lesser-crossed p q h k = rw (test-crossed p q h k)
 
 -- ---- roots
 

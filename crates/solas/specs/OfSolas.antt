@@ -3,6 +3,8 @@ use Prim.Native.Nat.{ℕ, _+_, _-_, _*_, _≤_, _<_}
 use Rattle.laws.specs.Fraction.{Fraction, _less_over_, _over_, whole, _≈_, _≼_, _≺_, _⊛_}
 use Rattle.solas.specs.Span
 use Rattle.solas.specs.Span.{P}
+use Rattle.solas.specs.Penetration
+use Rattle.solas.specs.Regulation
 use Rattle.solas.specs.Regulation.{IsRoot, L*, Jm, under√, Jk, b0, b11, b12, b21, b22, p1or2, p}
 
 -- 01 starts at 80 m, which nothing here needs; √ is the root in the ship's Jk
@@ -29,6 +31,12 @@ pub record Spans (Ls : ℕ) (√ : Fraction) (x1 x2 : ℕ) : Type 0 where
   pub inner : p1or2 Ls √ x1 x2 ≈ Span.p Ls (x2 - x1)
   pub outer : p Ls √ x1 x2 ≈ P Ls x1 x2
 
+-- 2.6.3; its G and 01's, by the ends that the span touches
+pub record Penetrations (Ls : ℕ) (√ : Fraction) (x1 x2 B b : ℕ) : Type 0 where
+  pub the-C : Regulation.C Ls √ x1 x2 B b ≈ Penetration.C B b
+  pub the-G1 : Regulation.G1 Ls √ x1 x2 B b ≈ Penetration.G1 B b
+  pub the-G : Regulation.G Ls √ x1 x2 B b ≈ Penetration.G Ls B x1 x2 b
+
 -- ---- the promises
 abbrev pub ConstantsAre01's : Type 0
 ConstantsAre01's = (Ls : ℕ) (√ : Fraction) → UpTo198m Ls √ → Constants Ls √
@@ -39,3 +47,6 @@ RootsAreThere = (Ls : ℕ) → 0 < Ls → Ls ≤ 19800 → UpTo198m Ls (whole 1)
 
 abbrev pub SpansAre01's : Type 0
 SpansAre01's = (Ls : ℕ) (√ : Fraction) → UpTo198m Ls √ → (x1 x2 : ℕ) → x1 ≤ x2 → Spans Ls √ x1 x2
+
+abbrev pub PenetrationsAre01's : Type 0
+PenetrationsAre01's = (Ls : ℕ) (√ : Fraction) → UpTo198m Ls √ → (x1 x2 B b : ℕ) → x1 ≤ x2 → 0 < B → 2 * b ≤ B → Penetrations Ls √ x1 x2 B b

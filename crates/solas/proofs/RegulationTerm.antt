@@ -1,11 +1,12 @@
 -- Fractions whose parts are polynomials in some numbers: what sums, products and quotients come to, and which are equal, by computation. Assumes nothing.
 use Prim.Native.Nat.{ℕ, _+_, _*_, _<_}
-use mathlib.Core.Path.{_≡_, ap}
+use mathlib.Core.Path.{_≡_, refl, ap, sym, _∙_}
+use mathlib.Core.Bool.{Bool, true, false, cond}
 use mathlib.Core.List.{List, [], _∷_}
-use native.Mathlib.Nat.{mul-pos, mul-comm, eq-of-mul-eq-mul-right}
+use native.Mathlib.Nat.{mul-pos, mul-comm, mul-zero, zero-mul, eq-of-mul-eq-mul-right}
 use native.Mathlib.Omega.{arith}
-use lib.Dec.{T, ltb, lit<}
-use Rattle.laws.specs.Polynomial.{Expr, X, C, _:+_, _:*_, place, value}
+use lib.Dec.{T, ltb, eqb, eqb→eq, lit<}
+use Rattle.laws.specs.Polynomial.{Expr, X, C, _:+_, _:*_, _:^_, place, value}
 use Rattle.laws.specs.Fraction.{Fraction, den, _less_over_, _over_, Is, _≈_, _⊹_, _⊝_, _⊛_, _⊘_}
 use Rattle.laws.proofs.Claim.{_:=_, _⊢_, test}
 use Rattle.laws.proofs.Certificate.{claim-holds}
@@ -72,14 +73,60 @@ _⊛ᵗ_ s t = record {
   is = is-⊛ (s .is) (t .is);
 }
 
--- ---- terms are compared as polynomials
+-- ---- terms are compared as polynomials, with all that is written 0 left out first
+
+abbrev pub nought : Expr → Bool
+nought (X i) = false
+nought (C k) = eqb k 0
+nought (a :+ b) = false
+nought (a :* b) = false
+nought (a :^ k) = false
+
+abbrev pub tidy : Expr → Expr
+tidy (X i) = X i
+tidy (C k) = C k
+tidy (a :+ b) = cond (nought (tidy a)) (tidy b) (cond (nought (tidy b)) (tidy a) (tidy a :+ tidy b))
+tidy (a :* b) = cond (nought (tidy a)) (C 0) (cond (nought (tidy b)) (C 0) (tidy a :* tidy b))
+tidy (a :^ k) = a :^ k
+
+nought-value : (a : Expr) (ρ : List ℕ) → T (nought a) → value a ρ ≡ 0
+nought-value (X i) ρ t = absurd t
+nought-value (C k) ρ t = eqb→eq k 0 t
+nought-value (a :+ b) ρ t = absurd t
+nought-value (a :* b) ρ t = absurd t
+nought-value (a :^ k) ρ t = absurd t
+
+sum-value : (a b : Expr) (ρ : List ℕ) (s t : Bool) → (T s → value a ρ ≡ 0) → (T t → value b ρ ≡ 0) → value (cond s b (cond t a (a :+ b))) ρ ≡ value a ρ + value b ρ
+sum-value a b ρ true t h k = omega (arith, h tt)
+sum-value a b ρ false true h k = omega (arith, k tt)
+sum-value a b ρ false false h k = refl
+
+product-value : (a b : Expr) (ρ : List ℕ) (s t : Bool) → (T s → value a ρ ≡ 0) → (T t → value b ρ ≡ 0) →
+    value (cond s (C 0) (cond t (C 0) (a :* b))) ρ ≡ value a ρ * value b ρ
+product-value a b ρ true t h k = rw (h tt) (sym (zero-mul (value b ρ)))
+product-value a b ρ false true h k = rw (k tt) (sym (mul-zero (value a ρ)))
+product-value a b ρ false false h k = refl
+
+tidy-value : (e : Expr) (ρ : List ℕ) → value (tidy e) ρ ≡ value e ρ
+tidy-value (X i) ρ = refl
+tidy-value (C k) ρ = refl
+tidy-value (a :+ b) ρ =
+    sum-value (tidy a) (tidy b) ρ (nought (tidy a)) (nought (tidy b)) (nought-value (tidy a) ρ) (nought-value (tidy b) ρ)
+    ∙ rw (tidy-value a ρ, tidy-value b ρ)
+tidy-value (a :* b) ρ =
+    product-value (tidy a) (tidy b) ρ (nought (tidy a)) (nought (tidy b)) (nought-value (tidy a) ρ) (nought-value (tidy b) ρ)
+    ∙ rw (tidy-value a ρ, tidy-value b ρ)
+tidy-value (a :^ k) ρ = refl
 
 -- f is (a - b)/d too
 abbrev pub Also : {ρ : List ℕ} {f : Fraction} → Term ρ f → Expr → Expr → Expr → Type 0
-Also t a b d = T (test ([] ⊢ t .plus :* d :+ b :* t .under := a :* t .under :+ t .minus :* d))
+Also t a b d = T (test ([] ⊢ tidy (t .plus :* d :+ b :* t .under) := tidy (a :* t .under :+ t .minus :* d)))
 
 pub also : {ρ : List ℕ} {f : Fraction} (t : Term ρ f) (a b d : Expr) → Also t a b d → Is f (value a ρ) (value b ρ) (value d ρ)
-also {ρ} t a b d h = is-also (value a ρ) (value b ρ) (value d ρ) (t .positive) (claim-holds ρ ([] ⊢ t .plus :* d :+ b :* t .under := a :* t .under :+ t .minus :* d) h) (t .is)
+also {ρ} t a b d h =
+    let l = t .plus :* d :+ b :* t .under in
+    let r = a :* t .under :+ t .minus :* d in
+    is-also (value a ρ) (value b ρ) (value d ρ) (t .positive) (sym (tidy-value l ρ) ∙ claim-holds ρ ([] ⊢ tidy l := tidy r) h ∙ tidy-value r ρ) (t .is)
 
 pub agree : {ρ : List ℕ} {f g : Fraction} (s : Term ρ f) (t : Term ρ g) → Also s (t .plus) (t .minus) (t .under) → f ≈ g
 agree s t h = same (t .positive) (also s (t .plus) (t .minus) (t .under) h) (t .is)

@@ -22,6 +22,10 @@ pub passed : (b : Bool) → T b → b ≡ true
 passed true t = refl
 passed false t = absurd t
 
+pub either : (t : Bool) (P : Fraction → Type 0) {f g : Fraction} → (T t → P f) → (T (not t) → P g) → P (cond t f g)
+either true P h k = h tt
+either false P h k = k tt
+
 -- two choices by one test
 pub same-choice : (t : Bool) {f g f′ g′ : Fraction} → f ≈ f′ → g ≈ g′ → cond t f g ≈ cond t f′ g′
 same-choice true h k = h

@@ -4,8 +4,9 @@ use Rattle.laws.specs.Fraction.{Fraction, _less_over_, _over_, whole, _≈_, _�
 use Rattle.solas.specs.Span
 use Rattle.solas.specs.Span.{P}
 use Rattle.solas.specs.Penetration
+use Rattle.solas.specs.Penetration.{Q}
 use Rattle.solas.specs.Regulation
-use Rattle.solas.specs.Regulation.{IsRoot, L*, Jm, under√, Jk, b0, b11, b12, b21, b22, p1or2, p}
+use Rattle.solas.specs.Regulation.{IsRoot, L*, Jm, under√, Jk, b0, b11, b12, b21, b22, p1or2, p, r}
 
 -- 01 starts at 80 m, which nothing here needs; √ is the root in the ship's Jk
 pub record UpTo198m (Ls : ℕ) (√ : Fraction) : Type 0 where
@@ -37,6 +38,11 @@ pub record Penetrations (Ls : ℕ) (√ : Fraction) (x1 x2 B b : ℕ) : Type 0 w
   pub the-G1 : Regulation.G1 Ls √ x1 x2 B b ≈ Penetration.G1 B b
   pub the-G : Regulation.G Ls √ x1 x2 B b ≈ Penetration.G Ls B x1 x2 b
 
+-- 01: "this is p·r of the regulation with no division by p"; and p may be divided by
+pub record Chances (Ls : ℕ) (√ : Fraction) (x1 x2 B b : ℕ) : Type 0 where
+  pub above-0 : whole 0 ≺ p Ls √ x1 x2
+  pub the-pr : p Ls √ x1 x2 ⊛ r Ls √ x1 x2 B b ≈ Q Ls B x1 x2 b
+
 -- ---- the promises
 abbrev pub ConstantsAre01's : Type 0
 ConstantsAre01's = (Ls : ℕ) (√ : Fraction) → UpTo198m Ls √ → Constants Ls √
@@ -50,3 +56,6 @@ SpansAre01's = (Ls : ℕ) (√ : Fraction) → UpTo198m Ls √ → (x1 x2 : ℕ)
 
 abbrev pub PenetrationsAre01's : Type 0
 PenetrationsAre01's = (Ls : ℕ) (√ : Fraction) → UpTo198m Ls √ → (x1 x2 B b : ℕ) → x1 ≤ x2 → 0 < B → 2 * b ≤ B → Penetrations Ls √ x1 x2 B b
+
+abbrev pub ChancesAre01's : Type 0
+ChancesAre01's = (Ls : ℕ) (√ : Fraction) → UpTo198m Ls √ → (x1 x2 B b : ℕ) → x1 < x2 → 0 < B → 2 * b ≤ B → Chances Ls √ x1 x2 B b

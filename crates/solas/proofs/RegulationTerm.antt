@@ -39,6 +39,11 @@ constant {a} {b} {d} p h = record { plus = C a; minus = C b; under = C d; positi
 abbrev pub number : {ρ : List ℕ} (n d : ℕ) → T (ltb 0 d) → Term ρ (n over d)
 number n d p = constant p (is-over n (lit< p))
 
+-- the parts of some fractions, as numbers
+abbrev pub parts : List Fraction → List ℕ
+parts [] = []
+parts (f ∷ fs) = f .up ∷ f .down ∷ den f ∷ parts fs
+
 -- a fraction that is not looked into: its parts are variables from place i on
 abbrev pub unknown : {ρ : List ℕ} {f : Fraction} (i : ℕ) → 0 < place (i + 2) ρ → Is f (place i ρ) (place (i + 1) ρ) (place (i + 2) ρ) → Term ρ f
 unknown i p h = record { plus = X i; minus = X (i + 1); under = X (i + 2); positive = p; is = h }

@@ -5,8 +5,10 @@ use Rattle.solas.specs.Span
 use Rattle.solas.specs.Span.{P}
 use Rattle.solas.specs.Penetration
 use Rattle.solas.specs.Penetration.{Q}
+use Rattle.solas.specs.Ship.{Ship, Sound}
+use Rattle.solas.specs.Share.{rowShare}
 use Rattle.solas.specs.Regulation
-use Rattle.solas.specs.Regulation.{IsRoot, L*, Jm, under√, Jk, b0, b11, b12, b21, b22, p1or2, p, r}
+use Rattle.solas.specs.Regulation.{IsRoot, L*, Jm, under√, Jk, b0, b11, b12, b21, b22, p1or2, p, r, pi}
 
 -- 01 starts at 80 m, which nothing here needs; √ is the root in the ship's Jk
 pub record UpTo198m (Ls : ℕ) (√ : Fraction) : Type 0 where
@@ -44,12 +46,13 @@ pub record Chances (Ls : ℕ) (√ : Fraction) (x1 x2 B b : ℕ) : Type 0 where
   pub the-pr : p Ls √ x1 x2 ⊛ r Ls √ x1 x2 B b ≈ Q Ls B x1 x2 b
 
 -- ---- the promises
-abbrev pub ConstantsAre01's : Type 0
-ConstantsAre01's = (Ls : ℕ) (√ : Fraction) → UpTo198m Ls √ → Constants Ls √
 
--- each of these ships has such a root: nothing here is said of none
+-- each of these ships has such a root, so that what follows is said of every one
 abbrev pub RootsAreThere : Type 0
 RootsAreThere = (Ls : ℕ) → 0 < Ls → Ls ≤ 19800 → UpTo198m Ls (whole 1)
+
+abbrev pub ConstantsAre01's : Type 0
+ConstantsAre01's = (Ls : ℕ) (√ : Fraction) → UpTo198m Ls √ → Constants Ls √
 
 abbrev pub SpansAre01's : Type 0
 SpansAre01's = (Ls : ℕ) (√ : Fraction) → UpTo198m Ls √ → (x1 x2 : ℕ) → x1 ≤ x2 → Spans Ls √ x1 x2
@@ -59,3 +62,8 @@ PenetrationsAre01's = (Ls : ℕ) (√ : Fraction) → UpTo198m Ls √ → (x1 x2
 
 abbrev pub ChancesAre01's : Type 0
 ChancesAre01's = (Ls : ℕ) (√ : Fraction) → UpTo198m Ls √ → (x1 x2 B b : ℕ) → x1 < x2 → 0 < B → 2 * b ≤ B → Chances Ls √ x1 x2 B b
+
+-- THE RULE, 2.6.1: of any group of n zones from zone a of any sound ship, between any two depths up to B/2, the regulation's pi is 01's share of a row
+abbrev pub SharesAreTheRegulation's : Type 0
+SharesAreTheRegulation's = (s : Ship) → Sound s → (√ : Fraction) → IsRoot √ (under√ (s .L)) → (a n b′ b : ℕ) → 1 ≤ a → a + n ≤ s .m + 1 → b′ < b → 2 * b ≤ s .B →
+    pi s √ b′ b a n ≈ rowShare s a n b′ b

@@ -1,23 +1,20 @@
 -- Regulation 7-1's p times r is document 01's Q, and p is above 0 wherever a span has a length. Assumes nothing.
 use Prim.Native.Nat.{ℕ, _+_, _-_, _*_, _^_, _≤_, _<_}
-use mathlib.Core.Path.{_≡_, refl}
-use mathlib.Core.List.{List, [], _∷_}
-use mathlib.Core.Bool.{Bool, true, false, not, cond}
+use mathlib.Core.List.{[], _∷_}
 use native.Mathlib.Nat.{mul-pos, one-le-pow, mul-lt-mul-of-pos-left, mul-lt-mul-of-pos-right}
 use native.Mathlib.Omega.{arith}
-use lib.Dec.{T, leb, leb→le, nleb→lt, eqb, lit<}
+use lib.Dec.{leb, leb→le, nleb→lt, lit<}
 use Rattle.laws.specs.Polynomial.{X, C}
-use Rattle.laws.specs.Fraction.{Fraction, den, _less_over_, _over_, whole, Is, _≈_, _≺_, _⊹_, _⊝_, _⊛_, _⊘_}
+use Rattle.laws.specs.Fraction.{Fraction, _less_over_, whole, Is, _≈_, _≺_, _⊹_, _⊝_, _⊛_, _⊘_}
 use Rattle.laws.proofs.Polynomial.{_:+_, _:*_, _:^_, _:≤_, _:<_, _⊲_, _⊢_, poly2}
 use Rattle.laws.proofs.Fraction.{positive, is-self, is-over, is-less-over, is-whole, is-⊹, is-⊛, is-≈, is-shifted, over-left, over-right, strictly-below, numerators-strictly-below, ≈-refl, ≈-trans, ⊹-≈, ⊝-≈, ⊛-≈}
 use Rattle.solas.specs.Span
 use Rattle.solas.specs.Span.{Touch, neither, one, both, touch, half, PAt, P}
-use Rattle.solas.specs.Penetration
 use Rattle.solas.specs.Penetration.{Q}
 use Rattle.solas.specs.Regulation
 use Rattle.solas.specs.Regulation.{p, r}
 use Rattle.solas.specs.OfSolas.{UpTo198m, ChancesAre01's}
-use Rattle.solas.proofs.RegulationTerm.{Term, number, unknown, quotient, _⊹ᵗ_, _⊝ᵗ_, _⊛ᵗ_, agree}
+use Rattle.solas.proofs.RegulationTerm.{Term, number, ratio, parts, unknown, quotient, _⊹ᵗ_, _⊝ᵗ_, _⊛ᵗ_, agree}
 use Rattle.solas.proofs.RegulationTest.{either}
 use Rattle.solas.proofs.RegulationSpans.{span-p}
 use Rattle.solas.proofs.RegulationPenetration.{C-≈, G-≈}
@@ -26,6 +23,9 @@ use Rattle.solas.proofs.RegulationPenetration.{C-≈, G-≈}
 
 above : {f : Fraction} {a b d : ℕ} → 0 < d → Is f a b d → b < a → whole 0 ≺ f
 above p h l = strictly-below (is-whole 0 p) h (omega arith)
+
+band-above : (a b : ℕ) {d : ℕ} → 0 < d → b < a → whole 0 ≺ (a less b over d)
+band-above a b p l = above p (is-less-over a b p) l
 
 numerator-above : {f : Fraction} {a b d : ℕ} → 0 < d → whole 0 ≺ f → Is f a b d → b < a
 numerator-above p l h = omega (arith, numerators-strictly-below p l (is-whole 0 p) h)
@@ -49,11 +49,11 @@ second-above =
 inner-above : (L x : ℕ) → 0 < L → 0 < x → whole 0 ≺ Span.p L x
 unfolding Span.p
 inner-above L x p q =
-    either (leb (33 * x) (5 * L)) (λ f. whole 0 ≺ f)
-    (λ t. above (mul-pos (lit< tt) (one-le-pow 3 L p)) (is-less-over _ _ (mul-pos (lit< tt) (one-le-pow 3 L p))) (first-above x L (leb→le _ _ t) (mul-pos (one-le-pow 2 x q) p)))
+    let cube : 0 < L ^ 3 = one-le-pow 3 L p in
+    either (leb (33 * x) (5 * L)) (λ f. whole 0 ≺ f) (λ t. band-above _ _ (mul-pos (lit< tt) cube) (first-above x L (leb→le _ _ t) (mul-pos (one-le-pow 2 x q) p)))
     (λ t. either (leb (33 * x) (10 * L)) (λ f. whole 0 ≺ f)
-    (λ s. above (mul-pos (lit< tt) (one-le-pow 3 L p)) (is-less-over _ _ (mul-pos (lit< tt) (one-le-pow 3 L p))) (second-above x L (leb→le _ _ s) (nleb→lt _ _ t) (one-le-pow 2 L p)))
-    (λ s. above (mul-pos (lit< tt) p) (is-less-over _ _ (mul-pos (lit< tt) p)) (omega (arith, nleb→lt (33 * x) (10 * L) s))))
+    (λ s. band-above _ _ (mul-pos (lit< tt) cube) (second-above x L (leb→le _ _ s) (nleb→lt _ _ t) (one-le-pow 2 L p)))
+    (λ s. band-above _ _ (mul-pos (lit< tt) p) (omega (arith, nleb→lt (33 * x) (10 * L) s))))
 
 touched-above : (t : Touch) (L x : ℕ) → 0 < L → 0 < x → whole 0 ≺ PAt t L x
 touched-above neither L x p q = inner-above L x p q
@@ -70,13 +70,13 @@ no-division : {n d : ℕ} (f c g : Fraction) → 0 < n → 0 < d → Is f n 0 d 
 no-division {n} {d} f c g p q h =
     agree (fᵗ ⊛ᵗ (number 1 1 tt ⊝ᵗ (number 1 1 tt ⊝ᵗ cᵗ) ⊛ᵗ (number 1 1 tt ⊝ᵗ quotient gᵗ fᵗ (X 0) (X 1) p tt))) (fᵗ ⊛ᵗ cᵗ ⊹ᵗ gᵗ ⊛ᵗ (number 1 1 tt ⊝ᵗ cᵗ)) tt
   where
-    fᵗ : Term (n ∷ d ∷ c .up ∷ c .down ∷ den c ∷ g .up ∷ g .down ∷ den g ∷ []) f
-    fᵗ = record { plus = X 0; minus = C 0; under = X 1; positive = q; is = h }
+    fᵗ : Term (n ∷ d ∷ parts (c ∷ g ∷ [])) f
+    fᵗ = ratio (X 0) (X 1) q h
 
-    cᵗ : Term (n ∷ d ∷ c .up ∷ c .down ∷ den c ∷ g .up ∷ g .down ∷ den g ∷ []) c
+    cᵗ : Term (n ∷ d ∷ parts (c ∷ g ∷ [])) c
     cᵗ = unknown 2 (positive c) (is-self c)
 
-    gᵗ : Term (n ∷ d ∷ c .up ∷ c .down ∷ den c ∷ g .up ∷ g .down ∷ den g ∷ []) g
+    gᵗ : Term (n ∷ d ∷ parts (c ∷ g ∷ [])) g
     gᵗ = unknown 5 (positive g) (is-self g)
 
 without-division : (f c g : Fraction) → whole 0 ≺ f → f ⊛ (whole 1 ⊝ (whole 1 ⊝ c) ⊛ (whole 1 ⊝ g ⊘ f)) ≈ f ⊛ c ⊹ g ⊛ (whole 1 ⊝ c)
@@ -86,7 +86,9 @@ without-division f c g h =
 
 module _ {Ls : ℕ} {√ : Fraction} (u : UpTo198m Ls √) {x1 x2 : ℕ} (h : x1 < x2) where
   pub p-above : whole 0 ≺ p Ls √ x1 x2
-  p-above = above (positive (P Ls x1 x2)) (is-≈ (span-p u (omega arith)) (is-self (P Ls x1 x2))) (numerator-above (positive (P Ls x1 x2)) (P-above Ls x1 x2 (u .some) h) (is-self (P Ls x1 x2)))
+  p-above =
+      let q = is-self (P Ls x1 x2) in
+      above (positive (P Ls x1 x2)) (is-≈ (span-p u (omega arith)) q) (numerator-above (positive (P Ls x1 x2)) (P-above Ls x1 x2 (u .some) h) q)
 
   pub pr-is-Q : (B b : ℕ) → 0 < B → 2 * b ≤ B → p Ls √ x1 x2 ⊛ r Ls √ x1 x2 B b ≈ Q Ls B x1 x2 b
   unfolding r Q

@@ -1,16 +1,15 @@
 -- The letters of regulation 7-1 that a ship of up to 198 m has for all its spans. Assumes nothing.
-use Prim.Native.Nat.{ℕ, _+_, _*_, _≤_, _<_}
+use Prim.Native.Nat.{ℕ, _*_, _≤_, _<_}
 use mathlib.Core.Path.{_≡_, refl}
-use mathlib.Core.List.{List, []}
+use mathlib.Core.List.{[]}
 use mathlib.Core.Bool.{true}
-use native.Mathlib.Nat.{mul-pos}
 use native.Mathlib.Omega.{arith}
 use lib.Dec.{T, leb, ltb, le→leb, lit<}
 use Rattle.laws.specs.Polynomial.{C}
-use Rattle.laws.specs.Fraction.{Fraction, _less_over_, _over_, whole, Is, _≈_, _≼_, _⊹_, _⊝_, _⊛_, _⊘_}
-use Rattle.laws.proofs.Fraction.{is-over, is-whole, is-⊘, is-≈, is-less-over, same, below, ≈-sym, ≈-trans}
-use Rattle.solas.specs.Regulation.{¼, _², lesser, IsRoot, Jmax, Jkn, pk, lmax, L*, b0, Jm, under√, Jk, b11, b12, b21, b22}
-use Rattle.solas.specs.OfSolas.{UpTo198m, Constants, ConstantsAre01's, RootsAreThere}
+use Rattle.laws.specs.Fraction.{Fraction, _less_over_, whole, Is, _≈_, _⊹_, _⊝_, _⊛_, _⊘_}
+use Rattle.laws.proofs.Fraction.{is-over, is-⊘, is-≈, is-less-over, same, below, ≈-sym, ≈-trans}
+use Rattle.solas.specs.Regulation.{¼, _², Jmax, Jkn, pk, lmax, L*, b0, Jm, under√, Jk, b11, b12, b21, b22}
+use Rattle.solas.specs.OfSolas.{UpTo198m, ConstantsAre01's, RootsAreThere}
 use Rattle.solas.proofs.RegulationTerm.{is-also, Term, number, _⊹ᵗ_, _⊝ᵗ_, _⊛ᵗ_, constant, Also, also, agree, quotient}
 use Rattle.solas.proofs.RegulationTest.{passed, lesser-crossed, root-of-one}
 

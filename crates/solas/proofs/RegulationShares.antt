@@ -1,17 +1,16 @@
 -- Regulation 7-1's pi of a group of zones, 2.6.1, is document 01's share of a row. Assumes nothing.
 use Prim.Native.Nat.{ℕ, zero, suc, _+_, _-_, _*_, _≤_, _<_}
-use mathlib.Core.Path.{_≡_, refl, ap}
-use mathlib.Core.List.{List, [], _∷_}
+use mathlib.Core.Path.{_≡_}
+use mathlib.Core.List.{[], _∷_}
 use native.Mathlib.Nat.{mul-pos, add-zero, le-dest}
 use native.Mathlib.Omega.{arith}
-use lib.Dec.{lit<}
 use Rattle.laws.specs.Fraction.{Fraction, den, whole, Is, _≈_, _⊹_, _⊝_, _⊛_}
-use Rattle.laws.proofs.Fraction.{positive, is-self, is-shifted, is-widened, is-⊹, is-⊝, is-⊛, over-left, over-right, same, ≈-refl, ≈-sym, ≈-trans, ⊹-≈, ⊝-≈, ⊛-≈}
+use Rattle.laws.proofs.Fraction.{positive, is-self, is-shifted, is-widened, is-⊹, is-⊝, is-⊛, over-left, over-right, same, ≈-refl, ≈-trans, ⊹-≈, ⊝-≈}
 use Rattle.solas.specs.Ship.{Ship, Sound}
 use Rattle.solas.specs.Share.{within, share, before, rowShare}
-use Rattle.solas.specs.Regulation.{IsRoot, under√, p, r, rFromShell, pr, pi}
+use Rattle.solas.specs.Regulation.{IsRoot, under√, p, rFromShell, pr, pi}
 use Rattle.solas.specs.OfSolas.{UpTo198m, SharesAreTheRegulation's}
-use Rattle.solas.proofs.RegulationTerm.{is-widened-behind, Term, number, parts, unknown, _⊹ᵗ_, _⊝ᵗ_, _⊛ᵗ_, agree}
+use Rattle.solas.proofs.RegulationTerm.{is-widened-behind, number, parts, unknown, _⊹ᵗ_, _⊝ᵗ_, _⊛ᵗ_, agree}
 use Rattle.solas.proofs.RegulationChance.{pr-is-Q}
 
 -- ---- sums of differences are differences of sums

@@ -1,19 +1,19 @@
 -- Regulation 7-1's p of a span, 2.6.2, is document 01's p and P. Assumes nothing.
 use Prim.Native.Nat.{ℕ, _+_, _-_, _*_, _^_, _≤_, _<_}
-use mathlib.Core.Path.{_≡_, refl}
+use mathlib.Core.Path.{_≡_}
 use mathlib.Core.List.{List, [], _∷_}
 use mathlib.Core.Bool.{Bool, true, false, cond, _&&_, _||_}
 use native.Mathlib.Nat.{mul-pos, one-le-pow}
 use native.Mathlib.Omega.{arith}
 use lib.Dec.{leb, le→leb, eqb, lit<}
-use Rattle.laws.specs.Polynomial.{Expr, X, C, _:+_, _:*_, _:^_, value}
-use Rattle.laws.specs.Fraction.{Fraction, den, _less_over_, _over_, whole, Is, _≈_, _⊹_, _⊝_, _⊛_, _⊘_}
-use Rattle.laws.proofs.Fraction.{is-over, is-less-over, is-⊝, is-⊘, is-shifted, is-self, is-≈, positive, same, ≈-refl, ⊹-≈}
+use Rattle.laws.specs.Polynomial.{Expr, X, C, _:+_, _:*_, _:^_}
+use Rattle.laws.specs.Fraction.{Fraction, _less_over_, _over_, whole, Is, _≈_, _⊛_, _⊘_}
+use Rattle.laws.proofs.Fraction.{is-over, is-⊝, is-⊘, is-shifted, is-self, is-≈, positive, same, ≈-refl, ⊹-≈}
 use Rattle.solas.specs.Span
 use Rattle.solas.specs.Span.{Touch, neither, one, both, touch, half, PAt, P}
-use Rattle.solas.specs.Regulation.{½, ⅓, ⅙, ⊖_, _², _³, _≼?_, lesser, Jm, Jk, b11, b12, b21, b22, J, Jn, p1, p2, p1or2, byEnds, p}
+use Rattle.solas.specs.Regulation.{½, Jm, Jk, b11, b12, b21, b22, J, Jn, p1, p2, p1or2, p}
 use Rattle.solas.specs.OfSolas.{UpTo198m, SpansAre01's}
-use Rattle.solas.proofs.RegulationTerm.{is-also, Term, number, constant, unknown, polynomial, _⊹ᵗ_, _⊝ᵗ_, _⊛ᵗ_, agree}
+use Rattle.solas.proofs.RegulationTerm.{is-also, Term, number, constant, ratio, parts, unknown, polynomial, _⊹ᵗ_, _⊝ᵗ_, _⊛ᵗ_, agree}
 use Rattle.solas.proofs.RegulationTest.{passed, same-choice, chosen, test-crossed, lesser-crossed}
 use Rattle.solas.proofs.RegulationConstants.{Jm-is, Jk-is, b11-is, b12-is, b21-is, b22-is}
 
@@ -24,7 +24,7 @@ by-whole x L p h = is-also x 0 L (omega arith) (omega arith) (is-⊘ p h (is-ove
 
 pub half-is-half : {f g : Fraction} → f ≈ g → ½ ⊛ f ≈ half g
 half-is-half {f} {g} e =
-    agree {ρ = g .up ∷ g .down ∷ den g ∷ []} (number 1 2 tt ⊛ᵗ unknown 0 (positive g) (is-≈ e (is-self g))) (unknown 0 (positive g) (is-self g) ⊛ᵗ number 1 2 tt) tt
+    agree {ρ = parts (g ∷ [])} (number 1 2 tt ⊛ᵗ unknown 0 (positive g) (is-≈ e (is-self g))) (unknown 0 (positive g) (is-self g) ⊛ᵗ number 1 2 tt) tt
 
 pub by-touch : (a f : Bool) (F : Touch → Fraction) {N O E : Fraction} → N ≈ F neither → O ≈ F one → E ≈ F both →
     cond (a && f) E (cond (a || f) O N) ≈ F (cond a (cond f both one) (cond f one neither))
@@ -33,7 +33,13 @@ by-touch true false F n o e = o
 by-touch false true F n o e = o
 by-touch false false F n o e = n
 
--- ---- a span
+-- ---- a span; among the variables of its terms its length comes first, then the ship's, then what a caller adds
+
+abbrev pub :x : Expr
+:x = X 0
+
+abbrev pub :L : Expr
+:L = X 1
 
 module _ {Ls : ℕ} {√ : Fraction} (u : UpTo198m Ls √) {x1 x2 : ℕ} (h : x1 ≤ x2) where
   pub J-is : Is (J Ls √ x1 x2) (x2 - x1) 0 Ls
@@ -42,7 +48,7 @@ module _ {Ls : ℕ} {√ : Fraction} (u : UpTo198m Ls √) {x1 x2 : ℕ} (h : x1
 
   module _ (ρ : List ℕ) where
     abbrev pub Jᵗ : Term ((x2 - x1) ∷ Ls ∷ ρ) (J Ls √ x1 x2)
-    Jᵗ = record { plus = X 0; minus = C 0; under = X 1; positive = u .some; is = J-is }
+    Jᵗ = ratio :x :L (u .some) J-is
 
     abbrev pub b11ᵗ : Term ((x2 - x1) ∷ Ls ∷ ρ) (b11 Ls √)
     b11ᵗ = constant tt (b11-is u)
@@ -59,9 +65,7 @@ module _ {Ls : ℕ} {√ : Fraction} (u : UpTo198m Ls √) {x1 x2 : ℕ} (h : x1
 
   first-band : p1 Ls √ x1 x2 ≈ (550 * (x2 - x1) ^ 2 * Ls) less (1089 * (x2 - x1) ^ 3) over (100 * Ls ^ 3)
   unfolding p1ᵗ
-  first-band =
-      agree (p1ᵗ [])
-      (polynomial (C 550 :* X 0 :^ 2 :* X 1) (C 1089 :* X 0 :^ 3) (C 100 :* X 1 :^ 3) (mul-pos (lit< tt) cube)) tt
+  first-band = agree (p1ᵗ []) (polynomial (C 550 :* :x :^ 2 :* :L) (C 1089 :* :x :^ 3) (C 100 :* :L :^ 3) (mul-pos (lit< tt) cube)) tt
 
   -- p2, by what Jn is
   module _ (n : Term ((x2 - x1) ∷ Ls ∷ []) (Jn Ls √ x1 x2)) where
@@ -77,20 +81,23 @@ module _ {Ls : ℕ} {√ : Fraction} (u : UpTo198m Ls √) {x1 x2 : ℕ} (h : x1
     p2ᵗ : Term ((x2 - x1) ∷ Ls ∷ []) (p2 Ls √ x1 x2)
     unfolding p2
     p2ᵗ =
-        (number 0 1 tt ⊝ᵗ number 1 3 tt) ⊛ᵗ b11ᵗ [] ⊛ᵗ (k ⊛ᵗ k ⊛ᵗ k) ⊹ᵗ number 1 2 tt ⊛ᵗ (b11ᵗ [] ⊛ᵗ Jᵗ [] ⊝ᵗ b12ᵗ []) ⊛ᵗ (k ⊛ᵗ k) ⊹ᵗ b12ᵗ [] ⊛ᵗ Jᵗ [] ⊛ᵗ k
+        (number 0 1 tt ⊝ᵗ number 1 3 tt) ⊛ᵗ b11ᵗ [] ⊛ᵗ (k ⊛ᵗ k ⊛ᵗ k) ⊹ᵗ number 1 2 tt ⊛ᵗ (b11ᵗ [] ⊛ᵗ Jᵗ [] ⊝ᵗ b12ᵗ []) ⊛ᵗ (k ⊛ᵗ k)
+        ⊹ᵗ b12ᵗ [] ⊛ᵗ Jᵗ [] ⊛ᵗ k
         ⊝ᵗ number 1 3 tt ⊛ᵗ b21ᵗ ⊛ᵗ (n ⊛ᵗ n ⊛ᵗ n ⊝ᵗ k ⊛ᵗ k ⊛ᵗ k) ⊹ᵗ number 1 2 tt ⊛ᵗ (b21ᵗ ⊛ᵗ Jᵗ [] ⊝ᵗ b22ᵗ) ⊛ᵗ (n ⊛ᵗ n ⊝ᵗ k ⊛ᵗ k)
         ⊹ᵗ b22ᵗ ⊛ᵗ Jᵗ [] ⊛ᵗ (n ⊝ᵗ k)
 
   -- the two later bands, where Jn is J, and where it is Jm
-  second-band : Jn Ls √ x1 x2 ≡ J Ls √ x1 x2 → p2 Ls √ x1 x2 ≈ (19800 * (x2 - x1) * Ls ^ 2 + 32670 * (x2 - x1) ^ 2 * Ls) less (1000 * Ls ^ 3 + 35937 * (x2 - x1) ^ 3) over (29700 * Ls ^ 3)
+  second-band : Jn Ls √ x1 x2 ≡ J Ls √ x1 x2 →
+      p2 Ls √ x1 x2 ≈ (19800 * (x2 - x1) * Ls ^ 2 + 32670 * (x2 - x1) ^ 2 * Ls) less (1000 * Ls ^ 3 + 35937 * (x2 - x1) ^ 3) over (29700 * Ls ^ 3)
   unfolding p2ᵗ
   second-band e =
-      agree (p2ᵗ (record { plus = X 0; minus = C 0; under = X 1; positive = u .some; is = rw e J-is }))
-      (polynomial (C 19800 :* X 0 :* X 1 :^ 2 :+ C 32670 :* X 0 :^ 2 :* X 1) (C 1000 :* X 1 :^ 3 :+ C 35937 :* X 0 :^ 3) (C 29700 :* X 1 :^ 3) (mul-pos (lit< tt) cube)) tt
+      agree (p2ᵗ (ratio :x :L (u .some) (rw (← e) at J-is)))
+      (polynomial (C 19800 :* :x :* :L :^ 2 :+ C 32670 :* :x :^ 2 :* :L) (C 1000 :* :L :^ 3 :+ C 35937 :* :x :^ 3) (C 29700 :* :L :^ 3)
+      (mul-pos (lit< tt) cube)) tt
 
   third-band : Jn Ls √ x1 x2 ≡ Jm Ls → p2 Ls √ x1 x2 ≈ (297 * (x2 - x1)) less (20 * Ls) over (297 * Ls)
   unfolding p2ᵗ
-  third-band e = agree (p2ᵗ (constant tt (rw (← e) at (Jm-is u)))) (polynomial (C 297 :* X 0) (C 20 :* X 1) (C 297 :* X 1) (mul-pos (lit< tt) (u .some))) tt
+  third-band e = agree (p2ᵗ (constant tt (rw (← e) at (Jm-is u)))) (polynomial (C 297 :* :x) (C 20 :* :L) (C 297 :* :L) (mul-pos (lit< tt) (u .some))) tt
 
   Jn-is : Jn Ls √ x1 x2 ≡ cond (leb (33 * (x2 - x1)) (10 * Ls)) (J Ls √ x1 x2) (Jm Ls)
   unfolding Jn

@@ -36,6 +36,9 @@ pub record Term (ρ : List ℕ) (f : Fraction) : Type 0 where
 abbrev pub constant : {ρ : List ℕ} {f : Fraction} {a b d : ℕ} → T (ltb 0 d) → Is f a b d → Term ρ f
 constant {a} {b} {d} p h = record { plus = C a; minus = C b; under = C d; positive = lit< p; is = h }
 
+abbrev pub ratio : {ρ : List ℕ} {f : Fraction} (a d : Expr) → 0 < value d ρ → Is f (value a ρ) 0 (value d ρ) → Term ρ f
+ratio a d p h = record { plus = a; minus = C 0; under = d; positive = p; is = h }
+
 abbrev pub number : {ρ : List ℕ} (n d : ℕ) → T (ltb 0 d) → Term ρ (n over d)
 number n d p = constant p (is-over n (lit< p))
 

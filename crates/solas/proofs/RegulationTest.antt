@@ -1,12 +1,12 @@
 -- Which of two fractions is the lesser, by the numerators over one denominator; and the root of one. Assumes nothing.
-use Prim.Native.Nat.{ℕ, _+_, _-_, _*_, _≤_, _<_}
-use mathlib.Core.Path.{_≡_, refl, ap, sym, _∙_}
+use Prim.Native.Nat.{ℕ, _+_, _*_, _≤_, _<_}
+use mathlib.Core.Path.{_≡_, refl, sym}
 use mathlib.Core.Bool.{Bool, true, false, not, cond}
-use native.Mathlib.Nat.{mul-pos, mul-lt-mul-of-pos-left, mul-le-mul-left, mul-le-mul-right, le-antisymm, le-dest}
+use native.Mathlib.Nat.{mul-pos, le-antisymm, le-dest}
 use native.Mathlib.Omega.{arith, by-contra}
 use lib.Dec.{T, leb, leb→le, le→leb}
-use Rattle.laws.specs.Fraction.{Fraction, den, Is, _≈_, _≼_, whole, _⊛_}
-use Rattle.laws.proofs.Fraction.{positive, below, numerators-below, numerators-same, is-self, is-whole, is-⊛, is-≈, is-shifted, same, ≈-trans}
+use Rattle.laws.specs.Fraction.{Fraction, den, Is, _≈_, _≼_, whole}
+use Rattle.laws.proofs.Fraction.{positive, below, numerators-below, numerators-same, is-self, is-whole, is-⊛, is-shifted, same, ≈-trans}
 use Rattle.solas.proofs.RegulationTerm.{is-also}
 use Rattle.solas.specs.Regulation.{_≼?_, lesser, IsRoot}
 

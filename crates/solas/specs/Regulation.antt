@@ -65,7 +65,7 @@ unfoldable pub b0 : Fraction
 b0 = whole 2 ⊛ (pk ⊘ Jkn ⊝ (whole 1 ⊝ pk) ⊘ (Jmax ⊝ Jkn))
 
 module _ (Ls : ℕ) where
-  -- ---- 2.6.2, a ship's own letters "when Ls ≤ L*"; for longer ships it has others
+  -- ---- 2.6.2, a ship's own letters "when Ls ≤ L*"; longer ships have another Jm, Jk and b12
   unfoldable pub Jm : Fraction
   Jm = lesser Jmax (lmax ⊘ whole Ls)
 

@@ -12,3 +12,5 @@ pub mod General
 pub mod Total
 pub mod Count
 pub mod Promises
+pub mod Regulation
+pub mod OfSolas

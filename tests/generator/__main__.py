@@ -30,16 +30,18 @@ def main():
         if not wanted.check:
             print(corpus.write())
             return 0
-        differences, summary = corpus.check()
+        differences, summary, agreeing = corpus.check()
     except corpus.Disagreement as readings:
         print(readings)
         print("two readings of document 01 differ: nothing was written")
+        print("0 passed, 1 failed")
         return 1
     print(summary)
     for line in differences[:20]:
         print(line)
     print("%d differences" % len(differences) if differences else "the committed corpus is what the generator makes")
-    return 1 if differences else 0
+    print("%d passed, %d failed" % (agreeing, len(differences)))
+    return 1 if differences or not agreeing else 0
 
 
 if __name__ == "__main__":

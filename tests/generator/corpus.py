@@ -104,12 +104,13 @@ def write():
 
 
 def check():
-    """The first differences between the corpus on disk and the one made now, and how it sums up."""
+    """The differences between the corpus on disk and the one made now, how it sums up, and how many files agree."""
     files, there = made(), committed()
     differences = ["missing: " + name for name in sorted(set(files) - set(there))]
     differences += ["not made: " + name for name in sorted(set(there) - set(files))]
     differences += ["differs: " + name for name in sorted(files) if name in there and there[name] != files[name]]
-    return differences, summary(files)
+    agreeing = sum(name in there and there[name] == files[name] for name in files)
+    return differences, summary(files), agreeing
 
 
 def summary(files):

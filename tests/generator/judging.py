@@ -45,6 +45,14 @@ class Judging:
     rise = 12500
     row_limits = ((5000, 9000, 9000), (10000,))
 
+    def refusal(self, data):
+        """The number and line of a refused file, nothing for an accepted one."""
+        try:
+            self.read(data)
+        except Refused as refused:
+            return refused.number, refused.line
+        return None
+
     def read(self, data):
         """The hull and the rows of an accepted file; raises Refused otherwise."""
         if len(data) > self.longest:
@@ -110,7 +118,7 @@ class Judging:
     def rule_5(self, line):
         if line.number > 1:
             return False
-        zones = line.frame[9]
+        zones = line.frame[9] if len(line.frame) > 9 else 0
         if not 1 <= zones <= 20 or len(line.frame) != 8 + 2 * zones:
             return True
         hull = self.hull(line)
@@ -162,3 +170,10 @@ class Judging:
         if (row.a, row.n) != (before.a, before.n):
             return self.group_open(line.hull, before)
         return row.b != before.b and self.layer_open(line.hull, before)
+
+
+def without(number, at=None):
+    """The judging that never gives this refusal, or not at this line: it shows what else a file would be refused for."""
+    def rule(self, line):
+        return at is not None and line.number != at and getattr(Judging, "rule_%d" % number)(self, line)
+    return type("Without", (Judging,), {"longest": 10 ** 9} if number == 1 else {"rule_%d" % number: rule})()

@@ -4,6 +4,7 @@ from itertools import combinations
 
 from .case import refused
 from .frames import Hull, Row, end_line, hull_line, joined, row_line
+from .judging import without
 from .shapes import CERTAIN, FOUR, group
 
 ORDER = (1, 10, 2, 3, 4, 5, 6, 7, 8, 9, 11)
@@ -101,7 +102,7 @@ CLOSED, UNCLOSED = "\n", ""
 UNCLEAN = [
     ("odd", lambda line: line + "0" + CLOSED),
     ("alien", lambda line: line[:-1] + "g" + CLOSED),
-    ("upper", lambda line: line[:-1] + "F" + CLOSED),
+    ("upper", lambda line: line.upper() + CLOSED),
     ("unclosed", lambda line: line + UNCLOSED),
 ]
 
@@ -116,8 +117,8 @@ def longer(line):
 
 
 def other_kind(line):
-    """The same bytes under a kind that cannot stand there."""
-    return ("02" if line[:2] == "01" else "01" if line[:2] != "0f" else "0e") + line[2:]
+    """The same bytes under the other row kind, whose length is another; a hull turns into a row, an end grows."""
+    return line + "00" if line[:2] == "0f" else {"01": "02", "02": "03", "03": "02"}[line[:2]] + line[2:]
 
 
 MISFRAMED = [("short", shorter), ("kind", other_kind), ("long", longer)]
@@ -129,6 +130,8 @@ def one_line(first, second, name, before, line):
     data = joined(before) + line.encode("latin-1")
     if line.endswith("\n") and len(before) < 500 and not any(text[:2] == "0f" for text in before):
         data += joined([end_line(len(before))])
+    beaten = second if number == first else first
+    assert without(number, len(before) + 1).refusal(data) == (beaten, len(before) + 1), "%s does not break %d" % (name, beaten)
     return refused("%d-%d-%s" % (first, second, name), data, number, len(before) + 1,
                    "%d and %d in one line: %d" % (first, second, number))
 

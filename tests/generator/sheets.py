@@ -1,8 +1,10 @@
 """Refusal 11, which comes last: sheets too short by much and by one, just long enough, and longer."""
 
 from .case import accepted, refused
-from .following import EARLY
-from .frames import Hull, case_file, joined
+from .following import EARLY, rows_in
+from .frames import Hull, case_file, end_line, joined
+from .judging import without
+from .pairs import HULL, row
 from .shapes import FOUR, every_group, group
 
 
@@ -20,9 +22,12 @@ def cases():
                 yield accepted(name, data, shows, sheet)
     rows = group(one_zone, 1, 1, heights=tuple(range(1, 257)))
     yield refused("257-rows-257-places", case_file(one_zone, rows), 11, 0, "257 rows and a sheet of one number a row", 257)
-    for number, starts in EARLY.items():
-        where, lines, line = starts[-1]
-        yield refused("11-and-%d-%s" % (number, where), joined(lines), number, line, "a sheet of no numbers, and %d on line %d" % (number, line), 0)
+    for number, (where, lines) in EARLY.items():
+        more = [] if number == 10 else [row(3, 1), end_line(rows_in(lines) + 1)]
+        data = joined(lines + more)
+        assert without(number).refusal(data) is None, "with %d let through the sheet does not decide" % number
+        yield refused("11-and-%d-%s" % (number, where), data, number, len(lines),
+                      "a sheet of no numbers, and %d on line %d" % (number, len(lines)), 0)
     yield refused("11-and-10-no-input", b"", 10, 1, "a sheet of no numbers and no input", 0)
-    yield refused("11-and-10-no-end", joined(EARLY[7][0][1][:1]), 10, 2, "a sheet of no numbers and no end frame", 0)
+    yield refused("11-and-10-no-end", joined([HULL]), 10, 2, "a sheet of no numbers and no end frame", 0)
     yield refused("11-and-1", b"0" * 32769, 1, 0, "a sheet of no numbers and an input too long", 0)

@@ -20,7 +20,7 @@ def arguments():
     """The command line's parts."""
     parser = argparse.ArgumentParser(prog="independent", description=__doc__)
     parser.add_argument("file", nargs="?", help="the case file; standard input where left out")
-    parser.add_argument("--sheet", type=whole_number, metavar="N", help="a sheet of N numbers; as long as needed where left out")
+    parser.add_argument("--sheet", type=whole_number, metavar="N", help="a sheet of N numbers; else as long as needed")
     form = parser.add_mutually_exclusive_group()
     form.add_argument("--exact", action="store_true", help="the exact figures as fractions")
     form.add_argument("--figures", action="store_true", help="the answer as decimal numbers, one a line")

@@ -11,7 +11,7 @@ NO_ENDS = (Ends(0, 0),) * 4
 
 
 class Answer(NamedTuple):
-    """Number and line of a refusal, verdict, the ends of A, As, Ap, Al, and the rows' shares: zeros and nothing where not given."""
+    """Number and line of a refusal, verdict, the ends of A, As, Ap, Al, and the rows' shares; zeros at a refusal."""
 
     number: int
     line: int

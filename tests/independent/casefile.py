@@ -43,7 +43,7 @@ class Result(NamedTuple):
 
 
 class Row(NamedTuple):
-    """A row with its results or given survivals by draught, the b of the layer before (0: none) and the H of the row below (None: none)."""
+    """A row with results or given survivals by draught, the b of the layer before it and the H of the row below it."""
 
     a: int
     n: int
@@ -74,7 +74,7 @@ class Case(NamedTuple):
 
 
 def lines_of(data):
-    """The case file: each line's bytes with a mark whether a line feed closes it; bytes after the last line feed are a line too."""
+    """The case file: each line's bytes, and whether a line feed closes it; bytes after the last one are a line too."""
     pieces = data.split(b"\n")
     lines = [(piece, True) for piece in pieces[:-1]]
     if pieces[-1]:
@@ -144,7 +144,7 @@ def row_is_within(row, hull):
 
 
 def is_out_of_order(row, before, hull):
-    """Refusal 8: a group earlier than the row before, a smaller b in its group, or no higher H or nothing open in its layer."""
+    """Refusal 8: an earlier group; same group and smaller b; same layer and H not higher, or the row before at the top."""
     if row.group != before.group:
         return row.group < before.group
     if row.b != before.b:
@@ -192,7 +192,7 @@ def end_refusal(frame, hull, rows):
 
 
 def placed(row, rows):
-    """Shares, and Height: a row with the b of the layer before it in its group and the H of the row below it in its layer."""
+    """A row with the b of the layer before it in its group and the H of the row below it in its layer."""
     if not rows or rows[-1].group != row.group:
         return row
     before = rows[-1]

@@ -167,7 +167,7 @@ def s_fourth(lever, reach, heel):
 
 
 def draughts(ds, dl):
-    """Height and survival: deepest, partial and light draught, in this order; dp is whole as ds - dl is a multiple of 5."""
+    """Height and survival: deepest, partial, light; dp is whole because ds - dl is a multiple of 5."""
     return (ds, dl + 3 * (ds - dl) // 5, dl)
 
 

@@ -120,7 +120,7 @@ def Q_ends(span, b, L, B):
 
 
 def share_ends(hull, row):
-    """Shares: a row's ends, every added Q one way and every subtracted Q the other, then held once to 0 and 10⁹."""
+    """Shares: a row's ends, each added Q one way and each subtracted Q the other, then held once to 0 and 10⁹."""
     lower = upper = 0
     for sign, span, b in row_terms(hull.zones, row.a, row.n, row.b, row.b_before):
         q = Q_ends(span, b, hull.L, hull.B)
@@ -137,7 +137,7 @@ def share_ends(hull, row):
 
 
 def survival_ends(s_fourth):
-    """Height and survival: bottom, the greatest whole s with s⁴ not above 10¹⁶ times the fraction; top, the least not below."""
+    """Height and survival: the greatest whole s with s⁴ not above 10¹⁶ times the fraction, and the least not below."""
     scaled = s_fourth.numerator * WHOLE_SURVIVAL**4
     bottom = greatest_with_fourth_power_within(quotient_down(scaled, s_fourth.denominator))
     reaches = bottom**4 * s_fourth.denominator >= scaled

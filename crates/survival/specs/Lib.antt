@@ -1,1 +1,3 @@
 pub mod Height
+pub mod Ratio
+pub mod Survival

@@ -1,2 +1,3 @@
 pub mod Ratios
 pub mod Factors
+pub mod Rows

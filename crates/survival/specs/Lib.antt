@@ -1,3 +1,4 @@
 pub mod Height
 pub mod Ratio
 pub mod Survival
+pub mod Index

@@ -1,3 +1,4 @@
 pub mod Ratios
 pub mod Factors
 pub mod Rows
+pub mod Marks

@@ -34,11 +34,11 @@ ratio-product f g p q = same-ratio (rw (p, q) (upper (f .up) (g .up))) (omega (a
         let b : w - 0 ≡ w = omega arith in
         rw (a, b) (omega arith)
 
-over-plain : (n d : ℕ) → (n over d) .down ≡ 0
+pub over-plain : (n d : ℕ) → (n over d) .down ≡ 0
 unfolding _less_over_
 over-plain n d = refl
 
-product-plain : (f g : Fraction) → f .down ≡ 0 → g .down ≡ 0 → (f ⊛ g) .down ≡ 0
+pub product-plain : (f g : Fraction) → f .down ≡ 0 → g .down ≡ 0 → (f ⊛ g) .down ≡ 0
 unfolding _⊛_ _less_over_
 product-plain f g p q = rw (p, q) (omega arith)
 

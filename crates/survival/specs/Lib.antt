@@ -2,3 +2,4 @@ pub mod Height
 pub mod Ratio
 pub mod Survival
 pub mod Index
+pub mod Verdict

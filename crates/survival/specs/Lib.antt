@@ -3,3 +3,4 @@ pub mod Ratio
 pub mod Survival
 pub mod Index
 pub mod Verdict
+pub mod Exact

@@ -2,13 +2,13 @@
 use Prim.Native.Nat.{ℕ, _+_, _-_, _*_, _^_, _≤_, _<_}
 use mathlib.Core.List.{[]}
 use mathlib.Core.Path.{_≡_, refl, ap}
-use native.Mathlib.Nat.{mul-pos, mul-comm}
+use native.Mathlib.Nat.{mul-pos, mul-comm, mul-le-mul-right}
 use native.Mathlib.Omega.{arith}
 use lib.Dec.{lit<}
-use Rattle.laws.specs.Fraction.{Fraction, den, _less_over_, whole, Is, _≼_, _≺_, _⊛_}
-use Rattle.laws.proofs.Fraction.{positive, is-whole, is-⊛, is-widened, numerators-below, numerators-strictly-below}
+use Rattle.laws.specs.Fraction.{Fraction, den, _less_over_, _over_, whole, Is, _≼_, _≺_, _⊛_}
+use Rattle.laws.proofs.Fraction.{positive, is-over, is-whole, is-self, is-⊛, is-widened, numerators-below, numerators-strictly-below, ≼-of-≈, ≼-trans}
 use Rattle.laws.proofs.Polynomial.{_:*_, _:^_, _:=_, _⊢_, poly1}
-use Rattle.solas.proofs.Quotients.{is-written}
+use Rattle.solas.proofs.Quotients.{is-written, below-across, ⊛-comm}
 use Rattle.survival.specs.Ratio.{ratioOf}
 use Rattle.survival.specs.Exact.{fourthPower}
 
@@ -55,3 +55,16 @@ is-fourth {x} {n} {d} h = is-written (is-square (is-square h)) (twice n) refl (t
   where
     twice : (n : ℕ) → (n ^ 2) ^ 2 ≡ n ^ 4
     twice = poly1 (λ n. [] ⊢ (n :^ 2) :^ 2 := n :^ 4) tt
+
+-- ---- products with what is not negative keep the order
+pub ⊛-rises : {f g : Fraction} (n : ℕ) {d : ℕ} → 0 < d → f ≼ g → f ⊛ (n over d) ≼ g ⊛ (n over d)
+⊛-rises {f} {g} n {d} p l =
+    below-across (is-⊛ (is-self f) (is-over n p)) (is-⊛ (is-self g) (is-over n p)) (mul-pos (positive f) p) (mul-pos (positive g) p)
+    (crossed (f .up) (f .down) (den f) (g .up) (g .down) (den g) (l .cross))
+  where
+    crossed : (u v D u′ v′ D′ : ℕ) → u * D′ + v′ * D ≤ u′ * D + v * D′ →
+        (u * n + v * 0) * (D′ * d) + (u′ * 0 + v′ * n) * (D * d) ≤ (u′ * n + v′ * 0) * (D * d) + (u * 0 + v * n) * (D′ * d)
+    crossed u v D u′ v′ D′ h = omega (arith, mul-le-mul-right (n * d) h)
+
+pub times-rises : {f g : Fraction} (k : ℕ) → f ≼ g → whole k ⊛ f ≼ whole k ⊛ g
+times-rises {f} {g} k l = ≼-trans (≼-of-≈ (⊛-comm (whole k) f)) (≼-trans (⊛-rises k (lit< tt) l) (≼-of-≈ (⊛-comm g (whole k))))

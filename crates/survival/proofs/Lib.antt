@@ -4,3 +4,4 @@ pub mod Rows
 pub mod Marks
 pub mod Compare
 pub mod Bounds
+pub mod Enclosure

@@ -1,10 +1,11 @@
 -- What the ends are held to: rows at one draught with their exact share and survival, and the sums over every list of survivals. Assumes nothing.
-use Prim.Native.Nat.{ℕ, _^_}
+use Prim.Native.Nat.{ℕ, _+_, _^_, _≤_}
 use mathlib.Core.List.{List, [], _∷_}
 use Rattle.laws.specs.Fraction.{Fraction, _over_, whole, _≼_, _⊹_, _⊛_}
 use Rattle.laws.specs.Sums.{sumOf}
 use Rattle.records.specs.declared.Ends.{Ends}
 use Rattle.records.specs.declared.Trio.{Trio}
+use Rattle.solas.specs.Index.{attained}
 use Rattle.survival.specs.Survival.{Factor, root, given, ends, Sensible}
 use Rattle.survival.specs.Index.{addsOf, trio}
 
@@ -42,6 +43,12 @@ pub record Sound (r : RowAt) : Type 0 where
   pub share : Holds (r .shareEnds) (r .share)
   pub factor : Sensible (r .factor)
 
+-- the ends of the share are at most w billionths apart
+pub record Close (w : ℕ) (r : RowAt) : Type 0 where
+  pub near : r .shareEnds .upper ≤ r .shareEnds .lower + w
+  pub height : r .v ≤ 916500
+  pub factor : Sensible (r .factor)
+
 abbrev pub Every : {A : Type 0} → (A → Type 0) → List A → Type 0
 Every P [] = Unit {0}
 Every P (x ∷ xs) = P x × Every P xs
@@ -76,6 +83,21 @@ rowEnds r = addsOf (r .shareEnds) (r .v) (ends (r .factor))
 abbrev pub partialEnds : List RowAt → Ends
 partialEnds rs = record { lower = sumOf (λ r. rowEnds r .lower) rs; upper = sumOf (λ r. rowEnds r .upper) rs }
 
--- of the rows at the three draughts
-abbrev pub partialsOf : List RowAt → List RowAt → List RowAt → Trio
-partialsOf s p l = trio (partialEnds s) (partialEnds p) (partialEnds l)
+-- ---- at the three draughts
+pub record Thrice (A : Type 0) : Type 0 where
+  pub deepest : A
+  pub partial : A
+  pub light : A
+
+abbrev pub AtAll : {A : Type 0} → (A → Type 0) → Thrice A → Type 0
+AtAll P a = P (a .deepest) × P (a .partial) × P (a .light)
+
+abbrev pub AtEach : {A B : Type 0} → (A → B → Type 0) → Thrice A → Thrice B → Type 0
+AtEach P a b = P (a .deepest) (b .deepest) × P (a .partial) (b .partial) × P (a .light) (b .light)
+
+abbrev pub partialsOf : Thrice (List RowAt) → Trio
+partialsOf rs = trio (partialEnds (rs .deepest)) (partialEnds (rs .partial)) (partialEnds (rs .light))
+
+-- A "with its own weights"
+abbrev pub exactA : Thrice (List RowAt) → Thrice (List Fraction) → Fraction
+exactA rs xs = attained (weightedSum (rs .deepest) (xs .deepest)) (weightedSum (rs .partial) (xs .partial)) (weightedSum (rs .light) (xs .light))

@@ -4,3 +4,4 @@ pub mod Survival
 pub mod Index
 pub mod Verdict
 pub mod Exact
+pub mod Promises

@@ -41,48 +41,54 @@ PartialWidth = (w : ℕ) (rs : List RowAt) → Every (Close w) rs → sumOf (λ 
 abbrev pub AttainedWidth : Type 0
 AttainedWidth = (k : ℕ) (t : Trio) → ((i : ℕ) → at t i .upper ≤ at t i .lower + k) → attainedOf t .upper ≤ attainedOf t .lower + (k + 1)
 
+-- ---- the four figures: A and the three partial indices
+pub record AllFour (index deepest partial light : Type 0) : Type 0 where
+  pub attained : index
+  pub atDeepest : deepest
+  pub atPartial : partial
+  pub atLight : light
+
+pub data OneOfFour (index deepest partial light : Type 0) : Type 0 where
+  attained : index → OneOfFour index deepest partial light
+  atDeepest : deepest → OneOfFour index deepest partial light
+  atPartial : partial → OneOfFour index deepest partial light
+  atLight : light → OneOfFour index deepest partial light
+
 -- ---- the verdict by its ends
-pub record Meets (index : Ends) (partials : Trio) (required mark : Fraction) : Type 0 where
-  pub attained : required ≼ billionths (index .lower)
-  pub deepest : mark ≼ billionths (at partials 0 .lower)
-  pub partial : mark ≼ billionths (at partials 1 .lower)
-  pub light : mark ≼ billionths (at partials 2 .lower)
+module _ (index : Ends) (partials : Trio) (required mark : Fraction) where
+  abbrev pub Meets : Type 0
+  Meets = AllFour (required ≼ billionths (index .lower)) (mark ≼ billionths (at partials 0 .lower)) (mark ≼ billionths (at partials 1 .lower)) (mark ≼ billionths (at partials 2 .lower))
 
-pub data Fails (index : Ends) (partials : Trio) (required mark : Fraction) : Type 0 where
-  attained : billionths (index .upper) ≺ required → Fails index partials required mark
-  deepest : billionths (at partials 0 .upper) ≺ mark → Fails index partials required mark
-  partial : billionths (at partials 1 .upper) ≺ mark → Fails index partials required mark
-  light : billionths (at partials 2 .upper) ≺ mark → Fails index partials required mark
+  abbrev pub Fails : Type 0
+  Fails = OneOfFour (billionths (index .upper) ≺ required) (billionths (at partials 0 .upper) ≺ mark) (billionths (at partials 1 .upper) ≺ mark) (billionths (at partials 2 .upper) ≺ mark)
 
-pub record ByEnds (index : Ends) (partials : Trio) (required mark : Fraction) (verdict : ℕ) : Type 0 where
-  pub one : (verdict ≡ 1) ↔ Meets index partials required mark
-  pub two : (verdict ≡ 2) ↔ ((Meets index partials required mark → ⊥) × Fails index partials required mark)
-  pub three : (verdict ≡ 3) ↔ ((Meets index partials required mark → ⊥) × (Fails index partials required mark → ⊥))
+  pub record ByEnds (verdict : ℕ) : Type 0 where
+    pub one : (verdict ≡ 1) ↔ Meets
+    pub two : (verdict ≡ 2) ↔ ((Meets → ⊥) × Fails)
+    pub three : (verdict ≡ 3) ↔ ((Meets → ⊥) × (Fails → ⊥))
 
 abbrev pub VerdictByEnds : Type 0
 VerdictByEnds = (index : Ends) (partials : Trio) (required mark : Fraction) → whole 0 ≼ required → whole 0 ≼ mark → ByEnds index partials required mark (verdictOf index partials (ratioOf required) (ratioOf mark))
 
 -- ---- the verdict by exact figures
-abbrev pub verdictOn : Thrice (List RowAt) → Fraction → Fraction → ℕ
-verdictOn rs required mark = verdictOf (attainedOf (partialsOf rs)) (partialsOf rs) (ratioOf required) (ratioOf mark)
+module _ (rs : Thrice (List RowAt)) (required mark : Fraction) where
+  abbrev pub verdictOn : ℕ
+  verdictOn = verdictOf (attainedOf (partialsOf rs)) (partialsOf rs) (ratioOf required) (ratioOf mark)
 
--- 1: A reaches R and each partial index its mark, for all lists with no fourth power below
-pub record ReachAll (rs : Thrice (List RowAt)) (required mark : Fraction) (xs : Thrice (List Fraction)) : Type 0 where
-  pub attained : required ≼ exactA rs xs
-  pub deepest : mark ≼ weightedSum (rs .deepest) (xs .deepest)
-  pub partial : mark ≼ weightedSum (rs .partial) (xs .partial)
-  pub light : mark ≼ weightedSum (rs .light) (xs .light)
+  -- A reaches R and each partial index its mark, for these survivals
+  abbrev pub ReachAll : Thrice (List Fraction) → Type 0
+  ReachAll xs = AllFour (required ≼ exactA rs xs) (mark ≼ weightedSum (rs .deepest) (xs .deepest)) (mark ≼ weightedSum (rs .partial) (xs .partial)) (mark ≼ weightedSum (rs .light) (xs .light))
+
+  abbrev pub ShortAt : List RowAt → Type 0
+  ShortAt at = (xs : List Fraction) → NoneAbove at xs → weightedSum at xs ≺ mark
+
+  -- one of the four, fixed first, is below its mark for every list with no fourth power above
+  abbrev pub OneShort : Type 0
+  OneShort = OneOfFour ((xs : Thrice (List Fraction)) → AtEach NoneAbove rs xs → exactA rs xs ≺ required) (ShortAt (rs .deepest)) (ShortAt (rs .partial)) (ShortAt (rs .light))
 
 abbrev pub MeetsIsRight : Type 0
 MeetsIsRight = (rs : Thrice (List RowAt)) → AtAll (Every Sound) rs → (required mark : Fraction) → whole 0 ≼ required → whole 0 ≼ mark →
     verdictOn rs required mark ≡ 1 → (xs : Thrice (List Fraction)) → AtEach NoneBelow rs xs → ReachAll rs required mark xs
-
--- 2: one of the four figures, fixed first, is below its mark for every list with no fourth power above
-pub data OneShort (rs : Thrice (List RowAt)) (required mark : Fraction) : Type 0 where
-  attained : ((xs : Thrice (List Fraction)) → AtEach NoneAbove rs xs → exactA rs xs ≺ required) → OneShort rs required mark
-  deepest : ((xs : List Fraction) → NoneAbove (rs .deepest) xs → weightedSum (rs .deepest) xs ≺ mark) → OneShort rs required mark
-  partial : ((xs : List Fraction) → NoneAbove (rs .partial) xs → weightedSum (rs .partial) xs ≺ mark) → OneShort rs required mark
-  light : ((xs : List Fraction) → NoneAbove (rs .light) xs → weightedSum (rs .light) xs ≺ mark) → OneShort rs required mark
 
 abbrev pub FailsIsRight : Type 0
 FailsIsRight = (rs : Thrice (List RowAt)) → AtAll (Every Sound) rs → (required mark : Fraction) → whole 0 ≼ required → whole 0 ≼ mark →

@@ -7,3 +7,4 @@ pub mod Bounds
 pub mod Enclosure
 pub mod Width
 pub mod Verdicts
+pub mod Sums

@@ -1,19 +1,19 @@
 -- How wide the ends are: of what a row adds, of a partial index and of A. Assumes nothing.
-use Prim.Native.Nat.{ℕ, _+_, _*_, _/_, _^_, _≤_, _<_}
+use Prim.Native.Nat.{ℕ, zero, suc, _+_, _*_, _^_, _≤_}
 use mathlib.Core.List.{List, [], _∷_}
 use native.Mathlib.Nat.{le-of-mul-le-mul-right, mul-le-mul, mul-le-mul-left, mul-le-mul-right}
 use native.Mathlib.Omega.{arith}
 use lib.Dec.{lit<}
 use lib.ListN.{length}
-use Rattle.laws.specs.Rounding.{ceil}
 use Rattle.laws.specs.Sums.{sumOf}
 use Rattle.laws.proofs.Rounding.{floor-upper, ceil-upper, ends-apart}
 use Rattle.records.specs.declared.Ends.{Ends}
 use Rattle.records.specs.declared.Survival.{Survival}
+use Rattle.records.specs.declared.Trio.{Trio}
 use Rattle.survival.specs.Survival.{ends}
-use Rattle.survival.specs.Index.{scale, addsOf, attainedOf}
-use Rattle.survival.specs.Exact.{RowAt, Close, Every, rowEnds, partialEnds}
-use Rattle.survival.specs.Promises.{PartialWidth, AttainedWidth}
+use Rattle.survival.specs.Index.{scale, at, addsOf, attainedOf}
+use Rattle.survival.specs.Exact.{RowAt, Close, Every, rowEnds, partialEnds, partialsOf}
+use Rattle.survival.specs.Promises.{AtMostOne, PartialWidth, AttainedWidth}
 use Rattle.survival.proofs.Bounds.{ends-near, ends-at-most}
 
 -- ---- what a row adds: the two roundings come to less than two
@@ -49,7 +49,20 @@ partial-width w rs h k =
     le-of-mul-le-mul-right {m = partialEnds rs .upper} {n = partialEnds rs .lower + (100000 + (w + 2) * length rs)} {k = scale}
     (omega (arith, rows-width w rs h)) (lit< tt)
 
--- ---- A
-pub attained-width : AttainedWidth
+-- ---- A: at most one further apart than the partial indices are
+pub weighed-width : (k : ℕ) (t : Trio) → ((i : ℕ) → at t i .upper ≤ at t i .lower + k) → attainedOf t .upper ≤ attainedOf t .lower + (k + 1)
 unfolding attainedOf
-attained-width k t h = ends-apart _ _ k 5 (lit< tt) (omega (arith, h 0, h 1, h 2))
+weighed-width k t h = ends-apart _ _ k 5 (lit< tt) (omega (arith, h 0, h 1, h 2))
+
+pub attained-width : AttainedWidth
+attained-width w n rs h k m =
+    let wide = weighed-width (100000 + (w + 2) * n) (partialsOf rs) each in omega arith
+  where
+    one : (r : List RowAt) → Every (Close w) r → AtMostOne r → length r ≤ n → partialEnds r .upper ≤ partialEnds r .lower + (100000 + (w + 2) * n)
+    one r p q l = omega (arith, partial-width w r p q, mul-le-mul-left (w + 2) l)
+
+    each : (i : ℕ) → at (partialsOf rs) i .upper ≤ at (partialsOf rs) i .lower + (100000 + (w + 2) * n)
+    each zero = one (rs .deepest) (h .0) (k .0) (m .0)
+    each (suc zero) = one (rs .partial) (h .1) (k .1) (m .1)
+    each (suc (suc zero)) = one (rs .light) (h .2) (k .2) (m .2)
+    each (suc (suc (suc i))) = omega arith

@@ -1,7 +1,7 @@
 -- What is promised of the ends and of the verdict, for rows of whatever kind: document 01, "What a reader may rely on". Assumes nothing.
 use Prim.Native.Nat.{ℕ, _+_, _*_, _^_, _≤_}
 use mathlib.Core.Path.{_≡_}
-use mathlib.Core.List.{List}
+use mathlib.Core.List.{List, map}
 use mathlib.Core.Logic.{_↔_, _⊎_}
 use lib.ListN.{length}
 use Rattle.laws.specs.Fraction.{Fraction, whole, _≼_, _≺_}
@@ -10,9 +10,9 @@ use Rattle.records.specs.declared.Ends.{Ends}
 use Rattle.records.specs.declared.Trio.{Trio}
 use Rattle.survival.specs.Ratio.{ratioOf}
 use Rattle.survival.specs.Survival.{root, ends, Sensible, Bottom, Top}
-use Rattle.survival.specs.Index.{at, attainedOf}
+use Rattle.survival.specs.Index.{at, partials, attainedOf}
 use Rattle.survival.specs.Verdict.{verdictOf}
-use Rattle.survival.specs.Exact.{billionths, RowAt, Sound, Close, Every, NoneAbove, NoneBelow, weightedSum, partialEnds, Thrice, AtAll, AtEach, partialsOf, exactA}
+use Rattle.survival.specs.Exact.{billionths, RowAt, Sound, Close, Every, NoneAbove, NoneBelow, weightedSum, partialEnds, Thrice, AtAll, AtEach, partialsOf, exactA, Row, rowsAt, rowTrio}
 
 -- ---- survival: bottom and top are those of 01, for every s⁴ from 0 to 1
 abbrev pub BottomAndTop : Type 0
@@ -32,14 +32,21 @@ AttainedNoMore = (rs : Thrice (List RowAt)) → AtAll (Every Sound) rs → (xs :
 abbrev pub AttainedNoLess : Type 0
 AttainedNoLess = (rs : Thrice (List RowAt)) → AtAll (Every Sound) rs → (xs : Thrice (List Fraction)) → AtEach NoneBelow rs xs → billionths (attainedOf (partialsOf rs) .lower) ≼ exactA rs xs
 
--- ---- the ends are close: where those of each share are at most w apart and the lower ends, weighted by v, come to at most one
-abbrev pub PartialWidth : Type 0
-PartialWidth = (w : ℕ) (rs : List RowAt) → Every (Close w) rs → sumOf (λ r. r .shareEnds .lower * r .v) rs ≤ 10 ^ 9 * 916500 →
-    partialEnds rs .upper ≤ partialEnds rs .lower + (100000 + (w + 2) * length rs)
+-- what the code sums row by row is what is said here draught by draught
+abbrev pub SumsAreThese : Type 0
+SumsAreThese = (rs : List Row) → partials (map rowTrio rs) ≡ partialsOf (rowsAt rs)
 
--- A's are at most one further apart than the partial indices' are
+-- ---- the ends are close, where those of each share are at most w apart and the lower ones, weighted by v, come to at most one
+abbrev pub AtMostOne : List RowAt → Type 0
+AtMostOne rs = sumOf (λ r. r .shareEnds .lower * r .v) rs ≤ 10 ^ 9 * 916500
+
+abbrev pub PartialWidth : Type 0
+PartialWidth = (w : ℕ) (rs : List RowAt) → Every (Close w) rs → AtMostOne rs → partialEnds rs .upper ≤ partialEnds rs .lower + (100000 + (w + 2) * length rs)
+
+-- A's are at most one further apart
 abbrev pub AttainedWidth : Type 0
-AttainedWidth = (k : ℕ) (t : Trio) → ((i : ℕ) → at t i .upper ≤ at t i .lower + k) → attainedOf t .upper ≤ attainedOf t .lower + (k + 1)
+AttainedWidth = (w n : ℕ) (rs : Thrice (List RowAt)) → AtAll (Every (Close w)) rs → AtAll AtMostOne rs → AtAll (λ r. length r ≤ n) rs →
+    attainedOf (partialsOf rs) .upper ≤ attainedOf (partialsOf rs) .lower + (100001 + (w + 2) * n)
 
 -- ---- the four figures: A and the three partial indices
 pub record AllFour (index deepest partial light : Type 0) : Type 0 where

@@ -8,3 +8,4 @@ pub mod Enclosure
 pub mod Width
 pub mod Verdicts
 pub mod Sums
+pub mod Values

@@ -15,13 +15,13 @@ use Rattle.survival.specs.declared.Ratio.{Ratio}
 use Rattle.survival.proofs.Ratios.{same-ratio, ratio-over, ratio-product, over-plain, product}
 
 -- ---- R and half of it
-pub required-long : {L : ℕ} → 10000 < L → ratioOf (R L) ≡ record { num = L + 2400; den = L + 15200 }
+pub required-long : (L : ℕ) → 10000 < L → ratioOf (R L) ≡ record { num = L + 2400; den = L + 15200 }
 unfolding R
-required-long {L} h = rw (lt-ltb 10000 L h) (ratio-over (L + 2400) {d = L + 15200} (omega arith))
+required-long L h = rw (lt-ltb 10000 L h) (ratio-over (L + 2400) {d = L + 15200} (omega arith))
 
-pub required-short : {L : ℕ} → L ≤ 10000 → ratioOf (R L) ≡ record { num = L * (L + 2400); den = L * (L + 2400) + 128000000 }
+pub required-short : (L : ℕ) → L ≤ 10000 → ratioOf (R L) ≡ record { num = L * (L + 2400); den = L * (L + 2400) + 128000000 }
 unfolding R
-required-short {L} h = rw (le-ltb 10000 L h) (ratio-over (L * (L + 2400)) {d = L * (L + 2400) + 128000000} (omega arith))
+required-short L h = rw (le-ltb 10000 L h) (ratio-over (L * (L + 2400)) {d = L * (L + 2400) + 128000000} (omega arith))
 
 required-plain : (L : ℕ) → R L .down ≡ 0
 unfolding R
@@ -38,12 +38,12 @@ mark-half L =
     ratio-product (R L) (1 over 2) (required-plain L) (over-plain 1 2) ∙ rw half (same-ratio (omega arith) refl)
 
 -- ---- and their bounds
-pub short-square : {L : ℕ} → L ≤ 10000 → L * (L + 2400) ≤ 124000000
-short-square {L} h = let m : L + 2400 ≤ 12400 = omega arith in mul-le-mul h m
+pub short-square : (L : ℕ) → L ≤ 10000 → L * (L + 2400) ≤ 124000000
+short-square L h = let m : L + 2400 ≤ 12400 = omega arith in mul-le-mul h m
 
 pub required-bounds : {L : ℕ} → L ≤ 10 ^ 6 → (0 < ratioOf (R L) .den) × (ratioOf (R L) .num ≤ ratioOf (R L) .den) × (ratioOf (R L) .den ≤ 252000000)
 required-bounds {L} h =
-    split L 10000 (λ l. rw (required-short l) (omega (arith, short-square l))) (λ l. rw (required-long l) (omega arith))
+    split L 10000 (λ l. rw (required-short L l) (omega (arith, short-square L l))) (λ l. rw (required-long L l) (omega arith))
 
 pub required-proper : {L : ℕ} → L ≤ 10 ^ 6 → Proper (10 ^ 9) (ratioOf (R L))
 required-proper h = let b = required-bounds h in record { positive = b .0; at-most-one = b .1; narrow = omega arith }

@@ -1,18 +1,19 @@
 -- The required index and the partial mark by numerator and denominator, and what an end that reaches a mark tells. Assumes nothing.
 use Prim.Native.Nat.{ℕ, _+_, _*_, _^_, _≤_, _<_}
 use mathlib.Core.Bool.{Bool, true, false, cond}
-use mathlib.Core.Path.{_≡_, refl, ap, _∙_}
+use mathlib.Core.Path.{_≡_, refl, _∙_}
 use native.Mathlib.Nat.{mul-le-mul, mul-le-mul-left, mul-le-mul-right, le-trans}
 use native.Mathlib.Omega.{arith}
 use lib.Dec.{ltb, lit<}
 use borrow.Author.Tests.{lt-ltb, le-ltb, le-leb}
-use Rattle.laws.specs.Fraction.{Fraction, _over_}
+use Rattle.laws.specs.Fraction.{_over_, whole, _≼_}
 use Rattle.solas.specs.Index.{R, partialMark}
 use Rattle.solas.proofs.Quotients.{split}
 use Rattle.survival.specs.Ratio.{ratioOf, Proper}
 use Rattle.survival.specs.Verdict.{reaches}
 use Rattle.survival.specs.declared.Ratio.{Ratio}
-use Rattle.survival.proofs.Ratios.{same-ratio, ratio-over, ratio-product, over-plain, product}
+use Rattle.survival.proofs.Compare.{plain-not-negative}
+use Rattle.survival.proofs.Ratios.{same-ratio, ratio-over, ratio-product, over-plain, product-plain}
 
 -- ---- R and half of it
 pub required-long : (L : ℕ) → 10000 < L → ratioOf (R L) ≡ record { num = L + 2400; den = L + 15200 }
@@ -30,6 +31,13 @@ required-plain L = plain (ltb 10000 L)
     plain : (b : Bool) → cond b ((L + 2400) over (L + 15200)) ((L * (L + 2400)) over (L * (L + 2400) + 128000000)) .down ≡ 0
     plain true = over-plain (L + 2400) (L + 15200)
     plain false = over-plain (L * (L + 2400)) (L * (L + 2400) + 128000000)
+
+pub required-not-negative : (L : ℕ) → whole 0 ≼ R L
+required-not-negative L = plain-not-negative (required-plain L)
+
+pub mark-not-negative : (L : ℕ) → whole 0 ≼ partialMark L
+unfolding partialMark
+mark-not-negative L = plain-not-negative (product-plain (R L) (1 over 2) (required-plain L) (over-plain 1 2))
 
 pub mark-half : (L : ℕ) → ratioOf (partialMark L) ≡ record { num = ratioOf (R L) .num; den = ratioOf (R L) .den * 2 }
 unfolding partialMark

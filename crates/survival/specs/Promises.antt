@@ -2,7 +2,7 @@
 use Prim.Native.Nat.{ℕ, _+_, _*_, _^_, _≤_}
 use mathlib.Core.Path.{_≡_}
 use mathlib.Core.List.{List, map}
-use mathlib.Core.Logic.{_↔_, _⊎_}
+use mathlib.Core.Logic.{_↔_}
 use lib.ListN.{length}
 use Rattle.laws.specs.Fraction.{Fraction, whole, _≼_, _≺_}
 use Rattle.laws.specs.Sums.{sumOf}

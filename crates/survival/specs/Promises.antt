@@ -43,6 +43,10 @@ AtMostOne rs = sumOf (λ r. r .shareEnds .lower * r .v) rs ≤ 10 ^ 9 * 916500
 abbrev pub PartialWidth : Type 0
 PartialWidth = (w : ℕ) (rs : List RowAt) → Every (Close w) rs → AtMostOne rs → partialEnds rs .upper ≤ partialEnds rs .lower + (100000 + (w + 2) * length rs)
 
+-- so no end is much above one: four bytes hold it
+abbrev pub PartialAtMost : Type 0
+PartialAtMost = (w : ℕ) (rs : List RowAt) → Every (Close w) rs → AtMostOne rs → (partialEnds rs .lower ≤ 10 ^ 9) × (partialEnds rs .upper ≤ 10 ^ 9 + (100000 + (w + 2) * length rs))
+
 -- A's are at most one further apart
 abbrev pub AttainedWidth : Type 0
 AttainedWidth = (w n : ℕ) (rs : Thrice (List RowAt)) → AtAll (Every (Close w)) rs → AtAll AtMostOne rs → AtAll (λ r. length r ≤ n) rs →

@@ -1,12 +1,7 @@
 // Single figures of the inner crates, for a host in C that compares them with the independent program.
 use records::Finding;
 ghost use mathlib.Core.Path.{_≡_};
-ghost use mathlib.Core.Bool.{cond};
-ghost use Prim.Native.Nat.{_^_};
-ghost use lib.Dec.{leb};
 ghost use Rattle.solas.specs.Height.{rowV};
-ghost use Rattle.solas.specs.Index.{R};
-ghost use Rattle.survival.specs.Ratio.{ratioOf};
 ghost use Rattle.survival.specs.Survival.{survivalOf};
 
 // The bottom of a result's survival.
@@ -43,28 +38,4 @@ pub extern "C" fn probe_height(below: u64, height: u64, draught: u64) -> u64
     ensures { λ r. ⌜ r ≡ rowV below height draught ⌝ }
 {
     survival::height::row_factor(below, height, draught)
-}
-
-// The numerator of R, for a length up to 10⁶; else 0.
-#[no_mangle]
-pub extern "C" fn probe_required_num(length: u64) -> u64
-    ensures { λ r. ⌜ r ≡ cond (leb length (10 ^ 6)) (ratioOf (R length) .num) 0 ⌝ }
-{
-    if length <= 1_000_000 {
-        survival::verdict::required(length).num
-    } else {
-        0
-    }
-}
-
-// Its denominator.
-#[no_mangle]
-pub extern "C" fn probe_required_den(length: u64) -> u64
-    ensures { λ r. ⌜ r ≡ cond (leb length (10 ^ 6)) (ratioOf (R length) .den) 0 ⌝ }
-{
-    if length <= 1_000_000 {
-        survival::verdict::required(length).den
-    } else {
-        0
-    }
 }

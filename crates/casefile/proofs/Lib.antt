@@ -1,1 +1,3 @@
 pub mod Examples
+pub mod Checks
+pub mod Steps

@@ -1,20 +1,17 @@
 -- A line passes where no check of its list holds: what that tells of each line. Assumes nothing.
-use Prim.Native.Nat.{ℕ, zero, suc, _+_, _≤_, _<_}
-use mathlib.Core.Path.{_≡_, refl, sym, _∙_, ap}
-use mathlib.Core.Bool.{Bool, true, false, cond, not, _||_}
+use Prim.Native.Nat.{ℕ, suc, _<_}
+use mathlib.Core.Path.{_≡_, refl, _∙_}
+use mathlib.Core.Bool.{Bool, true, false, cond}
 use mathlib.Core.List.{List, [], _∷_}
 use native.Mathlib.Omega.{arith}
-use lib.Dec.{leb, ltb, eqb}
-use lib.ListN.{length}
 use borrow.Author.Tests.{eqb-true, eq-eqb, leb-false, lt-leb, not-false}
 use Rattle.records.specs.declared.Hull.{Hull}
 use Rattle.frames.specs.Lines.{Line}
-use Rattle.frames.specs.Hex.{pairs, proper, badlyWritten}
-use Rattle.frames.proofs.Tests.{neither}
+use Rattle.frames.specs.Hex.{pairs, badlyWritten}
 use Rattle.casefile.specs.declared.Progress.{Progress}
 use Rattle.casefile.specs.Record.{Row}
 use Rattle.casefile.specs.Layout.{kindOf, fieldsOf, isRow, hullOf, rowOf, countOf}
-use Rattle.casefile.specs.Limits.{mostRows, sizesFit, zonesFit, rowFits}
+use Rattle.casefile.specs.Limits.{mostRows, sizesFit, rowFits}
 use Rattle.casefile.specs.Order.{outOfOrder, leavesOpen, endsOpen}
 use Rattle.casefile.specs.Table.{Check, _when_, firstHolds, wrongHullFrame, wrongFrame, wrongZones, hullChecks, rowChecks, endChecks, lineChecks}
 

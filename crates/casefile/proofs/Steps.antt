@@ -1,13 +1,13 @@
 -- The reading line by line: what each line's judging makes of the rest, in a form that a loop over the bytes can keep. Assumes nothing.
-use Prim.Native.Nat.{ℕ, zero, suc, _+_, _≤_, _<_}
-use mathlib.Core.Path.{_≡_, refl, sym, _∙_, ap}
+use Prim.Native.Nat.{ℕ, suc, _+_, _≤_, _<_}
+use mathlib.Core.Path.{_≡_, refl, sym, _∙_}
 use mathlib.Core.Bool.{Bool, true, false, cond}
 use mathlib.Core.List.{List, [], _∷_}
 use native.Mathlib.Nat.{zero-add, add-zero}
 use native.Mathlib.Omega.{arith}
-use lib.Dec.{leb, ltb, eqb}
+use lib.Dec.{eqb}
 use lib.ListN.{length}
-use borrow.Author.Tests.{eq-eqb, ne-eqb, eqb-true, eqb-false, lt-ltb, le-ltb, leb-false}
+use borrow.Author.Tests.{eq-eqb, ne-eqb, eqb-true, eqb-false, lt-ltb, le-ltb}
 use Rattle.records.specs.declared.Hull.{Hull}
 use Rattle.records.specs.declared.RowHead.{RowHead}
 use Rattle.frames.specs.Lines.{Line, lines}
@@ -15,11 +15,11 @@ use Rattle.frames.specs.Hex.{pairs}
 use Rattle.casefile.specs.declared.Frame.{Frame}
 use Rattle.casefile.specs.declared.Progress.{Progress}
 use Rattle.casefile.specs.declared.Judgement.{Judgement}
-use Rattle.casefile.specs.Record.{Row, Case}
-use Rattle.casefile.specs.Layout.{kindOf, fieldsOf, isRow, hullOf, rowOf, countOf}
+use Rattle.casefile.specs.Record.{Row}
+use Rattle.casefile.specs.Layout.{kindOf, isRow, rowOf, countOf}
 use Rattle.casefile.specs.Limits.{longestInput, mostRows}
-use Rattle.casefile.specs.Table.{Check, firstHolds, hullChecks, lineChecks}
-use Rattle.casefile.specs.Reading.{Reading, refused, accepted, Stage, begin, inside, start, withRow, withEnd, checks, next, before, gathered, finished, readFrom, reading}
+use Rattle.casefile.specs.Table.{firstHolds, lineChecks}
+use Rattle.casefile.specs.Reading.{Reading, refused, accepted, Stage, begin, inside, withEnd, checks, next, before, gathered, finished, readFrom, reading}
 use Rattle.casefile.specs.Answer.{frameOf, judged, noHull, judgementOf}
 use Rattle.casefile.proofs.Checks.{line-of-row}
 

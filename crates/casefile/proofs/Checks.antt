@@ -103,7 +103,7 @@ module _ (h : Hull) (p : Progress) where
     abbrev own : List Check
     own = cond (isRow (kindOf (pairs (l .text)))) (rowChecks h p (rowOf (pairs (l .text)))) (endChecks h p (countOf (pairs (l .text))))
 
-    passes-first : firstHolds (lineChecks h p l) ≡ 0 → LinePasses p l × (firstHolds own ≡ 0)
+    pub passes-first : firstHolds (lineChecks h p l) ≡ 0 → LinePasses p l × (firstHolds own ≡ 0)
     unfolding lineChecks
     passes-first e =
         let (g, e1) = first-fails 10 _ _ (nonzero 9) e in

@@ -2,6 +2,12 @@ pub mod Examples
 pub mod Checks
 pub mod Steps
 pub mod Limits
+pub mod Order
 pub mod Words
 pub mod RowLayout
 pub mod HullLayout
+pub mod Passing
+pub mod Chain
+pub mod Soundness
+pub mod Completeness
+pub mod Acceptance

@@ -19,7 +19,7 @@ use Rattle.casefile.specs.Record.{Row}
 use Rattle.casefile.specs.Layout.{kindOf, isRow, rowOf, countOf}
 use Rattle.casefile.specs.Limits.{longestInput, mostRows}
 use Rattle.casefile.specs.Table.{firstHolds, lineChecks}
-use Rattle.casefile.specs.Reading.{Reading, refused, accepted, Stage, begin, inside, withEnd, checks, next, before, gathered, finished, readFrom, reading}
+use Rattle.casefile.specs.Reading.{Reading, refused, accepted, Stage, begin, inside, withRow, withEnd, checks, next, before, gathered, finished, readFrom, reading}
 use Rattle.casefile.specs.Answer.{frameOf, judged, noHull, judgementOf}
 use Rattle.casefile.proofs.Checks.{line-of-row}
 
@@ -84,19 +84,22 @@ module _ (h : Hull) (p : Progress) (l : Line) where
   unfolding judged frameOf
   judged-end c e = end-case c (eqb number 0) (isRow (kindOf bytes)) refl e
 
+  pub row-passes-on : (n : ℕ) (ls : List Line) → number ≡ 0 → isRow (kindOf bytes) ≡ true →
+      readFrom (inside h p) n (l ∷ ls) ≡ before (rowOf bytes) (readFrom (inside h (withRow p (rowOf bytes))) (n + 1) ls)
+  row-passes-on n ls e k = line-passes (inside h p) n l ls e ∙ rw k refl
+
+  pub end-passes-on : (n : ℕ) (ls : List Line) → number ≡ 0 → isRow (kindOf bytes) ≡ false → readFrom (inside h p) n (l ∷ ls) ≡ readFrom (inside h (withEnd p)) (n + 1) ls
+  end-passes-on n ls e k = line-passes (inside h p) n l ls e ∙ rw k refl
+
   pub wrong-stops : (n k : ℕ) (ls : List Line) → judged h p l ≡ Frame.Wrong k → readFrom (inside h p) n (l ∷ ls) ≡ refused k n
   wrong-stops n k ls e = let (a, b) = judged-wrong k e in line-refused (inside h p) n l ls k a b
 
   pub row-goes-on : (n : ℕ) (r : RowHead) (ls : List Line) → judged h p l ≡ Frame.Row r →
       readFrom (inside h p) n (l ∷ ls) ≡ before (rowOf bytes) (readFrom (inside h (record { rows = p .rows + 1; last = r; ended = false })) (n + 1) ls)
-  row-goes-on n r ls e =
-      let (a, b, c) = judged-row r e in
-      line-passes (inside h p) n l ls a ∙ rw (b, c) refl
+  row-goes-on n r ls e = let (a, b, c) = judged-row r e in rw c (row-passes-on n ls a b)
 
   pub end-goes-on : (n c : ℕ) (ls : List Line) → judged h p l ≡ Frame.End c → readFrom (inside h p) n (l ∷ ls) ≡ readFrom (inside h (withEnd p)) (n + 1) ls
-  end-goes-on n c ls e =
-      let (a, b, d) = judged-end c e in
-      line-passes (inside h p) n l ls a ∙ rw b refl
+  end-goes-on n c ls e = let (a, b, d) = judged-end c e in end-passes-on n ls a b
 
   pub row-counts : (r : RowHead) → judged h p l ≡ Frame.Row r → p .rows < mostRows
   row-counts r e =

@@ -7,3 +7,4 @@ pub mod Reading
 pub mod Encode
 pub mod Valid
 pub mod Answer
+pub mod Acceptance

@@ -11,3 +11,7 @@ pub mod Chain
 pub mod Soundness
 pub mod Completeness
 pub mod Acceptance
+pub mod Turns
+pub mod EndFrames
+pub mod Refusal
+pub mod TableOrder

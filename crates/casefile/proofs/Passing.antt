@@ -80,7 +80,7 @@ module _ (l : Line) (w : badlyWritten l ≡ false) where
   -- ---- a later line
 
   module _ (f : wrongFrame bs ≡ false) where
-    fits : ((isRow (kindOf bs) || isEnd (kindOf bs)) ≡ true) × (length bs ≡ frameLength (kindOf bs))
+    pub fits : ((isRow (kindOf bs) || isEnd (kindOf bs)) ≡ true) × (length bs ≡ frameLength (kindOf bs))
     unfolding wrongFrame
     fits =
         let (k, n) = neither (not (isRow (kindOf bs) || isEnd (kindOf bs))) (not (eqb (length bs) (frameLength (kindOf bs)))) f in

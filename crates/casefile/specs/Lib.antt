@@ -8,3 +8,4 @@ pub mod Encode
 pub mod Valid
 pub mod Answer
 pub mod Acceptance
+pub mod Refusal

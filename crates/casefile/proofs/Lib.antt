@@ -1,4 +1,3 @@
-pub mod Examples
 pub mod Checks
 pub mod Steps
 pub mod Limits
@@ -15,3 +14,4 @@ pub mod Turns
 pub mod EndFrames
 pub mod Refusal
 pub mod TableOrder
+pub mod Examples

@@ -1,5 +1,6 @@
 pub mod Checks
 pub mod Steps
+pub mod Judging
 pub mod Limits
 pub mod Order
 pub mod Words
@@ -15,3 +16,4 @@ pub mod EndFrames
 pub mod Refusal
 pub mod TableOrder
 pub mod Examples
+pub mod Walk

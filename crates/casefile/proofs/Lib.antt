@@ -17,3 +17,5 @@ pub mod Refusal
 pub mod TableOrder
 pub mod Examples
 pub mod Walk
+pub mod Groups
+pub mod GroupRows

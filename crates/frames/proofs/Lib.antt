@@ -4,3 +4,4 @@ pub mod Hex
 pub mod Pairs
 pub mod Decode
 pub mod Fields
+pub mod CodeDecoding

@@ -4,6 +4,7 @@ use records::Hull;
 use records::RowHead;
 
 pub mod follows; // the order of rows
+mod readers; // records from fields
 pub mod within; // the limits of a hull and of a row
 
 // What a line after the hull is: a row's head, the end's count, or a refusal's number.

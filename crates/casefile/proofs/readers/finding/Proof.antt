@@ -1,5 +1,4 @@
 -- `finding` meets its contract. Assumes nothing.
-use mathlib.Core.Path.{refl}
 use borrow.Author.Tests.{eq-eqb, ne-eqb}
 use Rattle.casefile.specs.Layout.{findingOf}
 use borrow.Author.Needs.{needs}

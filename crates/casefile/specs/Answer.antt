@@ -6,14 +6,13 @@ use lib.ListN.{length, drop, replicate}
 use lib.Dec.{eqb}
 use Rattle.records.specs.declared.Hull.{Hull}
 use Rattle.records.specs.declared.Finding.{Finding}
-use Rattle.records.specs.declared.RowHead.{RowHead}
 use Rattle.frames.specs.Lines.{Line, lines}
 use Rattle.frames.specs.Hex.{pairs, badlyWritten}
 use Rattle.casefile.specs.declared.Frame.{Frame}
 use Rattle.casefile.specs.declared.Progress.{Progress}
 use Rattle.casefile.specs.declared.Judgement.{Judgement}
 use Rattle.casefile.specs.declared.RowPlace.{RowPlace}
-use Rattle.casefile.specs.Record.{Row, Case}
+use Rattle.casefile.specs.Record.{Row}
 use Rattle.casefile.specs.Layout.{kindOf, isRow, rowOf, countOf}
 use Rattle.casefile.specs.Table.{firstHolds, lineChecks, wrongFrame}
 use Rattle.casefile.specs.Reading.{Reading, refused, accepted}

@@ -16,4 +16,4 @@ rowLines (r ∷ rs) = lineOf (rowBytes r) ++ rowLines rs
 
 -- the hull, the rows, the end with their count
 unfoldable pub encode : Case → List ℕ
-encode c = lineOf (hullBytes (c .hull)) ++ rowLines (c .rows) ++ lineOf (endBytes (length (c .rows)))
+encode c = lineOf (hullBytes (c .hull)) ++ (rowLines (c .rows) ++ lineOf (endBytes (length (c .rows))))

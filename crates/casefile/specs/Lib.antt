@@ -7,3 +7,5 @@ pub mod Reading
 pub mod Encode
 pub mod Valid
 pub mod Answer
+pub mod Acceptance
+pub mod Refusal

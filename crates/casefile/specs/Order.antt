@@ -1,5 +1,5 @@
 -- Document 01, "The case file", "Order": a row against the row before it (kind 0: there is none), refusals 8 and 9. Assumes nothing.
-use Prim.Native.Nat.{ℕ, _+_, _/_}
+use Prim.Native.Nat.{_+_, _/_}
 use mathlib.Core.Bool.{Bool, not, _&&_, _||_}
 use lib.Dec.{leb, ltb, eqb}
 use Rattle.records.specs.declared.Hull.{Hull}

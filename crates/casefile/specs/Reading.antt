@@ -1,11 +1,10 @@
 -- Document 01, "The case file": what an input says, a case or a refusal's number and line; lines are judged in turn. Assumes nothing.
 use Prim.Native.Nat.{ℕ, _+_}
-use mathlib.Core.Bool.{Bool, true, false, cond}
+use mathlib.Core.Bool.{true, false, cond}
 use mathlib.Core.List.{List, [], _∷_}
 use lib.ListN.{length}
 use lib.Dec.{ltb, eqb}
 use Rattle.records.specs.declared.Hull.{Hull}
-use Rattle.records.specs.declared.RowHead.{RowHead}
 use Rattle.frames.specs.Lines.{Line, lines}
 use Rattle.frames.specs.Hex.{pairs}
 use Rattle.casefile.specs.declared.Progress.{Progress}

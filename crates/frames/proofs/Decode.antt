@@ -1,18 +1,18 @@
 -- Decoding pair by pair: the next pair of a line from a place on, the first of its bytes, and a proper line by the count of its bytes. Assumes nothing.
 use Prim.Native.Nat.{ℕ, zero, suc, _+_, _*_, _%_, _≤_, _<_}
-use mathlib.Core.Path.{_≡_, refl, sym, _∙_, ap}
-use mathlib.Core.Bool.{Bool, true, false, _&&_}
+use mathlib.Core.Path.{_≡_, refl, ap}
+use mathlib.Core.Bool.{true, _&&_}
 use mathlib.Core.List.{List, [], _∷_}
 use native.Mathlib.Nat.{suc-mul}
 use native.Mathlib.Numerals.{add-one, add-two}
 use native.Mathlib.Omega.{arith}
 use lib.Dec.{ltb, eqb}
 use lib.ListN.{length, getD, take, drop, length-drop}
-use lib.Seq.{drop-cons, take-nil}
-use borrow.Author.Tests.{lt-ltb, ltb-true, eq-eqb, eqb-true}
+use lib.Seq.{drop-cons}
+use borrow.Author.Tests.{lt-ltb, eq-eqb, eqb-true}
 use Rattle.frames.specs.declared.Digit.{Digit}
 use Rattle.frames.specs.declared.Digit.the-variants.{Value, Bad}
-use Rattle.frames.specs.Hex.{digitOf, joined, pairOf, before, pairs, digitsOnly, proper}
+use Rattle.frames.specs.Hex.{digitOf, pairOf, before, pairs, digitsOnly, proper}
 use Rattle.frames.proofs.Tests.{both, same-test}
 use Rattle.frames.proofs.Hex.{pair-parts}
 use Rattle.frames.proofs.Pairs.{length-pairs, proper-parts}

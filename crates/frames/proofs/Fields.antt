@@ -1,9 +1,9 @@
 -- Fields of one and two bytes: how great they are, in a part of a line, and written back. Assumes nothing.
-use Prim.Native.Nat.{ℕ, suc, _+_, _*_, _/_, _%_, _≤_, _<_}
-use mathlib.Core.Path.{_≡_, refl, sym, _∙_, ap, ap₂}
+use Prim.Native.Nat.{ℕ, _+_, _<_}
+use mathlib.Core.Path.{_≡_, refl, _∙_, ap₂}
 use mathlib.Core.List.{List, [], _∷_, _++_}
 use native.Mathlib.Omega.{arith}
-use lib.ListN.{length, getD, drop}
+use lib.ListN.{drop}
 use lib.Seq.{getD-drop}
 use Rattle.laws.specs.Bytes.{Octets, bytes}
 use Rattle.laws.proofs.Bytes.{two-bytes}

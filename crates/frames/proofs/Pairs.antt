@@ -1,19 +1,17 @@
 -- A line of digits and its bytes: the way there and back, and the line's pairs one by one. Assumes nothing.
-use Prim.Native.Nat.{ℕ, zero, suc, _+_, _-_, _*_, _/_, _%_, _≤_, _<_}
-use mathlib.Core.Path.{_≡_, refl, sym, _∙_, ap, ap₂}
-use mathlib.Core.Bool.{Bool, true, false, cond, not, _&&_, false≢true}
+use Prim.Native.Nat.{ℕ, zero, suc, _+_, _*_, _/_, _%_, _<_}
+use mathlib.Core.Path.{_≡_, refl, ap}
+use mathlib.Core.Bool.{true, _&&_, false≢true}
 use mathlib.Core.List.{List, [], _∷_, _++_}
-use native.Mathlib.Numerals.{add-one, add-two}
 use native.Mathlib.Omega.{arith}
 use lib.Dec.{ltb, eqb, lit<}
-use lib.ListN.{length, getD, take, drop, length-drop}
-use lib.Seq.{drop-cons, take-nil}
+use lib.ListN.{length}
 use borrow.Author.Tests.{lt-ltb, ltb-true, eq-eqb, eqb-true}
 use Rattle.laws.specs.Bytes.{Octets}
 use Rattle.frames.specs.declared.Digit.{Digit}
 use Rattle.frames.specs.declared.Digit.the-variants.{Value, Bad}
-use Rattle.frames.specs.Hex.{digitOf, refusalOf, joined, pairOf, before, pairs, digitsOnly, proper, digit, hex}
-use Rattle.frames.proofs.Tests.{both, same-test}
+use Rattle.frames.specs.Hex.{digitOf, refusalOf, pairOf, before, pairs, digitsOnly, proper, hex}
+use Rattle.frames.proofs.Tests.{both}
 use Rattle.frames.proofs.Lines.{NoFeed}
 use Rattle.frames.proofs.Hex.{value-of-digit, digit-no-feed, pair-below, pair-again, pair-of-digits}
 
@@ -25,6 +23,10 @@ octets-cons b bs h o (suc i) = o i
 
 pub octets-rest : (b : ℕ) (bs : List ℕ) → Octets (b ∷ bs) → Octets bs
 octets-rest b bs o i = o (suc i)
+
+pub octets-append : (xs ys : List ℕ) → Octets xs → Octets ys → Octets (xs ++ ys)
+octets-append [] ys o p = p
+octets-append (x ∷ xs) ys o p = octets-cons x (xs ++ ys) (o 0) (octets-append xs ys (octets-rest x xs o) p)
 
 pub length-hex : (bs : List ℕ) → length (hex bs) ≡ length bs * 2
 unfolding hex

@@ -4,6 +4,7 @@ use records::Hull;
 use records::RowHead;
 
 pub mod follows; // the order of rows
+pub mod judging; // a line by the table of refusals
 mod readers; // records from fields
 pub mod within; // the limits of a hull and of a row
 

@@ -1,18 +1,19 @@
 -- What the loop over a line's pairs of digits keeps: the bytes of the pairs that are left go on behind those that are stored. Assumes nothing.
-use Prim.Native.Nat.{ℕ, _+_, _*_, _/_, _≤_, _<_}
+use Prim.Native.Nat.{ℕ, zero, suc, _+_, _*_, _/_, _≤_, _<_}
 use mathlib.Core.Path.{_≡_, refl, sym, _∙_, ap}
-use mathlib.Core.Bool.{true, false, cond, _&&_}
+use mathlib.Core.Bool.{Bool, true, false, cond, _&&_}
 use mathlib.Core.List.{List, [], _∷_}
 use native.Mathlib.Numerals.{add-one}
 use native.Mathlib.Omega.{arith}
 use lib.Dec.{ltb}
-use lib.ListN.{length, getD, drop, set, length-set}
-use lib.Seq.{sets}
+use lib.ListN.{length, getD, take, drop, set, replicate, length-set, getD-replicate}
+use lib.Seq.{sets, sets-eq, take-at}
 use borrow.Author.Tests.{lt-ltb, eq-eqb, ne-eqb}
 use Rattle.frames.specs.declared.Digit.the-variants.{Value, Bad}
 use Rattle.frames.specs.declared.Written.the-variants.{Bytes, Badly}
 use Rattle.frames.specs.Hex.{digitOf, pairOf, pairs, proper}
 use Rattle.frames.specs.Decoding.{writtenOf}
+use Rattle.frames.proofs.Pairs.{length-pairs, pairs-some}
 use Rattle.frames.proofs.Decode.{pairs-go-on, proper-by-count}
 
 -- ---- a pair by its digits
@@ -76,3 +77,47 @@ module _ (text was out : List ℕ) (i : ℕ) (p : Decoding text was out i) where
     pub all : i * 2 ≡ length text → 0 < i → Bytes (length text / 2) ≡ writtenOf text
     unfolding writtenOf
     all f h = rw (proper-by-count text, all-counted, eq-eqb (i * 2) (length text) f, lt-ltb 0 (length text) (omega arith)) refl
+
+-- ---- what a caller has of the answer and of the buffer
+
+module _ (text : List ℕ) where
+  bytes-case : (t : Bool) (n : ℕ) → proper text ≡ t → cond t (Bytes (length text / 2)) Badly ≡ Bytes n → (proper text ≡ true) × (n ≡ length (pairs text))
+  bytes-case true n e f = let k : length text / 2 ≡ n = cc in (e, omega (arith, length-pairs text e))
+  bytes-case false n e f = let z : _≡_ {A = ℕ} 0 1 = cc in absurd (omega arith)
+
+  pub well-written : (n : ℕ) → writtenOf text ≡ Bytes n → (proper text ≡ true) × (n ≡ length (pairs text))
+  unfolding writtenOf
+  well-written n e = bytes-case (proper text) n refl e
+
+  badly-case : (t : Bool) → cond t (Bytes (length text / 2)) Badly ≡ Badly → t ≡ false
+  badly-case true f = let z : _≡_ {A = ℕ} 0 1 = cc in absurd (omega arith)
+  badly-case false f = refl
+
+  pub badly-written : writtenOf text ≡ Badly → proper text ≡ false
+  unfolding writtenOf
+  badly-written e = badly-case (proper text) e
+
+-- a buffer that is long enough has the bytes at its front
+module _ (text was out : List ℕ) (n : ℕ) (w : writtenOf text ≡ Bytes n) (e : out ≡ sets was 0 (pairs text)) (h : n ≤ length was) where
+  pub front-decoded : take n out ≡ pairs text
+  front-decoded =
+      let count : n ≡ length (pairs text) = well-written text n w .1 in
+      rw (e, sets-eq (pairs text) was 0 (omega arith)) (take-at (pairs text) (drop (0 + length (pairs text)) was) n (sym count))
+
+  pub front-long : n ≡ length (take n out)
+  front-long = well-written text n w .1 ∙ sym (ap length front-decoded)
+
+pub some-bytes : (text : List ℕ) (n : ℕ) → writtenOf text ≡ Bytes n → 0 < n
+some-bytes text n w = let (e, k) = well-written text n w in omega (arith, pairs-some text e)
+
+sets-beyond : (w : ℕ) (was bs : List ℕ) (i : ℕ) → sets (w ∷ was) (suc i) bs ≡ w ∷ sets was i bs
+sets-beyond w was [] i = refl
+sets-beyond w was (b ∷ bs) i = sets-beyond w (set was i b) bs (suc i)
+
+-- a buffer of zeros has each of the bytes that goes in, and 0 past the last
+pub byte-stored : (n k : ℕ) (bs : List ℕ) → k < n → getD (sets (replicate n 0) 0 bs) k 0 ≡ getD bs k 0
+byte-stored zero k bs h = absurd (omega arith)
+byte-stored (suc n) zero [] h = refl
+byte-stored (suc n) (suc k) [] h = getD-replicate n k 0 0 (omega arith)
+byte-stored (suc n) zero (b ∷ bs) h = rw (sets-beyond b (replicate n 0) bs 0) refl
+byte-stored (suc n) (suc k) (b ∷ bs) h = rw (sets-beyond b (replicate n 0) bs 0) (byte-stored n k bs (omega arith))

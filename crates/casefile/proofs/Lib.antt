@@ -1,3 +1,4 @@
+pub mod CodeOpening
 pub mod CodeJudging
 pub mod CodeLimits
 pub mod CodeReaders

@@ -43,8 +43,11 @@ hullNumber h n = firstHolds ((4 when not (sizesFit h)) ∷ (5 when (not (zonesFi
 abbrev pub hullGiven : Hull → Judgement
 hullGiven h = record { number = 0; line = 0; rows = 0; hull = h }
 
+abbrev pub unlessRefused : ℕ → Hull → Judgement
+unlessRefused k h = cond (eqb k 0) (hullGiven h) (judgementOf (refused k 1))
+
+unfoldable pub hullJudged : Hull → ℕ → Judgement
+hullJudged h n = unlessRefused (hullNumber h n) h
+
 unfoldable pub firstJudged : Line → Judgement
-firstJudged l =
-    let k = firstHolds (hullChecks l) in
-    let given = hullGiven (hullOf (fieldsOf (pairs (l .text)))) in
-    cond (eqb k 0) given (judgementOf (refused k 1))
+firstJudged l = unlessRefused (firstHolds (hullChecks l)) (hullOf (fieldsOf (pairs (l .text))))

@@ -5,6 +5,7 @@ use records::RowHead;
 
 pub mod follows; // the order of rows
 pub mod judging; // a line by the table of refusals
+pub mod opening; // line 1
 mod readers; // records from fields
 pub mod within; // the limits of a hull and of a row
 

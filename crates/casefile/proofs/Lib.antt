@@ -1,3 +1,4 @@
+pub mod CodeRunning
 pub mod CodeOpening
 pub mod CodeJudging
 pub mod CodeLimits

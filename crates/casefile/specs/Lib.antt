@@ -10,3 +10,4 @@ pub mod Answer
 pub mod Acceptance
 pub mod Refusal
 pub mod Judging
+pub mod Placing

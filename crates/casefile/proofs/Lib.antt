@@ -1,3 +1,10 @@
+pub mod CodeWalking
+pub mod CodeRunning
+pub mod CodeOpening
+pub mod CodeJudging
+pub mod CodeLimits
+pub mod CodeReaders
+pub mod Examples
 pub mod Checks
 pub mod Steps
 pub mod Judging
@@ -15,7 +22,6 @@ pub mod Turns
 pub mod EndFrames
 pub mod Refusal
 pub mod TableOrder
-pub mod Examples
 pub mod Walk
 pub mod Groups
 pub mod GroupRows

@@ -11,3 +11,5 @@ pub mod Acceptance
 pub mod Refusal
 pub mod Walk
 pub mod Groups
+pub mod Judging
+pub mod Placing

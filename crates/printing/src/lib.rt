@@ -1,0 +1,1 @@
+// The printed answer, written into a lent buffer.

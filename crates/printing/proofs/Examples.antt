@@ -6,20 +6,20 @@ use lib.ListN.{length}
 use Rattle.laws.specs.Bytes.{bytes}
 use Rattle.records.specs.declared.Answer.{Answer}
 use Rattle.frames.specs.Hex.{digit, hex}
-use Rattle.printing.specs.Printed.{refusalFrame, endsField, partialField, figuresFrame, shareFrame, lineOf, shareLines, printed, printedLength}
+use Rattle.printing.specs.Printed.{refusalFrame, endsField, partialField, partialsField, figuresFrame, shareFrame, lineOf, shareLines, printed, printedLength}
 use Rattle.printing.specs.Written.{textOf, canPrint, lengthOf, writtenOf}
 
 -- the definitions, open to computation
 text : Answer → List ℕ → List ℕ
-unfolding printed lineOf figuresFrame refusalFrame shareFrame shareLines endsField partialField bytes digit hex textOf
+unfolding printed lineOf figuresFrame refusalFrame shareFrame shareLines endsField partialField partialsField bytes digit hex textOf
 text a sheet = textOf a sheet
 
 returned : Answer → List ℕ → List ℕ → ℕ
-unfolding printed lineOf figuresFrame refusalFrame shareFrame shareLines endsField partialField bytes digit hex textOf canPrint lengthOf
+unfolding printed lineOf figuresFrame refusalFrame shareFrame shareLines endsField partialField partialsField bytes digit hex textOf canPrint lengthOf
 returned a sheet buffer = lengthOf a sheet buffer
 
 written : Answer → List ℕ → List ℕ → List ℕ
-unfolding printed lineOf figuresFrame refusalFrame shareFrame shareLines endsField partialField bytes digit hex textOf canPrint writtenOf
+unfolding printed lineOf figuresFrame refusalFrame shareFrame shareLines endsField partialField partialsField bytes digit hex textOf canPrint writtenOf
 written a sheet buffer = writtenOf a sheet buffer
 
 -- ---- the file of document 01

@@ -1,1 +1,6 @@
+pub mod Splice
+pub mod Text
+pub mod Frames
+pub mod Shares
+pub mod Whole
 pub mod Examples

@@ -23,11 +23,13 @@ endsField lower upper = bytes 4 lower ++ bytes 4 upper
 unfoldable pub partialField : Trio → ℕ → List ℕ
 partialField t j = endsField (getD (t .lower) j 0) (getD (t .upper) j 0)
 
+-- the ends of As, Ap, Al
+unfoldable pub partialsField : Trio → List ℕ
+partialsField t = partialField t 0 ++ partialField t 1 ++ partialField t 2
+
 -- 81: verdict (one), ends of A, As, Ap, Al
 unfoldable pub figuresFrame : Answer → List ℕ
-figuresFrame a =
-    129 ∷ bytes 1 (a .verdict) ++ endsField (a .attained .lower) (a .attained .upper)
-    ++ partialField (a .partials) 0 ++ partialField (a .partials) 1 ++ partialField (a .partials) 2
+figuresFrame a = 129 ∷ bytes 1 (a .verdict) ++ endsField (a .attained .lower) (a .attained .upper) ++ partialsField (a .partials)
 
 -- 82: a row's share ends
 unfoldable pub shareFrame : ℕ → ℕ → List ℕ

@@ -2,7 +2,7 @@
 use Prim.Native.Nat.{ℕ}
 use mathlib.Core.Path.{_≡_, refl}
 use mathlib.Core.List.{List, [], _∷_, _++_}
-use lib.ListN.{length}
+use lib.ListN.{length, take}
 use Rattle.laws.specs.Bytes.{bytes}
 use Rattle.records.specs.declared.Answer.{Answer}
 use Rattle.frames.specs.Hex.{digit, hex}
@@ -79,7 +79,8 @@ distinct = record {
   partials = record { lower = 3 ∷ 5 ∷ 7 ∷ []; upper = 4 ∷ 6 ∷ 8 ∷ [] };
 }
 
-ends-in-order : text distinct [] ≡ lineOf (129 ∷ 3 ∷ 0 ∷ 0 ∷ 0 ∷ 1 ∷ 0 ∷ 0 ∷ 0 ∷ 2 ∷ 0 ∷ 0 ∷ 0 ∷ 3 ∷ 0 ∷ 0 ∷ 0 ∷ 4 ∷ 0 ∷ 0 ∷ 0 ∷ 5 ∷ 0 ∷ 0 ∷ 0 ∷ 6 ∷ 0 ∷ 0 ∷ 0 ∷ 7 ∷ 0 ∷ 0 ∷ 0 ∷ 8 ∷ [])
+ends-in-order : text distinct [] ≡
+    lineOf (129 ∷ 3 ∷ 0 ∷ 0 ∷ 0 ∷ 1 ∷ 0 ∷ 0 ∷ 0 ∷ 2 ∷ 0 ∷ 0 ∷ 0 ∷ 3 ∷ 0 ∷ 0 ∷ 0 ∷ 4 ∷ 0 ∷ 0 ∷ 0 ∷ 5 ∷ 0 ∷ 0 ∷ 0 ∷ 6 ∷ 0 ∷ 0 ∷ 0 ∷ 7 ∷ 0 ∷ 0 ∷ 0 ∷ 8 ∷ [])
 unfolding text lineOf
 ends-in-order = refl
 
@@ -109,17 +110,24 @@ refusal-length = refl
 
 -- ---- buffers
 
+abbrev eight : List ℕ
+eight = 1 ∷ 2 ∷ 3 ∷ 4 ∷ 5 ∷ 6 ∷ 7 ∷ 8 ∷ []
+
 -- what follows the text stays
-room-left : (returned refused [] (1 ∷ 2 ∷ 3 ∷ 4 ∷ 5 ∷ 6 ∷ 7 ∷ 8 ∷ 9 ∷ 11 ∷ 12 ∷ []) ≡ 9) × (written refused [] (1 ∷ 2 ∷ 3 ∷ 4 ∷ 5 ∷ 6 ∷ 7 ∷ 8 ∷ 9 ∷ 11 ∷ 12 ∷ []) ≡ refusalLine ++ 11 ∷ 12 ∷ [])
+room-left : (returned refused [] (eight ++ eight) ≡ 9) × (written refused [] (eight ++ eight) ≡ refusalLine ++ 2 ∷ 3 ∷ 4 ∷ 5 ∷ 6 ∷ 7 ∷ 8 ∷ [])
 unfolding returned written
 room-left = (refl, refl)
 
+room-enough : (returned refused [] (eight ++ 9 ∷ []) ≡ 9) × (written refused [] (eight ++ 9 ∷ []) ≡ refusalLine)
+unfolding returned written
+room-enough = (refl, refl)
+
 -- a byte too short, and nothing is written
-too-short : (returned refused [] (1 ∷ 2 ∷ 3 ∷ 4 ∷ 5 ∷ 6 ∷ 7 ∷ 8 ∷ []) ≡ 0) × (written refused [] (1 ∷ 2 ∷ 3 ∷ 4 ∷ 5 ∷ 6 ∷ 7 ∷ 8 ∷ []) ≡ 1 ∷ 2 ∷ 3 ∷ 4 ∷ 5 ∷ 6 ∷ 7 ∷ 8 ∷ [])
+too-short : (returned refused [] eight ≡ 0) × (written refused [] eight ≡ eight)
 unfolding returned written
 too-short = (refl, refl)
 
 -- three rows and five numbers
-sheet-too-short : (buffer : List ℕ) → (returned figures (1 ∷ 2 ∷ 3 ∷ 4 ∷ 5 ∷ []) buffer ≡ 0) × (written figures (1 ∷ 2 ∷ 3 ∷ 4 ∷ 5 ∷ []) buffer ≡ buffer)
+sheet-too-short : (buffer : List ℕ) → (returned figures (take 5 eight) buffer ≡ 0) × (written figures (take 5 eight) buffer ≡ buffer)
 unfolding returned written
 sheet-too-short buffer = (refl, refl)

@@ -1,7 +1,7 @@
 -- Fields and lines that are written part by part: what the buffer holds once the last part is there. Assumes nothing.
-use Prim.Native.Nat.{ℕ, _+_, _*_, _/_, _%_}
+use Prim.Native.Nat.{ℕ, _+_, _/_, _%_}
 use mathlib.Core.Path.{_≡_, refl, sym, _∙_, ap}
-use mathlib.Core.List.{List, [], _∷_, _++_, append-assoc}
+use mathlib.Core.List.{List, [], _∷_, _++_}
 use native.Mathlib.Numerals.{add-one}
 use native.Mathlib.Omega.{arith}
 use lib.ListN.{length, set, length-append}
@@ -42,27 +42,32 @@ length-share lower upper = rw (length-ends lower upper) refl
 
 -- ---- fields
 
-pub byte-written : (at n : ℕ) (xs : List ℕ) {high low : ℕ} → high ≡ digit (n / 16 % 16) → low ≡ digit (n % 16) → set (set xs at high) (at + 1) low ≡ splice at (hex (bytes 1 n)) xs
+pub byte-written : (at n : ℕ) (xs : List ℕ) {high low : ℕ} → high ≡ digit (n / 16 % 16) → low ≡ digit (n % 16) →
+    set (set xs at high) (at + 1) low ≡ splice at (hex (bytes 1 n)) xs
 unfolding splice
 byte-written at n xs e f = rw (e, f, two-digits n, add-one at) refl
 
 module _ (at : ℕ) (xs : List ℕ) {ys zs : List ℕ} where
-  pub two-written : (n : ℕ) → ys ≡ splice at (hex (bytes 1 (n / 256))) xs → zs ≡ splice (at + 2) (hex (bytes 1 n)) ys → zs ≡ splice at (hex (bytes 2 n)) xs
+  pub two-written : (n : ℕ) → ys ≡ splice at (hex (bytes 1 (n / 256))) xs → zs ≡ splice (at + 2) (hex (bytes 1 n)) ys →
+      zs ≡ splice at (hex (bytes 2 n)) xs
   two-written n p q =
       digits-then at (at + 2) (bytes 1 (n / 256)) (bytes 1 n) xs (omega (arith, length-bytes 1 (n / 256))) p q
       ∙ ap (λ b. splice at (hex b) xs) (sym (bytes-append 1 1 n))
 
-  pub four-written : (n : ℕ) → ys ≡ splice at (hex (bytes 2 (n / 65536))) xs → zs ≡ splice (at + 4) (hex (bytes 2 n)) ys → zs ≡ splice at (hex (bytes 4 n)) xs
+  pub four-written : (n : ℕ) → ys ≡ splice at (hex (bytes 2 (n / 65536))) xs → zs ≡ splice (at + 4) (hex (bytes 2 n)) ys →
+      zs ≡ splice at (hex (bytes 4 n)) xs
   four-written n p q =
       digits-then at (at + 4) (bytes 2 (n / 65536)) (bytes 2 n) xs (omega (arith, length-bytes 2 (n / 65536))) p q
       ∙ ap (λ b. splice at (hex b) xs) (sym (bytes-append 2 2 n))
 
-  pub ends-written : (lower upper : ℕ) → ys ≡ splice at (hex (bytes 4 lower)) xs → zs ≡ splice (at + 8) (hex (bytes 4 upper)) ys → zs ≡ splice at (hex (endsField lower upper)) xs
+  pub ends-written : (lower upper : ℕ) → ys ≡ splice at (hex (bytes 4 lower)) xs → zs ≡ splice (at + 8) (hex (bytes 4 upper)) ys →
+      zs ≡ splice at (hex (endsField lower upper)) xs
   unfolding endsField
   ends-written lower upper p q = digits-then at (at + 8) (bytes 4 lower) (bytes 4 upper) xs (omega (arith, length-bytes 4 lower)) p q
 
 module _ (at : ℕ) (t : Trio) (xs : List ℕ) {ys zs us : List ℕ} where
-  pub partials-written : ys ≡ splice at (hex (partialField t 0)) xs → zs ≡ splice (at + 16) (hex (partialField t 1)) ys → us ≡ splice (at + 32) (hex (partialField t 2)) zs →
+  pub partials-written : ys ≡ splice at (hex (partialField t 0)) xs →
+      zs ≡ splice (at + 16) (hex (partialField t 1)) ys → us ≡ splice (at + 32) (hex (partialField t 2)) zs →
       us ≡ splice at (hex (partialsField t)) xs
   unfolding partialsField
   partials-written p q r =
@@ -74,7 +79,8 @@ module _ (at : ℕ) (t : Trio) (xs : List ℕ) {ys zs us : List ℕ} where
 -- ---- lines
 
 module _ (number line : ℕ) (xs : List ℕ) {ys zs us vs : List ℕ} where
-  pub refusal-written : ys ≡ splice 0 (hex (bytes 1 143)) xs → zs ≡ splice 2 (hex (bytes 1 number)) ys → us ≡ splice 4 (hex (bytes 2 line)) zs → vs ≡ splice 8 (10 ∷ []) us →
+  pub refusal-written : ys ≡ splice 0 (hex (bytes 1 143)) xs →
+      zs ≡ splice 2 (hex (bytes 1 number)) ys → us ≡ splice 4 (hex (bytes 2 line)) zs → vs ≡ splice 8 (10 ∷ []) us →
       vs ≡ splice 0 (lineOf (refusalFrame number line)) xs
   unfolding refusalFrame
   refusal-written p q r s =
@@ -85,7 +91,8 @@ module _ (number line : ℕ) (xs : List ℕ) {ys zs us vs : List ℕ} where
       s
 
 module _ (a : Answer) (xs : List ℕ) {ys zs us vs ws : List ℕ} where
-  pub figures-written : ys ≡ splice 0 (hex (bytes 1 129)) xs → zs ≡ splice 2 (hex (bytes 1 (a .verdict))) ys → us ≡ splice 4 (hex (endsField (a .attained .lower) (a .attained .upper))) zs →
+  pub figures-written : ys ≡ splice 0 (hex (bytes 1 129)) xs → zs ≡ splice 2 (hex (bytes 1 (a .verdict))) ys →
+      us ≡ splice 4 (hex (endsField (a .attained .lower) (a .attained .upper))) zs →
       vs ≡ splice 20 (hex (partialsField (a .partials))) us → ws ≡ splice 68 (10 ∷ []) vs → ws ≡ splice 0 (lineOf (figuresFrame a)) xs
   unfolding figuresFrame
   figures-written p q r s t =

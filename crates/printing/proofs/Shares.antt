@@ -2,10 +2,9 @@
 use Prim.Native.Nat.{ℕ, zero, suc, _+_, _*_, _≤_, _<_}
 use mathlib.Core.Path.{_≡_, refl, sym, _∙_, ap}
 use mathlib.Core.List.{List, [], _∷_, _++_}
-use native.Mathlib.Nat.{add-assoc}
-use native.Mathlib.Numerals.{add-one, add-two}
+use native.Mathlib.Numerals.{add-one}
 use native.Mathlib.Omega.{arith}
-use lib.ListN.{length, getD, take, drop, length-append, length-take, drop-of-length-le}
+use lib.ListN.{length, getD, take, drop, length-append, drop-of-length-le}
 use lib.Seq.{drop-cons, getD-take, length-take-le}
 use Rattle.printing.specs.Splice.{splice}
 use Rattle.printing.specs.Printed.{shareFrame, lineOf, shareLines}
@@ -46,7 +45,9 @@ module _ (rows : ℕ) (sheet first : List ℕ) (at : ℕ) where
   starts = record { within = omega arith; long = refl; left = ap (λ p. splice p (shareLines (take (2 * rows) sheet)) first) (omega arith) }
 
   module _ (enough : 2 * rows ≤ length sheet) (now : List ℕ) (i : ℕ) (h : Reached rows sheet first at now i) where
-    pub goes-on : i < rows → {next : List ℕ} → next ≡ splice (at + 19 * i) (lineOf (shareFrame (getD sheet (2 * i) 0) (getD sheet (2 * i + 1) 0))) now → Reached rows sheet first at next (i + 1)
+    pub goes-on : i < rows → {next : List ℕ} →
+        next ≡ splice (at + 19 * i) (lineOf (shareFrame (getD sheet (2 * i) 0) (getD sheet (2 * i + 1) 0))) now →
+        Reached rows sheet first at next (i + 1)
     goes-on more {next} e =
         let shares : List ℕ = take (2 * rows) sheet in
         let line : List ℕ = lineOf (shareFrame (getD sheet (2 * i) 0) (getD sheet (2 * i + 1) 0)) in

@@ -1,7 +1,7 @@
 -- Texts that are written over a list: the list keeps its length, texts at neighbouring places join, and the rest stays. Assumes nothing.
 use Prim.Native.Nat.{ℕ, _+_, _≤_}
 use mathlib.Core.Path.{_≡_, refl, sym, _∙_, ap}
-use mathlib.Core.List.{List, [], _∷_, _++_}
+use mathlib.Core.List.{List, [], _++_}
 use native.Mathlib.Nat.{zero-add}
 use native.Mathlib.Omega.{arith}
 use lib.ListN.{length, take, drop}
@@ -31,5 +31,6 @@ module _ {A : Type 0} where
   splice-front text xs h = splice-parts 0 text xs (omega arith) ∙ ap (λ n. text ++ drop n xs) (zero-add (length text))
 
   -- two writes, one after the other: the second begins where the first ends
-  pub splice-then : (at next : ℕ) (text more xs ys zs : List A) → next ≡ at + length text → ys ≡ splice at text xs → zs ≡ splice next more ys → zs ≡ splice at (text ++ more) xs
+  pub splice-then : (at next : ℕ) (text more xs ys zs : List A) →
+      next ≡ at + length text → ys ≡ splice at text xs → zs ≡ splice next more ys → zs ≡ splice at (text ++ more) xs
   splice-then at next text more xs ys zs e p q = q ∙ rw (p, e) (splice-join at text more xs)

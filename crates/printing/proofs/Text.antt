@@ -5,9 +5,8 @@ use mathlib.Core.List.{List, [], _∷_, _++_}
 use native.Mathlib.Nat.{suc-add, zero-add, add-comm, div-div-eq-div-mul}
 use native.Mathlib.Omega.{arith}
 use lib.Pow.{pow-add}
-use lib.ListN.{length, set, length-append}
+use lib.ListN.{length, length-append}
 use Rattle.laws.specs.Bytes.{bytes}
-use Rattle.laws.proofs.Bytes.{length-bytes}
 use Rattle.frames.specs.Hex.{digit, hex}
 use Rattle.frames.proofs.Pairs.{length-hex}
 use Rattle.printing.specs.Splice.{splice}

@@ -1,11 +1,11 @@
 -- The whole printed answer: how long it is, whether it can be written, and what the buffer holds then. Assumes nothing.
 use Prim.Native.Nat.{ℕ, _+_, _*_, _≤_, _<_}
 use mathlib.Core.Path.{_≡_, refl, sym, _∙_, ap}
-use mathlib.Core.Bool.{Bool, true, false, cond, _&&_}
-use mathlib.Core.List.{List, [], _∷_, _++_}
+use mathlib.Core.Bool.{Bool, true, false, cond}
+use mathlib.Core.List.{List, _++_}
 use native.Mathlib.Omega.{arith}
 use lib.Dec.{leb, eqb}
-use lib.ListN.{length, take, drop, length-append}
+use lib.ListN.{length, take, length-append}
 use lib.Seq.{length-take-le}
 use borrow.Author.Tests.{le-leb, lt-leb, eq-eqb, ne-eqb}
 use Rattle.records.specs.declared.Answer.{Answer}
@@ -43,10 +43,13 @@ module _ (a : Answer) (sheet : List ℕ) where
   unfolding textOf printed
   text-of-figures h = rw (eq-eqb (a .number) 0 h) refl
 
-  pub refusal-then : (a .number ≡ 0 → ⊥) → (xs : List ℕ) {ys : List ℕ} → ys ≡ splice 0 (lineOf (refusalFrame (a .number) (a .line))) xs → ys ≡ splice 0 (textOf a sheet) xs
+  pub refusal-then : (a .number ≡ 0 → ⊥) → (xs : List ℕ) {ys : List ℕ} →
+      ys ≡ splice 0 (lineOf (refusalFrame (a .number) (a .line))) xs → ys ≡ splice 0 (textOf a sheet) xs
   refusal-then h xs p = p ∙ ap (λ t. splice 0 t xs) (sym (text-of-refusal h))
 
-  pub figures-then : a .number ≡ 0 → (xs : List ℕ) {ys zs : List ℕ} → ys ≡ splice 0 (lineOf (figuresFrame a)) xs → zs ≡ splice 69 (shareLines (take (2 * a .rows) sheet)) ys → zs ≡ splice 0 (textOf a sheet) xs
+  pub figures-then : a .number ≡ 0 → (xs : List ℕ) {ys zs : List ℕ} →
+      ys ≡ splice 0 (lineOf (figuresFrame a)) xs → zs ≡ splice 69 (shareLines (take (2 * a .rows) sheet)) ys →
+      zs ≡ splice 0 (textOf a sheet) xs
   figures-then h xs {ys} {zs} p q =
       splice-then 0 69 (lineOf (figuresFrame a)) (shareLines (take (2 * a .rows) sheet)) xs ys zs (omega (arith, length-line (figuresFrame a), length-figures a)) p q
       ∙ ap (λ t. splice 0 t xs) (sym (text-of-figures h))
@@ -67,7 +70,9 @@ module _ (a : Answer) (sheet : List ℕ) where
           let no : leb (length (textOf a sheet)) (length buffer) ≡ false = lt-leb (length (textOf a sheet)) (length buffer) (omega (arith, length-text)) in
           (rw (le-leb (2 * a .rows) (length sheet) enough, no) refl, rw (le-leb (2 * a .rows) (length sheet) enough, no) refl)
 
-      pub written-whole : printedLength a ≤ length buffer → {n : ℕ} {after : List ℕ} → n ≡ printedLength a → after ≡ splice 0 (textOf a sheet) buffer → (n ≡ lengthOf a sheet buffer) × (after ≡ writtenOf a sheet buffer)
+      pub written-whole : printedLength a ≤ length buffer → {n : ℕ} {after : List ℕ} →
+          n ≡ printedLength a → after ≡ splice 0 (textOf a sheet) buffer →
+          (n ≡ lengthOf a sheet buffer) × (after ≡ writtenOf a sheet buffer)
       unfolding canPrint lengthOf writtenOf
       written-whole h e p =
           let room : length (textOf a sheet) ≤ length buffer = omega (arith, length-text) in

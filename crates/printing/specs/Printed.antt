@@ -41,7 +41,7 @@ shareFrame lower upper = 130 ∷ endsField lower upper
 unfoldable pub lineOf : List ℕ → List ℕ
 lineOf frame = hex frame ++ 10 ∷ []
 
--- a line for each row: the numbers are its share's ends, lower then upper, in row order
+-- a line for each row: the numbers are its share's ends, lower then upper, in row order; a number left alone is no row's
 unfoldable pub shareLines : List ℕ → List ℕ
 shareLines [] = []
 shareLines (lower ∷ []) = []

@@ -2,6 +2,8 @@
 use records::Finding;
 ghost use mathlib.Core.Path.{_≡_};
 ghost use Rattle.solas.specs.Height.{rowV};
+ghost use Rattle.casefile.specs.Answer.{judgementOf};
+ghost use Rattle.casefile.specs.Reading.{reading};
 ghost use Rattle.survival.specs.Survival.{survivalOf};
 
 // The bottom of a result's survival.
@@ -38,4 +40,28 @@ pub extern "C" fn probe_height(below: u64, height: u64, draught: u64) -> u64
     ensures { λ r. ⌜ r ≡ rowV below height draught ⌝ }
 {
     survival::height::row_factor(below, height, draught)
+}
+
+// The refusal's number of any bytes whatever, 0 where they are accepted.
+#[no_mangle]
+pub extern "C" fn probe_number(input: &[u8]) -> u64
+    ensures { λ r. ⌜ r ≡ judgementOf (reading (now (input .entry))) .number ⌝ }
+{
+    casefile::judge(input).number
+}
+
+// Its line.
+#[no_mangle]
+pub extern "C" fn probe_line(input: &[u8]) -> u64
+    ensures { λ r. ⌜ r ≡ judgementOf (reading (now (input .entry))) .line ⌝ }
+{
+    casefile::judge(input).line
+}
+
+// The row count of a file that is accepted.
+#[no_mangle]
+pub extern "C" fn probe_rows(input: &[u8]) -> u64
+    ensures { λ r. ⌜ r ≡ judgementOf (reading (now (input .entry))) .rows ⌝ }
+{
+    casefile::judge(input).rows
 }

@@ -1,0 +1,15 @@
+-- `probes::probe_rows` gives what the reading says of it. Assumes nothing.
+use borrow.Author.Needs.{needs}
+use mathlib.Core.Path.{ap}
+use Rattle.casefile.specs.declared.Judgement.{Judgement}
+use Rattle.probes.proofs.probe_rows.Statement.{statement}
+use Rattle.probes.proofs.probe_rows.Tie as tie
+
+judge-requires : tie.Need-judge-requires
+judge-requires c κs = search needs
+
+returns : tie.Need-returns
+returns c = ap (λ (j : Judgement). j .rows) (c .judge .ensures)
+
+pub probe-rows-spec : {M : Type 1} → statement M
+probe-rows-spec = tie.close (tie.spec judge-requires returns)

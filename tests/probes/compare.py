@@ -1,0 +1,122 @@
+"""Compares single figures of the proved crates with the independent program, through a host in C: `python3 tests/probes/compare.py`."""
+
+import argparse
+import os
+import platform
+import random
+import shutil
+import struct
+import subprocess
+import sys
+from pathlib import Path
+
+HERE = Path(__file__).resolve().parent
+ROOT = HERE.parent.parent
+TARGET = ROOT / "target" / "probes"
+sys.path.insert(0, str(HERE.parent))
+
+from generator.dice import Dice  # noqa: E402
+from generator.fresh import seeded_file  # noqa: E402
+from independent import judge, reading  # noqa: E402
+from independent.regulation import s_fourth, v  # noqa: E402
+from independent.rounding import survival_ends  # noqa: E402
+
+
+def built():
+    """The host, linked with the proved library; where this machine is no x86-64 one, with the emulator before it."""
+    subprocess.run(["rt", "staticlib", "probes"], cwd=ROOT, check=True, stdout=subprocess.DEVNULL)
+    TARGET.mkdir(parents=True, exist_ok=True)
+    host, library = TARGET / "host", ROOT / "target" / "staticlib" / "libprobes.a"
+    if platform.machine() == "x86_64":
+        subprocess.run(["cc", "-O2", "-o", host, HERE / "host.c", library], check=True)
+        return [str(host)]
+    subprocess.run(["x86_64-linux-gnu-gcc", "-O2", "-static", "-o", host, HERE / "host.c", library], check=True)
+    kit = Path(os.environ.get("RATTLE_HOME") or Path(shutil.which("rt")).resolve().parent.parent)
+    return [str(kit / "on" / platform.machine() / "toolchain" / "bin" / "qemu-x86_64"), str(host)]
+
+
+def survivals(dice, count):
+    """Results over their whole limits and at every cap and limit, and given survivals."""
+    levers, ranges = [0, 1, 119, 120, 121, 5000], [0, 1, 1599, 1600, 1601, 9000]
+    heels = [0, 2499, 2500, 2501, 2999, 3000, 3001, 9000]
+    for lever in levers:
+        for reach in ranges:
+            for heel in heels:
+                yield 2, lever, reach, heel, 0
+    for _ in range(count):
+        yield 2, dice.randint(0, dice.choice([130, 5000])), dice.randint(0, dice.choice([1700, 9000])), dice.randint(0, dice.choice([3100, 9000])), 0
+    for given in [0, 1, 9999, 10000] + [dice.randint(0, 10000) for _ in range(count // 10)]:
+        yield 3, 0, 0, 0, given
+
+
+def heights(dice, count):
+    for draught in (500, 6000, 30000):
+        for step in (0, 1, 7799, 7800, 7801, 12499, 12500, 12501):
+            yield 0, draught + step, draught
+            yield draught + step, draught + step + 4000, draught
+    for _ in range(count):
+        below, above = sorted(dice.sample(range(0, 60001), 2))
+        yield below, above, dice.randint(500, 30000)
+
+
+def files(dice, count):
+    """Every file of the corpus, and fresh random and damaged ones."""
+    for path in sorted((ROOT / "tests" / "cases").glob("*/*.case")):
+        yield path.read_bytes()
+    first = dice.randint(0, 10**9)
+    for number in range(count):
+        yield seeded_file(Dice(first + number))[0]
+
+
+def survival_expected(kind, lever, reach, heel, given):
+    return (given, given) if kind == 3 else tuple(survival_ends(s_fourth(lever, reach, heel)))
+
+
+def height_expected(below, above, draught):
+    return (v(above - draught) - v(below - draught),)
+
+
+def judgement_expected(data):
+    number, line = judge(data)
+    return number, line, 0 if number else len(reading(data).rows)
+
+
+def numbers(values):
+    return struct.pack("<%dQ" % len(values), *values)
+
+
+def questions(dice, wanted):
+    """Each question in words, as the host reads it, and the numbers that it must answer."""
+    for asked in survivals(dice, wanted.survivals):
+        yield "survival of kind %d, lever %d, range %d, heel %d, given %d" % asked, b"s" + numbers(asked), survival_expected(*asked)
+    for asked in heights(dice, wanted.heights):
+        yield "v of a row from %d to %d at draught %d" % asked, b"v" + numbers(asked), height_expected(*asked)
+    for data in files(dice, wanted.files):
+        yield "judgement of %r" % data[:60], b"j" + numbers([len(data)]) + data, judgement_expected(data)
+
+
+def main():
+    parser = argparse.ArgumentParser(description=__doc__)
+    parser.add_argument("--seed", type=int, default=1)
+    parser.add_argument("--survivals", type=int, default=10_000)
+    parser.add_argument("--heights", type=int, default=10_000)
+    parser.add_argument("--files", type=int, default=20_000)
+    wanted = parser.parse_args()
+    asked = list(questions(random.Random(wanted.seed), wanted))
+    told = subprocess.run(built(), input=b"".join(question for _, question, _ in asked), stdout=subprocess.PIPE, check=True).stdout
+    passed = failed = at = 0
+    for words, _, expected in asked:
+        answer = struct.unpack_from("<%dQ" % len(expected), told, at)
+        at += 8 * len(expected)
+        if answer == expected:
+            passed += 1
+            continue
+        failed += 1
+        if failed <= 5:
+            print("%s: %s, and the independent program says %s" % (words, answer, expected))
+    print("%d passed, %d failed" % (passed, failed))
+    return 0 if passed and not failed and at == len(told) else 1
+
+
+if __name__ == "__main__":
+    sys.exit(main())

@@ -1,11 +1,16 @@
 pub mod Fraction
 pub mod Table
+pub mod Choice
 pub mod Normal
 pub mod Claim
 pub mod Excess
 pub mod Certificate
 pub mod Polynomial
+pub mod FractionTerm
+pub mod FractionRing
+pub mod FractionOrder
 pub mod Span
+pub mod SpanParts
 pub mod FractionSum
 pub mod Rounding
 pub mod Sums

@@ -8,14 +8,14 @@ use native.Mathlib.Omega.{arith}
 use borrow.Author.Tests.{leb-true}
 use lib.Dec.{leb}
 use Rattle.laws.specs.Fraction.{Fraction, _less_over_, _over_, Is, _⊛_}
-use Rattle.laws.proofs.Fraction.{is-less-over, is-over, is-⊝, is-⊛, is-widened}
+use Rattle.laws.proofs.Fraction.{is-less-over, is-over, is-widened, is-rewritten, is-recast, is-crossed, is-⊝, is-⊛}
+use Rattle.laws.proofs.FractionOrder.{is-chosen}
 use Rattle.laws.proofs.Polynomial.{Expr, C, _:+_, _:*_, _:^_, _:=_, _⊲_, eq, _⊢_, poly3, poly4, poly6, poly7}
 use Rattle.solas.specs.Span.{neither, p}
 use Rattle.solas.specs.Penetration.{G1, G3, GAt}
 use Rattle.solas.specs.General.{Law, Falling, fall, between, mass, law}
 use Rattle.solas.proofs.General.{between-adds}
 use Rattle.solas.proofs.GeneralLayer.{between-nothing, beyond-nothing}
-use Rattle.solas.proofs.Recast.{is-recast, is-crossed, is-rewritten, is-branch}
 use Rattle.solas.proofs.Cut.{peak, mass-sum, between-above}
 use Rattle.solas.proofs.Bands.{full, inner, knuckle, scale, even-fall, even-peak, p-is}
 use Rattle.solas.proofs.Depth.{law-falls, shallow}
@@ -108,5 +108,5 @@ module _ {L B : ℕ} (hL : 0 < L) (hB : 0 < B) (x b : ℕ) (h : 2 * b ≤ B) whe
 
   pub inner-G-is : Is (GAt neither L B x b) (law L B .W * between (law L B) 0 (33 * b * L) (law L B .λx * x)) 0 (full (law L B) L)
   inner-G-is =
-      is-branch (15 * B * x) (b * L) (λ k. p-shallow (up-to-cut L B x b k))
+      is-chosen (15 * B * x) (b * L) (λ k. p-shallow (up-to-cut L B x b k))
       (λ k. is-rewritten _ 0 _ (omega (arith, lacks (law L B) (33 * b * L) (law L B .λx * x) (shallow L B b h) (past-cut L B x b k))) refl (is-⊝ along-is (G3-is L B b hB)))

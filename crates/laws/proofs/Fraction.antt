@@ -3,7 +3,7 @@ use Prim.Native.Nat.{ℕ, suc, _+_, _-_, _*_, _≤_, _<_}
 use mathlib.Core.Path.{_≡_, refl, ap, sym, _∙_}
 use native.Mathlib.Nat.{zero-mul, one-mul, mul-sub, mul-comm, mul-pos, eq-of-mul-eq-mul-right, le-of-mul-le-mul-right, lt-of-mul-lt-mul-right, mul-lt-mul-of-pos-right, mul-le-mul-right, zero-lt-suc, le-refl, le-of-eq, le-antisymm}
 use native.Mathlib.Omega.{arith, by-contra}
-use Rattle.laws.specs.Fraction.{Fraction, den, _less_over_, _over_, Is, _≈_, _≼_, _≺_, whole, _⊹_, _⊝_, _⊛_, _⊘_, total}
+use Rattle.laws.specs.Fraction.{Fraction, den, _less_over_, _over_, Is, _≈_, _≼_, _≺_, whole, _⊹_, _⊝_, _⊛_, _⊘_}
 
 pub positive : (f : Fraction) → 0 < den f
 positive f = zero-lt-suc (f .rest)
@@ -61,12 +61,12 @@ is-narrowed {f} k a b d p h = record { cross = eq-of-mul-eq-mul-right k p (f .up
 pub is-shifted : {f : Fraction} {a b d : ℕ} (a′ b′ : ℕ) → a + b′ ≡ a′ + b → Is f a b d → Is f a′ b′ d
 is-shifted {f} a′ b′ e h = record { cross = omega (arith, h .cross, ap (λ z. z * den f) e) }
 
--- the same with the denominator in other words too
-pub is-rewritten : {f : Fraction} {a b d : ℕ} (a′ b′ d′ : ℕ) → a + b′ ≡ a′ + b → d ≡ d′ → Is f a b d → Is f a′ b′ d′
-is-rewritten a′ b′ d′ e k h = rw (← k) (is-shifted a′ b′ e h)
+-- the same numbers in other words
+pub is-written : {f : Fraction} {a b d a′ b′ d′ : ℕ} → Is f a b d → a ≡ a′ → b ≡ b′ → d ≡ d′ → Is f a′ b′ d′
+is-written h p q r = rw (← p, ← q, ← r) h
 
 pub is-widened-behind : {f : Fraction} {a b d : ℕ} (k : ℕ) → Is f a b d → Is f (k * a) (k * b) (d * k)
-is-widened-behind {f} {a} {b} {d} k h = rw (mul-comm d k) (is-widened k h)
+is-widened-behind {f} {a} {b} {d} k h = is-written (is-widened k h) refl refl (mul-comm k d)
 
 -- over another denominator, by cross multiplication
 pub is-recast : {f : Fraction} {a b d : ℕ} (a′ b′ d′ : ℕ) → 0 < d → a * d′ + b′ * d ≡ a′ * d + b * d′ → Is f a b d → Is f a′ b′ d′

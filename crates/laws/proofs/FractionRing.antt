@@ -1,11 +1,10 @@
 -- Sums and products of fractions in other words: in another order, spread over differences, and mixed by a chance. Assumes nothing.
 use Prim.Native.Nat.{ℕ, _+_, _-_, _*_, _≤_, _<_}
-use mathlib.Core.Path.{refl}
 use mathlib.Core.List.{[], _∷_}
 use native.Mathlib.Omega.{arith}
 use lib.Dec.{lit<}
 use Rattle.laws.specs.Fraction.{Fraction, whole, Is, _≈_, _⊹_, _⊝_, _⊛_}
-use Rattle.laws.proofs.Fraction.{is-one, is-rewritten, is-≈, is-⊹, is-⊝, is-⊛}
+use Rattle.laws.proofs.Fraction.{is-one, is-shifted, is-≈, is-⊹, is-⊝, is-⊛}
 use Rattle.laws.proofs.FractionTerm.{constant, number, parts, first, second, third, fourth, _⊹ᵗ_, _⊝ᵗ_, _⊛ᵗ_, agree}
 
 pub ⊛-comm : (f g : Fraction) → f ⊛ g ≈ g ⊛ f
@@ -33,8 +32,8 @@ plus-crosswise e f g h = agree {ρ = parts (e ∷ f ∷ g ∷ h ∷ [])} (first 
 -- ---- g, and f in its place with the chance c
 pub is-mixed : {f g c : Fraction} {a b n d e : ℕ} → 0 < d → Is f a 0 e → Is g b 0 e → Is c n 0 d → n ≤ d →
     Is (f ⊛ c ⊹ g ⊛ (whole 1 ⊝ c)) (a * n + b * (d - n)) 0 (e * d)
-is-mixed {a = a} {b} {n} {d} {e} p i j k h =
-    is-rewritten (a * n + b * (d - n)) 0 (e * d) (omega arith) refl (is-⊹ (is-⊛ i k) (is-⊛ j (is-rewritten (d - n) 0 d (omega arith) refl (is-⊝ (is-one p) k))))
+is-mixed {a = a} {b} {n} {d} p i j k h =
+    is-shifted (a * n + b * (d - n)) 0 (omega arith) (is-⊹ (is-⊛ i k) (is-⊛ j (is-shifted (d - n) 0 (omega arith) (is-⊝ (is-one p) k))))
 
 pub mixed-one : (f g : Fraction) {c : Fraction} → c ≈ whole 1 → f ⊛ c ⊹ g ⊛ (whole 1 ⊝ c) ≈ f
 mixed-one f g {c} e =

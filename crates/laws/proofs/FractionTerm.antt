@@ -1,6 +1,6 @@
 -- Fractions whose parts are polynomials in some numbers: what sums, products and quotients come to, and which are equal, by computation.
 -- Assumes nothing.
-use Prim.Native.Nat.{ℕ, _+_, _*_, _<_}
+use Prim.Native.Nat.{ℕ, _<_}
 use mathlib.Core.List.{List, [], _∷_}
 use native.Mathlib.Nat.{mul-pos}
 use lib.Dec.{T, ltb, lit<}

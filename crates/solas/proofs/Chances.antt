@@ -5,7 +5,7 @@ use native.Mathlib.Nat.{le-refl, le-of-eq, one-le-pow}
 use native.Mathlib.Omega.{arith}
 use borrow.Author.Tests.{eq-eqb}
 use Rattle.laws.specs.Fraction.{whole, Is, _≈_, _≼_, _⊹_, _⊝_, _⊛_}
-use Rattle.laws.proofs.Fraction.{is-nothing, is-one, is-rewritten, is-⊝, same, below, ≈-refl, ⊹-≈}
+use Rattle.laws.proofs.Fraction.{is-nothing, is-one, is-shifted, is-⊝, same, below, ≈-refl, ⊹-≈}
 use Rattle.laws.proofs.FractionRing.{one-⊛, mixed-one}
 use Rattle.solas.specs.Span.{touch, P}
 use Rattle.solas.specs.Penetration.{C, G1, G, Q}
@@ -54,8 +54,8 @@ module _ {L B : ℕ} (hL : 0 < L) (hB : 0 < B) (aft fwd : ℕ) where
   unfolding layer
   Q-step b′ b g h =
       let k : 2 * b′ ≤ B = omega arith in
-      is-rewritten (inSpan (law L B) (layer L B b′ b) L aft fwd) 0 _
-      (omega (arith, depths-add L B 0 b′ b (law-falls hL hB) (layer-rises L B 0 b′ hB zero-le k) (layer-rises L B b′ b hB g h) aft fwd)) refl
+      is-shifted (inSpan (law L B) (layer L B b′ b) L aft fwd) 0
+      (omega (arith, depths-add L B 0 b′ b (law-falls hL hB) (layer-rises L B 0 b′ hB zero-le k) (layer-rises L B b′ b hB g h) aft fwd))
       (is-⊝ (Q-is hL hB aft fwd b h) (Q-is hL hB aft fwd b′ k))
 
   pub Q-not-negative : (b : ℕ) → 2 * b ≤ B → whole 0 ≼ Q L B aft fwd b

@@ -4,7 +4,10 @@ use lib.Dec.{lit<}
 use Rattle.laws.specs.Fraction.{Is}
 use Rattle.laws.proofs.Fraction.{is-over}
 use Rattle.solas.specs.RegulationIndex.{millimetres, centimetres, hundredths}
+-- how quotients compare, passed on
 pub use Rattle.laws.proofs.Choice.{split}
+pub use Rattle.laws.proofs.Fraction.{is-written, equal-across, below-across, strictly-below-across}
+pub use Rattle.laws.proofs.FractionRing.{⊛-comm, ⊛-assoc}
 
 pub is-millimetres : (n : ℕ) → Is (millimetres n) n 0 1000
 is-millimetres n = is-over n (lit< tt)

@@ -9,7 +9,7 @@ use Rattle.laws.specs.Fraction.{Fraction, _less_over_, _over_, whole, Is, _≈_
 use Rattle.laws.specs.Polynomial.{X, C}
 use Rattle.laws.proofs.Choice.{split}
 use Rattle.laws.proofs.Polynomial.{pow-two}
-use Rattle.laws.proofs.Fraction.{is-over, is-whole, is-widened, is-shifted, is-rewritten, is-recast, is-⊛, is-⊘, same, below, strictly-below, ≈-refl, ≈-sym, ≈-trans, ⊛-≈}
+use Rattle.laws.proofs.Fraction.{is-over, is-whole, is-widened, is-shifted, is-recast, is-⊛, is-⊘, same, below, strictly-below, ≈-refl, ≈-sym, ≈-trans, ⊛-≈}
 use Rattle.laws.proofs.FractionTerm.{number, ratio, _⊝ᵗ_, also, quotient-by}
 use Rattle.laws.proofs.FractionRing.{⊛-comm, ⊛-assoc}
 use Rattle.laws.proofs.FractionOrder.{is-lesser}
@@ -69,7 +69,7 @@ is-squared n = is-shifted _ 0 (omega arith) (is-⊛ (is-whole n {d = 1} (lit< tt
 -- ---- s⁴, from a number's square q
 power : {q : Fraction} (g t e : ℕ) → Is q (min 500 (3000 - e)) 0 500 → q ⊛ q ⊛ underRoot (millimetres g) (hundredths t) ≈ s⁴ g t e
 power g t e h =
-    same {d = 120 * 1600 * 500 ^ 2} (lit< tt) (is-rewritten _ 0 _ (rw pow-two (omega arith)) (omega arith) (is-⊛ (is-⊛ h h) (is-under-root g t))) (is-s⁴ g t e)
+    same {d = 120 * 1600 * 500 ^ 2} (lit< tt) (is-shifted _ 0 (rw pow-two (omega arith)) (is-⊛ (is-⊛ h h) (is-under-root g t))) (is-s⁴ g t e)
 
 module _ (N : Numbers) where
   infix 4 _≐_

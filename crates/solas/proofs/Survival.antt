@@ -1,11 +1,11 @@
 -- Survival: s⁴ as one quotient of whole numbers, between 0 and 1. Assumes nothing.
 use Prim.Native.Nat.{ℕ, _-_, _*_, _^_, min}
-use mathlib.Core.Path.{_≡_, refl}
+use mathlib.Core.Path.{_≡_}
 use native.Mathlib.Nat.{min-le-left, min-le-right, mul-le-mul, pow-le-pow-left}
 use native.Mathlib.Omega.{arith}
 use lib.Dec.{lit<}
 use Rattle.laws.specs.Fraction.{whole, Is, _≼_}
-use Rattle.laws.proofs.Fraction.{is-over, is-whole, is-rewritten, is-widened, is-⊛, below}
+use Rattle.laws.proofs.Fraction.{is-over, is-whole, is-widened, is-shifted, is-⊛, below}
 use Rattle.laws.proofs.FractionOrder.{is-chosen}
 use Rattle.laws.proofs.Polynomial.{pow-two}
 use Rattle.solas.specs.Survival.{k, s⁴}
@@ -16,11 +16,11 @@ unfolding k
 is-k e =
     is-chosen e 2500 (λ l. let m : min 500 (3000 - e) ≡ 500 = omega arith in rw m (is-whole 1 (lit< tt)))
     (λ l. is-chosen 3000 e (λ u. let m : min 500 (3000 - e) ≡ 0 = omega arith in rw m (is-whole 0 (lit< tt)))
-    (λ u. let m : min 500 (3000 - e) ≡ 3000 - e = omega arith in rw m (is-rewritten _ 0 _ (rw pow-two (omega arith)) refl (is-⊛ (is-over _ (lit< tt)) (is-over _ (lit< tt))))))
+    (λ u. let m : min 500 (3000 - e) ≡ 3000 - e = omega arith in rw m (is-shifted _ 0 (rw pow-two (omega arith)) (is-⊛ (is-over _ (lit< tt)) (is-over _ (lit< tt))))))
 
 pub is-s⁴ : (g t e : ℕ) → Is (s⁴ g t e) (min g 120 * min t 1600 * min 500 (3000 - e) ^ 2) 0 (120 * 1600 * 500 ^ 2)
 unfolding s⁴
-is-s⁴ g t e = is-rewritten _ 0 _ (omega arith) refl (is-⊛ (is-⊛ (is-over _ (lit< tt)) (is-over _ (lit< tt))) (is-k e))
+is-s⁴ g t e = is-shifted _ 0 (omega arith) (is-⊛ (is-⊛ (is-over _ (lit< tt)) (is-over _ (lit< tt))) (is-k e))
 
 -- the same times 10¹⁶: a third of 625,000·g·t·q²
 pub is-s⁴-parts : (g t e : ℕ) → Is (s⁴ g t e) (625000 * (min g 120 * min t 1600 * min 500 (3000 - e) ^ 2)) 0 (3 * 10 ^ 16)

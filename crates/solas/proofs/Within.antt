@@ -7,7 +7,7 @@ use native.Mathlib.Omega.{arith}
 use borrow.Author.Tests.{eqb-true}
 use lib.Dec.{eqb, lit<}
 use Rattle.laws.specs.Fraction.{Fraction, _over_, Is}
-use Rattle.laws.proofs.Fraction.{is-over, is-one, is-widened, is-rewritten, is-⊹, is-⊝, is-⊛}
+use Rattle.laws.proofs.Fraction.{is-over, is-one, is-widened, is-shifted, is-written, is-⊹, is-⊝, is-⊛}
 use Rattle.laws.proofs.FractionRing.{is-mixed}
 use Rattle.laws.proofs.FractionOrder.{is-chosen}
 use Rattle.solas.specs.Span.{Touch, neither, one, both, touch, half, PAt, P}
@@ -41,11 +41,11 @@ span-fits L aft fwd = tests (eqb aft 0) (eqb fwd L) refl refl
     tests false false d e = tt
 
 is-half : {f : Fraction} {a b d : ℕ} → Is f a b d → Is (half f) a b (2 * d)
-is-half {f} {a} {b} {d} h = is-rewritten a b (2 * d) (omega arith) (mul-comm d 2) (is-⊛ h (is-over 1 (lit< tt)))
+is-half {d = d} h = is-written (is-⊛ h (is-over 1 (lit< tt))) (omega arith) (omega arith) (mul-comm d 2)
 
 -- x/L, over any scale
 part-is : {L : ℕ} (x u n : ℕ) → 0 < L → Is (x over L) (u * (n * x)) 0 (u * (n * L))
-part-is {L} x u n h = is-rewritten (u * (n * x)) 0 (u * (n * L)) (omega arith) (mul-assoc u n L) (is-widened (u * n) (is-over x h))
+part-is {L} x u n h = is-written (is-widened (u * n) (is-over x h)) (mul-assoc u n x) (omega arith) (mul-assoc u n L)
 
 -- ---- P and G of a span of length x that touches so many ends, and of the span from aft to fwd
 module _ {L B : ℕ} (hL : 0 < L) (hB : 0 < B) where
@@ -66,7 +66,7 @@ module _ {L B : ℕ} (hL : 0 < L) (hB : 0 < B) (b : ℕ) (h : 2 * b ≤ B) where
   G-at x neither f = is-widened 2 (inner-G-is hL hB x b h)
   G-at x one f =
       is-chosen (15 * B * x) (b * L) (λ k. is-half (is-⊹ (p-shallow hL hB x b h (up-to-cut L B x b k)) (along-is hL hB x b h)))
-      (λ k. is-rewritten _ 0 _ (omega (arith, lacks (law L B) (33 * b * L) (law L B .λx * x) (shallow L B b h) (past-cut L B x b k))) refl
+      (λ k. is-shifted _ 0 (omega (arith, lacks (law L B) (33 * b * L) (law L B .λx * x) (shallow L B b h) (past-cut L B x b k)))
       (is-⊝ (is-widened 2 (along-is hL hB x b h)) (is-half (G3-is L B b hB))))
   G-at x both f = rw f (is-widened 2 (is-throughout (law L B .W) (law L B .κ) (law L B .λx * L) (G1-is L B b hB h)))
 

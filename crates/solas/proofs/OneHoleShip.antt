@@ -1,6 +1,5 @@
 -- The small ship of docs/ONE-HOLE.md, in 297ths: its shares, and what two slips make of them. Assumes nothing.
-use Prim.Native.Nat.{ℕ}
-use mathlib.Core.Path.{_≡_, refl}
+use mathlib.Core.Path.{refl}
 use mathlib.Core.List.{[], _∷_}
 use Rattle.laws.specs.Fraction.{_less_over_, _over_, whole, _⊹_, _⊝_, _⊛_, _≈_, upTo}
 use Rattle.solas.specs.Span.{touch, p, P}

@@ -3,7 +3,7 @@ use Prim.Native.Nat.{ℕ, _+_, _*_, _≤_, _<_}
 use mathlib.Core.List.{[], _∷_}
 use native.Mathlib.Omega.{arith}
 use lib.Dec.{lit<}
-use Rattle.laws.specs.Fraction.{_over_, whole, Is, _≈_}
+use Rattle.laws.specs.Fraction.{_over_, Is, _≈_}
 use Rattle.laws.specs.Polynomial.{X, C, _:+_, _:*_}
 use Rattle.laws.proofs.Choice.{split}
 use Rattle.laws.proofs.Fraction.{is-over, is-widened, is-⊹, is-⊝, is-⊛, same, equal-across, below-across, strictly-below-across, ≈-trans, ⊛-≈}

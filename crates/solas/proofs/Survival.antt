@@ -5,7 +5,7 @@ use native.Mathlib.Nat.{min-le-left, min-le-right, mul-le-mul, pow-le-pow-left}
 use native.Mathlib.Omega.{arith}
 use lib.Dec.{lit<}
 use Rattle.laws.specs.Fraction.{whole, Is, _≼_}
-use Rattle.laws.proofs.Fraction.{is-over, is-whole, is-widened, is-shifted, is-⊛, below}
+use Rattle.laws.proofs.Fraction.{is-over, is-whole, is-shifted, is-⊛, below}
 use Rattle.laws.proofs.FractionOrder.{is-chosen}
 use Rattle.laws.proofs.Polynomial.{pow-two}
 use Rattle.solas.specs.Survival.{k, s⁴}
@@ -21,10 +21,6 @@ is-k e =
 pub is-s⁴ : (g t e : ℕ) → Is (s⁴ g t e) (min g 120 * min t 1600 * min 500 (3000 - e) ^ 2) 0 (120 * 1600 * 500 ^ 2)
 unfolding s⁴
 is-s⁴ g t e = is-shifted _ 0 (omega arith) (is-⊛ (is-⊛ (is-over _ (lit< tt)) (is-over _ (lit< tt))) (is-k e))
-
--- the same times 10¹⁶: a third of 625,000·g·t·q²
-pub is-s⁴-parts : (g t e : ℕ) → Is (s⁴ g t e) (625000 * (min g 120 * min t 1600 * min 500 (3000 - e) ^ 2)) 0 (3 * 10 ^ 16)
-is-s⁴-parts g t e = is-widened 625000 (is-s⁴ g t e)
 
 pub s⁴-not-negative : (g t e : ℕ) → whole 0 ≼ s⁴ g t e
 s⁴-not-negative g t e = below (lit< tt) (is-whole 0 (lit< tt)) (is-s⁴ g t e) (omega arith)

@@ -1,12 +1,11 @@
 -- Document 01, "Proved values": the definitions give them. Assumes nothing.
-use Prim.Native.Nat.{ℕ}
 use mathlib.Core.Path.{_≡_, refl}
 use mathlib.Core.List.{[], _∷_}
 use Rattle.laws.specs.Fraction.{_less_over_, _over_, whole, _⊹_, _⊝_, _⊛_, _≈_}
 use Rattle.solas.specs.Span.{touch, p, P}
 use Rattle.solas.specs.Penetration.{C, G1, G3, G, Q}
 use Rattle.solas.specs.Ship.{Ship, abutting}
-use Rattle.solas.specs.Share.{within, share, rowShare}
+use Rattle.solas.specs.Share.{within, share}
 use Rattle.solas.specs.Height.{v}
 use Rattle.solas.specs.Survival.{k, s⁴}
 use Rattle.solas.specs.Index.{R}

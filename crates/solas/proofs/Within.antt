@@ -1,12 +1,12 @@
 -- Document 01's chance of damage within a span and a penetration is the general law's, for every span of the ship. Assumes nothing.
 use Prim.Native.Nat.{ℕ, _+_, _-_, _*_, _^_, _≤_, _<_, zero-le}
 use mathlib.Core.Path.{_≡_, refl}
-use mathlib.Core.Bool.{Bool, true, false, cond}
 use native.Mathlib.Nat.{sub-zero, add-sub-cancel-left, le-dest, le-refl, mul-pos, mul-comm, mul-assoc}
 use native.Mathlib.Omega.{arith}
 use borrow.Author.Tests.{eqb-true}
 use lib.Dec.{eqb, lit<}
 use Rattle.laws.specs.Fraction.{Fraction, _over_, Is}
+use Rattle.laws.proofs.Choice.{either-way}
 use Rattle.laws.proofs.Fraction.{is-over, is-one, is-widened, is-shifted, is-written, is-⊹, is-⊝, is-⊛}
 use Rattle.laws.proofs.FractionRing.{is-mixed}
 use Rattle.laws.proofs.FractionOrder.{is-chosen}
@@ -32,13 +32,9 @@ Fits both L x = x ≡ L
 
 pub span-fits : (L aft fwd : ℕ) → Fits (touch L aft fwd) L (fwd - aft)
 unfolding touch
-span-fits L aft fwd = tests (eqb aft 0) (eqb fwd L) refl refl
-  where
-    tests : (a f : Bool) → eqb aft 0 ≡ a → eqb fwd L ≡ f → Fits (cond a (cond f both one) (cond f one neither)) L (fwd - aft)
-    tests true true d e = omega (arith, eqb-true aft 0 d, eqb-true fwd L e)
-    tests true false d e = tt
-    tests false true d e = tt
-    tests false false d e = tt
+span-fits L aft fwd =
+    either-way (eqb aft 0) (λ a. either-way (eqb fwd L) (λ f. rw (a, f) (omega (arith, eqb-true aft 0 a, eqb-true fwd L f))) (λ f. rw (a, f) tt))
+    (λ a. either-way (eqb fwd L) (λ f. rw (a, f) tt) (λ f. rw (a, f) tt))
 
 is-half : {f : Fraction} {a b d : ℕ} → Is f a b d → Is (half f) a b (2 * d)
 is-half {d = d} h = is-written (is-⊛ h (is-over 1 (lit< tt))) (omega arith) (omega arith) (mul-comm d 2)

@@ -3,7 +3,7 @@ use Prim.Native.Nat.{ℕ, suc, _+_, _-_, _*_, _≤_, _<_}
 use mathlib.Core.Path.{_≡_, refl, ap, sym, _∙_}
 use native.Mathlib.Nat.{zero-mul, one-mul, mul-sub, mul-comm, mul-pos, eq-of-mul-eq-mul-right, le-of-mul-le-mul-right, lt-of-mul-lt-mul-right, mul-lt-mul-of-pos-right, mul-le-mul-right, zero-lt-suc, le-refl, le-of-eq, le-antisymm}
 use native.Mathlib.Omega.{arith, by-contra}
-use Rattle.laws.specs.Fraction.{Fraction, den, _less_over_, _over_, Is, _≈_, _≼_, _≺_, whole, _⊹_, _⊝_, _⊛_, _⊘_, total}
+use Rattle.laws.specs.Fraction.{Fraction, den, _less_over_, _over_, Is, _≈_, _≼_, _≺_, whole, _⊹_, _⊝_, _⊛_, _⊘_}
 
 pub positive : (f : Fraction) → 0 < den f
 positive f = zero-lt-suc (f .rest)
@@ -60,6 +60,21 @@ is-narrowed {f} k a b d p h = record { cross = eq-of-mul-eq-mul-right k p (f .up
 -- another way to write the same difference over the same denominator
 pub is-shifted : {f : Fraction} {a b d : ℕ} (a′ b′ : ℕ) → a + b′ ≡ a′ + b → Is f a b d → Is f a′ b′ d
 is-shifted {f} a′ b′ e h = record { cross = omega (arith, h .cross, ap (λ z. z * den f) e) }
+
+-- the same numbers in other words
+pub is-written : {f : Fraction} {a b d a′ b′ d′ : ℕ} → Is f a b d → a ≡ a′ → b ≡ b′ → d ≡ d′ → Is f a′ b′ d′
+is-written h p q r = rw (← p, ← q, ← r) h
+
+pub is-widened-behind : {f : Fraction} {a b d : ℕ} (k : ℕ) → Is f a b d → Is f (k * a) (k * b) (d * k)
+is-widened-behind {f} {a} {b} {d} k h = is-written (is-widened k h) refl refl (mul-comm k d)
+
+-- over another denominator, by cross multiplication
+pub is-recast : {f : Fraction} {a b d : ℕ} (a′ b′ d′ : ℕ) → 0 < d → a * d′ + b′ * d ≡ a′ * d + b * d′ → Is f a b d → Is f a′ b′ d′
+is-recast {f} {a} {b} {d} a′ b′ d′ p e h =
+    is-narrowed d a′ b′ d′ p (record { cross = omega (arith, ap (λ z. z * d′) (h .cross), ap (λ z. z * den f) e) })
+
+pub is-crossed : (a b d n d′ : ℕ) → 0 < d → a * d′ ≡ n * d + b * d′ → Is (a less b over d) n 0 d′
+is-crossed a b d n d′ p e = is-recast n 0 d′ p (omega (arith, e)) (is-less-over a b p)
 
 -- ---- sums, differences, products, quotients
 one-more : {k : ℕ} → 0 < k → suc (k - 1) ≡ k
@@ -125,6 +140,17 @@ pub numerators-strictly-below : {f g : Fraction} {a b a′ b′ d : ℕ} → 0 <
 numerators-strictly-below {f} {g} {a} {b} {a′} {b′} {d} p l h k =
     lt-of-mul-lt-mul-right (den f * den g)
     (omega (arith, ap (λ z. z * den g) (h .cross), ap (λ z. z * den f) (k .cross), mul-lt-mul-of-pos-right {m = f .up * den g + g .down * den f} {n = g .up * den f + f .down * den g} {k = d} (l .cross) p))
+
+-- ---- the same over any two denominators
+module _ {f g : Fraction} {a b d a′ b′ d′ : ℕ} (h : Is f a b d) (k : Is g a′ b′ d′) where
+  pub equal-across : 0 < d → 0 < d′ → a * d′ + b′ * d ≡ a′ * d + b * d′ → f ≈ g
+  equal-across p q e = same q (is-recast a′ b′ d′ p e h) k
+
+  pub below-across : 0 < d → 0 < d′ → a * d′ + b′ * d ≤ a′ * d + b * d′ → f ≼ g
+  below-across p q e = below (mul-pos q p) (is-widened d′ h) (is-widened-behind d k) (omega (arith, e))
+
+  pub strictly-below-across : a * d′ + b′ * d < a′ * d + b * d′ → f ≺ g
+  strictly-below-across e = strictly-below (is-widened d′ h) (is-widened-behind d k) (omega (arith, e))
 
 -- ---- equality
 pub ≈-refl : (f : Fraction) → f ≈ f

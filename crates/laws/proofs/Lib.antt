@@ -1,16 +1,27 @@
-pub mod Fraction
+-- tests
 pub mod Table
+pub mod Choice
+-- sums and lists
+pub mod Sums
+pub mod Listed
+pub mod Telescope
+pub mod Lists
+pub mod Bytes
+-- polynomials, by computation
 pub mod Normal
 pub mod Claim
 pub mod Excess
 pub mod Certificate
 pub mod Polynomial
-pub mod Span
-pub mod FractionSum
+-- quotients and roots of whole numbers
 pub mod Rounding
-pub mod Sums
-pub mod Listed
-pub mod Telescope
 pub mod Roots
-pub mod Lists
-pub mod Bytes
+-- fractions
+pub mod Fraction
+pub mod FractionSum
+pub mod FractionTerm
+pub mod FractionRing
+pub mod FractionOrder
+-- span functions
+pub mod Span
+pub mod SpanParts

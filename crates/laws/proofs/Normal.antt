@@ -27,7 +27,8 @@ scaled-multiplies (suc k) r ρ = multiple-multiplies (suc k) r ρ
 
 deeper-multiplies : (f : Normal → Normal) (p : Normal) → ((s : Normal) (ρ : List ℕ) → amount (f s) ρ ≡ amount p ρ * amount s ρ) →
     (r : Normal) (ρ : List ℕ) → amount (deeper f r) ρ ≡ amount p (others ρ) * amount r ρ
-deeper-multiplies f p h (const k) ρ = rw (h (const k) (others ρ)) (omega arith)
+deeper-multiplies f p h (const zero) ρ = omega arith
+deeper-multiplies f p h (const (suc k)) ρ = rw (h (const (suc k)) (others ρ)) (omega arith)
 deeper-multiplies f p h (horner p′ q′) ρ = rw (h p′ (others ρ), deeper-multiplies f p h q′ ρ) (omega arith)
 
 ⊗-multiplies : (r s : Normal) (ρ : List ℕ) → amount (r ⊗ s) ρ ≡ amount r ρ * amount s ρ

@@ -1,5 +1,6 @@
 -- Polynomial facts by computation: `poly2 (λ a b. sq (C 1) a b ∷ [] ⊢ C 4 :* (a :* b) :≤ (a :+ b) :^ 2) tt`. Assumes nothing.
-use Prim.Native.Nat.{ℕ, zero, suc, _+_, _*_, _≤_}
+use Prim.Native.Nat.{ℕ, zero, suc, _+_, _*_, _^_, _≤_}
+use mathlib.Core.Path.{_≡_}
 use mathlib.Core.List.{List, [], _∷_, _++_}
 use native.Mathlib.Nat.{le-dest}
 use native.Mathlib.Omega.{arith}
@@ -70,3 +71,7 @@ cross {a} {b} {c} {d} h k = let (x, e) = le-dest h in let (y, f) = le-dest k in 
   where
     apart : (a x c y : ℕ) → a * (c + y) + (a + x) * c ≤ (a + x) * (c + y) + a * c
     apart a x c y = omega arith
+
+-- to `omega` a square is an unknown, a product is not
+pub pow-two : (n : ℕ) → n ^ 2 ≡ n * n
+pow-two = poly1 (λ n. [] ⊢ n :^ 2 := n :* n) tt

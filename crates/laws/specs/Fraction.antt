@@ -1,13 +1,16 @@
 -- Fractions of whole numbers, of either sign: equality and order by cross multiplication. Assumes nothing.
 use Prim.Native.Nat.{ℕ, zero, suc, _+_, _-_, _*_, _≤_, _<_}
 use mathlib.Core.Path.{_≡_}
+use mathlib.Core.Bool.{Bool, cond}
 use mathlib.Core.List.{List, [], _∷_}
+use lib.Dec.{leb}
 
 infix 5 _over_
 infix 5 _less_over_
 infix 4 _≈_
 infix 4 _≼_
 infix 4 _≺_
+infix 4 _≼?_
 infixl 6 _⊹_
 infixl 6 _⊝_
 infixl 7 _⊛_
@@ -44,6 +47,13 @@ pub record _≼_ (f g : Fraction) : Type 0 where
 
 pub record _≺_ (f g : Fraction) : Type 0 where
   pub cross : f .up * den g + g .down * den f < g .up * den f + f .down * den g
+
+-- is f at most g?
+unfoldable pub _≼?_ : Fraction → Fraction → Bool
+f ≼? g = leb (f .up * den g + g .down * den f) (g .up * den f + f .down * den g)
+
+unfoldable pub lesser : Fraction → Fraction → Fraction
+lesser f g = cond (f ≼? g) f g
 
 unfoldable pub _⊹_ : Fraction → Fraction → Fraction
 f ⊹ g = (f .up * den g + g .up * den f) less (f .down * den g + g .down * den f) over (den f * den g)

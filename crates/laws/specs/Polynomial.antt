@@ -61,9 +61,10 @@ abbrev pub scaled : ℕ → Normal → Normal
 scaled zero s = const 0
 scaled (suc k) s = multiple (suc k) s
 
--- times a polynomial over the other variables, by which f multiplies
+-- times a polynomial over the other variables, by which f multiplies; a coefficient of zero stays one number
 abbrev pub deeper : (Normal → Normal) → Normal → Normal
-deeper f (const k) = horner (f (const k)) (const 0)
+deeper f (const zero) = const 0
+deeper f (const (suc k)) = horner (f (const (suc k))) (const 0)
 deeper f (horner p q) = horner (f p) (deeper f q)
 
 infixl 7 _⊗_

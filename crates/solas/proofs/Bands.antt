@@ -9,12 +9,14 @@ use borrow.Author.Tests.{leb-true}
 use lib.Dec.{leb}
 use Rattle.laws.specs.Fraction.{_less_over_, Is}
 use Rattle.laws.specs.Span.{e3}
+use Rattle.laws.proofs.Fraction.{is-crossed}
+use Rattle.laws.proofs.FractionOrder.{is-chosen}
+use Rattle.laws.proofs.SpanParts.{e3-below, e3-above}
 use Rattle.laws.proofs.Polynomial.{Expr, C, _:+_, _:*_, _:^_, _:=_, _⊲_, eq, _⊢_, poly1, poly3, poly4, poly7, poly9}
 use Rattle.solas.specs.Span.{p}
 use Rattle.solas.specs.General.{Law, fall, between, mass, beyond, unit, law}
 use Rattle.solas.proofs.GeneralLayer.{beyond-nothing}
-use Rattle.solas.proofs.Recast.{is-crossed, is-branch}
-use Rattle.solas.proofs.Cut.{peak, mass-sum, between-below, between-above, e3-below, e3-above}
+use Rattle.solas.proofs.Cut.{peak, mass-sum, between-below, between-above}
 
 -- one, on the scale of a ship of length L: 36W²κ²·λL
 abbrev pub full : Law → ℕ → ℕ
@@ -128,5 +130,5 @@ module _ (M : ℕ) {L : ℕ} (positive : 0 < L) (x : ℕ) where
 pub p-is : {L : ℕ} → 0 < L → (B x : ℕ) → Is (p L x) (inner (law L B) (law L B .λx * x)) 0 (full (law L B) L)
 unfolding p law
 p-is {L} h B x =
-    is-branch (33 * x) (5 * L) (short (15 * B) h x _ _ _ refl refl refl)
-    (λ k. is-branch (33 * x) (10 * L) (middle (15 * B) h x _ _ _ _ _ refl refl refl refl refl (le-of-lt k)) (λ j. long (15 * B) h x _ _ _ refl refl refl (le-of-lt j)))
+    is-chosen (33 * x) (5 * L) (short (15 * B) h x _ _ _ refl refl refl)
+    (λ k. is-chosen (33 * x) (10 * L) (middle (15 * B) h x _ _ _ _ _ refl refl refl refl refl (le-of-lt k)) (λ j. long (15 * B) h x _ _ _ refl refl refl (le-of-lt j)))

@@ -1,8 +1,7 @@
 -- The rules for one, two, three and more zones count the whole ship once. Assumes nothing.
-use Prim.Native.Nat.{ℕ, zero, suc, _+_, _-_, _*_, _≤_, _<_}
-use mathlib.Core.Path.{_≡_, refl, ap, sym, _∙_}
+use Prim.Native.Nat.{ℕ, zero, suc, _+_, _-_, _≤_, _<_}
+use mathlib.Core.Path.{_≡_, refl, ap, _∙_}
 use native.Mathlib.Nat.{add-zero, le-trans}
-use native.Mathlib.Numerals.{add-one}
 use native.Mathlib.Omega.{arith}
 use Rattle.laws.specs.Sums.{sumBelow}
 use Rattle.laws.proofs.Sums.{sumBelow-same, sumBelow-add, sumBelow-zero, place-not-above}
@@ -60,6 +59,22 @@ module _ (F : ℕ → ℕ → ℕ) where
   pub counted-once : (m : ℕ) → 0 < m → groups (added F) m ≡ groups (taken F) m + F 1 m
   unfolding groups rest
   counted-once m p = omega (arith, rows m m zero (omega arith) p)
+
+-- ---- figures that add up, add up in what is added and what is taken away
+module _ (F G H : ℕ → ℕ → ℕ) (sums : (a e : ℕ) → F a e + G a e ≡ H a e) where
+  pub added-adds : (a n : ℕ) → added F a n + added G a n ≡ added H a n
+  unfolding added
+  added-adds a zero = refl
+  added-adds a (suc zero) = sums a a
+  added-adds a (suc (suc zero)) = sums a (a + 1)
+  added-adds a (suc (suc (suc k))) = omega (arith, sums a (a + k + 2), sums (a + 1) (a + k + 1))
+
+  pub taken-adds : (a n : ℕ) → taken F a n + taken G a n ≡ taken H a n
+  unfolding taken
+  taken-adds a zero = refl
+  taken-adds a (suc zero) = refl
+  taken-adds a (suc (suc zero)) = omega (arith, sums a a, sums (a + 1) (a + 1))
+  taken-adds a (suc (suc (suc k))) = omega (arith, sums a (a + k + 1), sums (a + 1) (a + k + 2))
 
 -- ---- sums over all groups
 pub groups-same : (f g : ℕ → ℕ → ℕ) (m : ℕ) → ((a n : ℕ) → 1 ≤ a → 1 ≤ n → a + n ≤ m + 1 → f a n ≡ g a n) → groups f m ≡ groups g m

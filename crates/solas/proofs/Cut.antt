@@ -2,33 +2,12 @@
 use Prim.Native.Nat.{ℕ, _+_, _-_, _*_, _^_, _≤_}
 use mathlib.Core.Path.{_≡_}
 use mathlib.Core.List.{[], _∷_}
-use native.Mathlib.Nat.{add-zero, sub-zero, add-sub-cancel-left, sub-add-cancel, sub-eq-zero-of-le, le-dest, le-trans, le-of-eq, mul-comm, mul-le-mul}
+use native.Mathlib.Nat.{sub-zero, sub-add-cancel, le-trans, le-of-eq, mul-comm, mul-le-mul}
 use native.Mathlib.Omega.{arith}
 use Rattle.laws.specs.Span.{e2, e3}
-use Rattle.laws.proofs.Span.{e2-sum, e3-sum}
-use Rattle.laws.proofs.Polynomial.{C, _:+_, _:*_, _:^_, _:=_, _⊲_, eq, _⊢_, poly3, poly4, poly6, poly8}
+use Rattle.laws.proofs.SpanParts.{e2-below, e2-above, e3-below, e3-above}
+use Rattle.laws.proofs.Polynomial.{C, _:+_, _:*_, _:^_, _:=_, _⊲_, eq, _⊢_, poly4, poly6, poly8}
 use Rattle.solas.specs.General.{Law, fall, density, between, mass}
-
--- ---- e2 and e3 on either side of w
-pub e2-below : {w t : ℕ} → t ≤ w → e2 w t ≡ t ^ 2
-e2-below {w} {t} h =
-    let (r, e) = le-dest h in
-    rw (← e)
-    (poly3 (λ t r E. (C 1 ⊲ E :+ (t :+ r) :^ 2 := C 2 :* (t :+ r) :* t :+ r :^ 2) ∷ [] ⊢ E := t :^ 2) tt
-    t r (e2 (t + r) t) (rw (add-sub-cancel-left t r) at (e2-sum (t + r) t)))
-
-pub e3-below : {w t : ℕ} → t ≤ w → e3 w t + t ^ 3 ≡ 3 * w * t ^ 2
-e3-below {w} {t} h =
-    let (r, e) = le-dest h in
-    rw (← e)
-    (poly3 (λ t r E. (C 1 ⊲ E :+ (t :+ r) :^ 3 := C 3 :* (t :+ r) :^ 2 :* t :+ r :^ 3) ∷ [] ⊢ E :+ t :^ 3 := C 3 :* (t :+ r) :* t :^ 2) tt
-    t r (e3 (t + r) t) (rw (add-sub-cancel-left t r) at (e3-sum (t + r) t)))
-
-pub e2-above : {w t : ℕ} → w ≤ t → e2 w t + w ^ 2 ≡ 2 * w * t
-e2-above {w} {t} h = rw (sub-eq-zero-of-le h, add-zero) at (e2-sum w t)
-
-pub e3-above : {w t : ℕ} → w ≤ t → e3 w t + w ^ 3 ≡ 3 * w ^ 2 * t
-e3-above {w} {t} h = rw (sub-eq-zero-of-le h, add-zero) at (e3-sum w t)
 
 -- ---- the density, its mass, and what it gives up to a cut
 abbrev pub peak : Law → ℕ

@@ -3,15 +3,15 @@ use Prim.Native.Nat.{ℕ, _+_, _-_, _*_, _^_, _≤_, _<_}
 use mathlib.Core.Path.{_≡_, refl}
 use mathlib.Core.Bool.{true}
 use mathlib.Core.List.{[], _∷_}
-use native.Mathlib.Nat.{sub-add-cancel, le-dest, le-of-eq, mul-pos, mul-le-mul-right, one-le-pow}
+use native.Mathlib.Nat.{sub-add-cancel, le-dest, le-of-eq, mul-pos, mul-assoc, mul-le-mul-right, one-le-pow}
 use native.Mathlib.Omega.{arith}
 use borrow.Author.Tests.{leb-true}
-use lib.Dec.{leb}
+use lib.Dec.{leb, lit<}
 use Rattle.laws.specs.Fraction.{_less_over_, Is}
+use Rattle.laws.proofs.Fraction.{is-crossed}
 use Rattle.laws.proofs.Polynomial.{C, _:+_, _:*_, _:^_, _:≤_, _:=_, _⊲_, eq, _⊢_, poly2, poly3, poly5, poly6}
 use Rattle.solas.specs.Penetration.{C as chance}
-use Rattle.solas.specs.General.{Law, Falling, Layer, Rising, common, law, layer}
-use Rattle.solas.proofs.Recast.{is-crossed}
+use Rattle.solas.specs.General.{Falling, Rising, unit, common, law, layer}
 
 -- ---- C: (16bB - 12b²)/(5B²), at most one up to the half breadth
 module _ (B b : ℕ) (h : 2 * b ≤ B) where
@@ -80,11 +80,14 @@ pub no-chance : (L B b : ℕ) → layer L B 0 b .c′ ≡ 0
 unfolding layer
 no-chance L B b = omega arith
 
--- ---- what Q is over is not 0
-pub common-positive : {l : Law} {y : Layer} → Falling l → Rising l y → (L : ℕ) → 0 < l .λx * L → 0 < common l y L
-common-positive {l} f r L h =
-    mul-pos (omega arith) (mul-pos (mul-pos (r .positive) (mul-pos (mul-pos (omega arith) (one-le-pow 2 (l .W) (f .stretch))) (one-le-pow 2 (l .κ) (f .knuckle)))) h)
+-- ---- what p and Q are over is not 0
+module _ {L B : ℕ} (hL : 0 < L) (hB : 0 < B) where
+  pub full-positive : 0 < unit (law L B) * (law L B .λx * L)
+  unfolding law
+  full-positive =
+      let square : 0 < (15 * B * (5 * L)) ^ 2 = one-le-pow 2 (15 * B * (5 * L)) (omega (arith, mul-pos hB hL)) in
+      mul-pos (mul-pos (mul-pos (lit< tt) square) square) (omega (arith, mul-pos hB hL))
 
-pub law-common-positive : {L B : ℕ} → 0 < L → 0 < B → (b′ b : ℕ) → b′ ≤ b → 2 * b ≤ B → 0 < common (law L B) (layer L B b′ b) L
-unfolding law
-law-common-positive {L} {B} hL hB b′ b g h = common-positive (law-falls hL hB) (layer-rises L B b′ b hB g h) L (omega (arith, mul-pos hB hL))
+  pub common-positive : (b′ b : ℕ) → 0 < common (law L B) (layer L B b′ b) L
+  unfolding layer
+  common-positive b′ b = mul-pos (lit< tt) (rw (mul-assoc (5 * B ^ 2) (unit (law L B)) (law L B .λx * L)) (mul-pos (mul-pos (lit< tt) (one-le-pow 2 B hB)) full-positive))

@@ -1,18 +1,19 @@
 -- The shares of a sound ship over one denominator: what a row adds and takes away, in whole numbers. Assumes nothing.
-use Prim.Native.Nat.{ℕ, zero, suc, _+_, _-_, _*_, _^_, _≤_, _<_}
-use mathlib.Core.Path.{_≡_, refl, ap, sym, _∙_}
-use native.Mathlib.Nat.{le-refl, mul-pos, one-le-pow}
-use native.Mathlib.Omega.{arith}
+use Prim.Native.Nat.{ℕ, zero, suc, _+_, _*_, _^_, _≤_, _<_}
+use mathlib.Core.Path.{_≡_}
 use mathlib.Core.List.{List, [], _∷_}
-use Rattle.laws.specs.Fraction.{Fraction, Is, whole, total}
+use native.Mathlib.Omega.{arith}
+use Rattle.laws.specs.Fraction.{Is, total}
 use Rattle.laws.specs.Sums.{last, Linked}
-use Rattle.laws.proofs.Fraction.{is-⊹, is-⊝, is-shifted, is-nothing}
+use Rattle.laws.proofs.Fraction.{is-nothing, is-shifted, is-⊹, is-⊝}
+use Rattle.laws.proofs.Lists.{last-rises}
 use Rattle.solas.specs.Ship.{Ship, Sound}
 use Rattle.solas.specs.Share.{within, share, rowShare, layerShares}
 use Rattle.solas.specs.General.{Falling, Rising, inSpan, law, layer, unit}
 use Rattle.solas.specs.Count.{added, taken, Group}
+use Rattle.solas.proofs.Count.{added-adds, taken-adds}
 use Rattle.solas.proofs.GeneralLayer.{depths-add}
-use Rattle.solas.proofs.Depth.{law-falls, layer-rises}
+use Rattle.solas.proofs.Depth.{law-falls, layer-rises, common-positive}
 use Rattle.solas.proofs.Within.{Q-is}
 
 -- of the zones from a to e, what the layer from b′ to b gives, over `over s`
@@ -21,21 +22,6 @@ figure s b′ b a e = inSpan (law (s .L) (s .B)) (layer (s .L) (s .B) b′ b) (s
 
 abbrev pub over : Ship → ℕ
 over s = 2 * (5 * s .B ^ 2 * unit (law (s .L) (s .B)) * (law (s .L) (s .B) .λx * s .L))
-
--- figures that add up, add up in what is added and what is taken away
-added-adds : (F G H : ℕ → ℕ → ℕ) → ((a e : ℕ) → F a e + G a e ≡ H a e) → (a n : ℕ) → added F a n + added G a n ≡ added H a n
-unfolding added
-added-adds F G H h a zero = refl
-added-adds F G H h a (suc zero) = h a a
-added-adds F G H h a (suc (suc zero)) = h a (a + 1)
-added-adds F G H h a (suc (suc (suc k))) = omega (arith, h a (a + k + 2), h (a + 1) (a + k + 1))
-
-taken-adds : (F G H : ℕ → ℕ → ℕ) → ((a e : ℕ) → F a e + G a e ≡ H a e) → (a n : ℕ) → taken F a n + taken G a n ≡ taken H a n
-unfolding taken
-taken-adds F G H h a zero = refl
-taken-adds F G H h a (suc zero) = refl
-taken-adds F G H h a (suc (suc zero)) = omega (arith, h a a, h (a + 1) (a + 1))
-taken-adds F G H h a (suc (suc (suc k))) = omega (arith, h a (a + k + 1), h (a + 1) (a + k + 2))
 
 module _ (s : Ship) (h : Sound s) where
   some-length : 0 < s .L
@@ -48,12 +34,8 @@ module _ (s : Ship) (h : Sound s) where
   rises b′ b = layer-rises (s .L) (s .B) b′ b (h .broad)
 
   pub over-positive : 0 < over s
-  unfolding law
-  over-positive =
-      let square = mul-pos {m = 5} {n = s .B ^ 2} (omega arith) (one-le-pow 2 (s .B) (h .broad)) in
-      let scale = mul-pos {m = 15 * s .B} {n = 5 * s .L} (omega (arith, h .broad)) (omega (arith, some-length)) in
-      let units = mul-pos {m = 36 * (15 * s .B * (5 * s .L)) ^ 2} {n = (15 * s .B * (5 * s .L)) ^ 2} (mul-pos {m = 36} (omega arith) (one-le-pow 2 (15 * s .B * (5 * s .L)) scale)) (one-le-pow 2 (15 * s .B * (5 * s .L)) scale) in
-      mul-pos {m = 2} (omega arith) (mul-pos (mul-pos square units) (mul-pos {m = 15 * s .B * 33} {n = s .L} (omega (arith, h .broad)) some-length))
+  unfolding layer
+  over-positive = common-positive some-length (h .broad) 0 0
 
   -- Q of the zones from a to e
   pub within-is : (b : ℕ) → 2 * b ≤ s .B → (a e : ℕ) → Is (within s a e b) (figure s 0 b a e) 0 (over s)
@@ -90,11 +72,6 @@ module _ (s : Ship) (h : Sound s) where
       let dn = taken-adds (figure s 0 (suc b′)) (figure s (suc b′) b) (figure s 0 b) (meets 0 (suc b′) b (omega arith) q p) a n in
       is-shifted (added (figure s (suc b′) b) a n) (taken (figure s (suc b′) b) a n) (omega (arith, up, dn))
       (is-⊝ (share-is a n b g p) (share-is a n (suc b′) g (omega arith)))
-
-  -- the penetrations of a list that rises end above the first
-  last-rises : (b : ℕ) (bs : List ℕ) → Linked _<_ b bs → b ≤ last b bs
-  last-rises b [] h = le-refl b
-  last-rises b (c ∷ bs) h = let l = last-rises c bs (h .1) in omega (arith, h .0)
 
   -- the shares of a group's layers together
   pub layers-are : (a n : ℕ) → Group s a n → (b′ b : ℕ) (bs : List ℕ) → Linked _<_ b′ (b ∷ bs) → 2 * last b bs ≤ s .B →

@@ -2,53 +2,12 @@
 use Prim.Native.Nat.{ℕ, _+_, _-_, _*_, _^_, _≤_}
 use mathlib.Core.Path.{_≡_, ap}
 use mathlib.Core.List.{[], _∷_}
-use native.Mathlib.Nat.{mul-le-mul-left, zero-mul, sub-zero}
-use native.Mathlib.Omega.{arith, sub-cases}
+use native.Mathlib.Nat.{mul-le-mul-left, sub-zero}
+use native.Mathlib.Omega.{arith}
 use Rattle.laws.specs.Span.{e2, e3}
-use Rattle.laws.proofs.Span.{e2-sum, e3-sum}
-use Rattle.laws.proofs.Polynomial.{C, _:+_, _:*_, _:^_, _:=_, _⊲_, eq, _⊢_, poly1, poly3, poly4, poly9, poly10}
+use Rattle.laws.proofs.SpanParts.{e2-adds, e3-adds}
+use Rattle.laws.proofs.Polynomial.{C, _:+_, _:*_, _:^_, _:=_, _⊲_, _⊢_, poly3, poly4, pow-two}
 use Rattle.solas.specs.General.{Law, Falling, fall, density, between, mass, unit}
-
--- ---- e2 and e3 of a length a + b, by those of a, and of b from there on
-
--- of t, what is left of a and then of b: where some of a is left, all of b is
-left-of-both : (a b t : ℕ) → a + b - t ≡ b - (t - a) + (a - t)
-left-of-both a b t = omega arith
-
-left-in-turn : (a b t : ℕ) → (a - t) * b ≡ (a - t) * (b - (t - a))
-left-in-turn a b t =
-    sub-cases a t ((a - t) * b ≡ (a - t) * (b - (t - a)))
-    (λ h e. let z : b - (t - a) ≡ b = omega arith in rw z)
-    (λ h e. rw (e, zero-mul b, zero-mul (b - (t - a))))
-
-pub e2-adds : (a b t : ℕ) → e2 a t + e2 b (t - a) ≡ e2 (a + b) t
-e2-adds a b t =
-    plain a b t (t - a) (a - t) (b - (t - a)) (e2 a t) (e2 b (t - a)) (e2 (a + b) t)
-    (e2-sum a t) (e2-sum b (t - a)) (rw (left-of-both a b t) at (e2-sum (a + b) t)) (omega arith) (left-in-turn a b t)
-  where
-    plain : (a b t q r z x y s : ℕ) → x + a ^ 2 ≡ 2 * a * t + r ^ 2 → y + b ^ 2 ≡ 2 * b * q + z ^ 2 → s + (a + b) ^ 2 ≡ 2 * (a + b) * t + (z + r) ^ 2 →
-        a + q ≡ t + r → r * b ≡ r * z → x + y ≡ s
-    plain = poly9
-        (λ a b t q r z x y s.
-        (C 1 ⊲ x :+ a :^ 2 := C 2 :* a :* t :+ r :^ 2) ∷
-        (C 1 ⊲ y :+ b :^ 2 := C 2 :* b :* q :+ z :^ 2) ∷
-        eq (C 0) (C 1) (s :+ (a :+ b) :^ 2) (C 2 :* (a :+ b) :* t :+ (z :+ r) :^ 2) ∷
-        (C 2 :* b ⊲ a :+ q := t :+ r) ∷ (C 2 ⊲ r :* b := r :* z) ∷ [] ⊢ x :+ y := s) tt
-
-pub e3-adds : (a b t : ℕ) → 3 * b * e2 a t + e3 a t + e3 b (t - a) ≡ e3 (a + b) t
-e3-adds a b t =
-    plain a b t (t - a) (a - t) (b - (t - a)) (e2 a t) (e3 a t) (e3 b (t - a)) (e3 (a + b) t)
-    (e2-sum a t) (e3-sum a t) (e3-sum b (t - a)) (rw (left-of-both a b t) at (e3-sum (a + b) t)) (omega arith) (left-in-turn a b t)
-  where
-    plain : (a b t q r z w x y s : ℕ) → w + a ^ 2 ≡ 2 * a * t + r ^ 2 → x + a ^ 3 ≡ 3 * a ^ 2 * t + r ^ 3 → y + b ^ 3 ≡ 3 * b ^ 2 * q + z ^ 3 →
-        s + (a + b) ^ 3 ≡ 3 * (a + b) ^ 2 * t + (z + r) ^ 3 → a + q ≡ t + r → r * b ≡ r * z → 3 * b * w + x + y ≡ s
-    plain = poly10
-        (λ a b t q r z w x y s.
-        (C 3 :* b ⊲ w :+ a :^ 2 := C 2 :* a :* t :+ r :^ 2) ∷
-        (C 1 ⊲ x :+ a :^ 3 := C 3 :* a :^ 2 :* t :+ r :^ 3) ∷
-        (C 1 ⊲ y :+ b :^ 3 := C 3 :* b :^ 2 :* q :+ z :^ 3) ∷
-        eq (C 0) (C 1) (s :+ (a :+ b) :^ 3) (C 3 :* (a :+ b) :^ 2 :* t :+ (z :+ r) :^ 3) ∷
-        (C 3 :* b :^ 2 ⊲ a :+ q := t :+ r) ∷ (C 3 :* (b :+ z :+ r) ⊲ r :* b := r :* z) ∷ [] ⊢ C 3 :* b :* w :+ x :+ y := s) tt
 
 -- ---- the density, and parts of the damage lengths
 
@@ -69,7 +28,7 @@ density-at-knuckle {l} f =
     rw (at-zero f) (plain (l .κ) (fall l))
   where
     plain : (κ σ : ℕ) → κ * (κ + σ) - σ * κ ≡ κ ^ 2
-    plain κ σ = rw (← poly1 (λ κ. [] ⊢ κ :* κ := κ :^ 2) tt κ) (omega arith)
+    plain κ σ = rw pow-two (omega arith)
 
 module _ {l : Law} (f : Falling l) (U T S : ℕ) (h : U ≤ T) (k : T ≤ S) (m : S ≤ l .κ) where
   pub between-adds : (X : ℕ) → between l U T X + between l T S X ≡ between l U S X

@@ -56,15 +56,6 @@ abbrev pub joined : Layer → Layer → Layer
 joined y₁ y₂ = record { U′ = y₁ .U′; U = y₂ .U; c′ = y₁ .c′; c = y₂ .c; d = y₂ .d }
 
 module _ {l : Law} {y₁ y₂ : Layer} (f : Falling l) (r₁ : Rising l y₁) (r₂ : Rising l y₂) (m : Meeting y₁ y₂) where
-  pub joined-rises : Rising l (joined y₁ y₂)
-  joined-rises = record {
-    cut = omega (arith, r₁ .cut, r₂ .cut, m .cut);
-    shallow = r₂ .shallow;
-    chance = omega (arith, r₁ .chance, r₂ .chance, m .chance);
-    proper = r₂ .proper;
-    positive = r₂ .positive;
-  }
-
   -- whatever adds up over parts of the damage lengths, with what lies beyond them, adds up over layers
   weighed : (g : ℕ → ℕ → ℕ) (e : ℕ) → ((U T S : ℕ) → U ≤ T → T ≤ S → S ≤ l .κ → g U T + g T S ≡ g U S) →
       (y₁ .c - y₁ .c′) * (l .W * g (y₁ .U) (l .κ) + e) + (y₁ .d - y₁ .c′) * (l .W * g (y₁ .U′) (y₁ .U)) +

@@ -1,15 +1,16 @@
 -- Spans of a ship under the general damage length law: no share is negative, a span has at most what one around it has, the whole ship at most one. Assumes nothing.
 use Prim.Native.Nat.{ℕ, _+_, _-_, _*_, _≤_, _<_, zero-le}
-use mathlib.Core.Bool.{Bool, true, false, cond}
+use mathlib.Core.Bool.{cond}
 use mathlib.Core.Path.{_≡_, refl, ap, _∙_}
 use native.Mathlib.Nat.{le-refl, le-trans, mul-le-mul-left, mul-le-mul-right, mul-assoc, zero-add, add-zero, sub-zero, mul-zero, sub-eq-zero-of-le}
 use native.Mathlib.Omega.{arith}
 use lib.Dec.{eqb}
 use borrow.Author.Tests.{eqb-true, eqb-false, eq-eqb, ne-eqb}
 use Rattle.laws.specs.Span.{SpanFunction}
+use Rattle.laws.proofs.Choice.{either-way}
 use Rattle.laws.proofs.Span.{rises, at-most-line, unit-spans, share-not-negative}
-use Rattle.solas.specs.Span.{neither, one, both, touch}
-use Rattle.solas.specs.General.{Law, Falling, Layer, Rising, inLayer, slope, twice, inSpan, common}
+use Rattle.solas.specs.Span.{touch}
+use Rattle.solas.specs.General.{Law, Falling, Layer, Rising, inLayer, slope, inSpan, common}
 use Rattle.solas.proofs.GeneralLayer.{layer-spans, slope-at-most-one, slope-one}
 
 -- ---- what a span has, by the ends that it touches
@@ -20,11 +21,7 @@ reaches place end = cond (eqb place end) 1 0
 
 pub reaches-at-most-one : (place end : ℕ) → reaches place end ≤ 1
 unfolding reaches
-reaches-at-most-one place end = either (eqb place end)
-  where
-    either : (b : Bool) → cond b 1 0 ≤ 1
-    either true = omega arith
-    either false = omega arith
+reaches-at-most-one place end = either-way (eqb place end) (λ e. rw e (omega arith)) (λ e. rw e (omega arith))
 
 pub reaches-itself : (end : ℕ) → reaches end end ≡ 1
 unfolding reaches
@@ -37,26 +34,16 @@ reaches-not {place} {end} h = rw (ne-eqb place end h)
 -- q is that end wherever p is
 pub reaches-rises : {p q e : ℕ} → (p ≡ e → q ≡ e) → reaches p e ≤ reaches q e
 reaches-rises {p} {q} {e} h =
-    by-test (eqb p e) refl
-  where
-    by-test : (b : Bool) → eqb p e ≡ b → reaches p e ≤ reaches q e
-    by-test true t = rw (h (eqb-true p e t), reaches-itself e) (reaches-at-most-one p e)
-    by-test false t = rw (reaches-not (eqb-false p e t)) zero-le
+    either-way (eqb p e) (λ t. rw (h (eqb-true p e t), reaches-itself e) (reaches-at-most-one p e)) (λ t. rw (reaches-not (eqb-false p e t)) zero-le)
 
 -- for two ends less those that a span touches it has what an inner one has, and for each that it touches its share of the ship
 pub by-ends : (l : Law) (y : Layer) (L aft fwd : ℕ) →
     inSpan l y L aft fwd ≡
     (2 - reaches aft 0 - reaches fwd L) * inLayer l y (l .λx * (fwd - aft)) + (reaches aft 0 + reaches fwd L) * (l .λx * slope l y) * (fwd - aft)
 unfolding inSpan touch reaches
-by-ends l y L aft fwd = by-tests (eqb aft 0) (eqb fwd L) (fwd - aft)
-  where
-    by-tests : (a f : Bool) (x : ℕ) →
-        twice (cond a (cond f both one) (cond f one neither)) l y x ≡
-        (2 - cond a 1 0 - cond f 1 0) * inLayer l y (l .λx * x) + (cond a 1 0 + cond f 1 0) * (l .λx * slope l y) * x
-    by-tests true true x = omega arith
-    by-tests true false x = omega arith
-    by-tests false true x = omega arith
-    by-tests false false x = omega arith
+by-ends l y L aft fwd =
+    either-way (eqb aft 0) (λ a. either-way (eqb fwd L) (λ f. rw (a, f) (omega arith)) (λ f. rw (a, f) (omega arith)))
+    (λ a. either-way (eqb fwd L) (λ f. rw (a, f) (omega arith)) (λ f. rw (a, f) (omega arith)))
 
 pub scaled-spans : (l : Law) (y : Layer) → SpanFunction (l .λx * slope l y) (λ x. inLayer l y (l .λx * x))
 scaled-spans l y = unit-spans (l .λx) (layer-spans l y)

@@ -2,13 +2,12 @@
 -- Assumes nothing.
 use Prim.Native.Nat.{ℕ, _+_, _-_, _*_, _/_, _%_, _≤_, _<_, min}
 use mathlib.Core.Path.{_≡_, refl, _∙_}
-use mathlib.Core.Bool.{Bool, true, false, cond}
 use mathlib.Core.List.{List, [], _∷_}
 use native.Mathlib.Nat.{div-eq-of-eq-mul-right}
 use native.Mathlib.Omega.{arith}
-use lib.Dec.{leb, lit<}
-use borrow.Author.Tests.{leb-true, leb-false}
+use lib.Dec.{lit<}
 use Rattle.laws.specs.Sums.{sum, last, Linked}
+use Rattle.laws.proofs.Choice.{chosen}
 use Rattle.solas.specs.Height.{v, vAt, rowV, top}
 use Rattle.solas.specs.Index.{dp}
 use Rattle.solas.specs.Layers.{rowsV, layerV, LayersShareAll, LayersShareAllThrice}
@@ -29,13 +28,9 @@ dp-below-deepest p = omega arith
 -- ---- v, with no case in it
 pub v-slopes : (h : ℕ) → v h ≡ 94 * min h 7800 + 39 * (min h 12500 - 7800)
 unfolding v
-v-slopes h = slopes (leb h 7800) refl (leb h 12500) refl
-  where
-    slopes : (a : Bool) → leb h 7800 ≡ a → (b : Bool) → leb h 12500 ≡ b →
-        cond a (94 * h) (cond b (733200 + 39 * (h - 7800)) 916500) ≡ 94 * min h 7800 + 39 * (min h 12500 - 7800)
-    slopes true p b q = omega (arith, leb-true h 7800 p)
-    slopes false p true q = omega (arith, leb-false h 7800 p, leb-true h 12500 q)
-    slopes false p false q = omega (arith, leb-false h 12500 q)
+v-slopes h =
+    chosen (λ n. n ≡ 94 * min h 7800 + 39 * (min h 12500 - 7800)) h 7800 (λ l. omega arith)
+    (λ l. chosen (λ n. n ≡ 94 * min h 7800 + 39 * (min h 12500 - 7800)) h 12500 (λ u. omega arith) (λ u. omega arith))
 
 pub v-nothing : v 0 ≡ 0
 unfolding v
@@ -71,6 +66,10 @@ vAt-waterline {H} {d} p = omega (arith, v-slopes (H - d))
 pub vAt-full : {H : ℕ} (d : ℕ) → d + 12500 ≤ H → vAt H d ≡ 916500
 unfolding vAt
 vAt-full {H} d p = v-full {h = H - d} (omega arith)
+
+pub vAt-short : {H : ℕ} (d : ℕ) → H < d + 12500 → vAt H d < 916500
+unfolding vAt
+vAt-short {H} d p = omega (arith, v-slopes (H - d))
 
 -- a layer's top is full at every draught
 pub vAt-top : {ds H d : ℕ} → top ds ≤ H → d ≤ ds → vAt H d ≡ 916500

@@ -1,13 +1,14 @@
 -- Every hole in the side of a sound ship is counted once. Assumes nothing.
-use Prim.Native.Nat.{ℕ, zero, suc, _+_, _-_, _*_, _≤_, _<_, zero-le}
-use mathlib.Core.Path.{_≡_, refl, ap, sym, _∙_}
+use Prim.Native.Nat.{ℕ, zero, suc, _+_, _*_, _≤_, _<_, zero-le}
+use mathlib.Core.Path.{_≡_, refl, ap, _∙_}
 use mathlib.Core.Bool.{Bool, true, false}
-use native.Mathlib.Nat.{le-dest, mul-le-mul, lt-irrefl, lt-of-lt-of-le, le-trans, le-of-eq, le-refl}
+use native.Mathlib.Nat.{le-dest, mul-le-mul, lt-irrefl, le-refl}
 use native.Mathlib.Omega.{arith}
-use lib.Dec.{T, leb, le→leb}
-use borrow.Author.Tests.{leb-true}
+use lib.Dec.{leb}
+use borrow.Author.Tests.{le-leb, lt-leb}
+use Rattle.laws.proofs.Choice.{split}
 use Rattle.solas.specs.Ship.{Ship, Sound}
-use Rattle.solas.specs.Count.{added, taken, groups, mark, hole, Group, CountsOnce, OneHole}
+use Rattle.solas.specs.Count.{added, taken, groups, mark, hole, Group, OneHole}
 use Rattle.solas.proofs.Count.{counted-once}
 use Rattle.solas.proofs.Ship.{aft-next, fwd-next}
 
@@ -16,26 +17,14 @@ one-or-none true = omega arith
 one-or-none false = omega arith
 
 marked : (m n : ℕ) → m ≤ n → mark (leb m n) ≡ 1
-marked m n h = by (leb m n) (le→leb m n h)
-  where
-    by : (b : Bool) → T b → mark b ≡ 1
-    by true t = refl
-    by false t = absurd t
+marked m n h = rw (le-leb m n h)
 
 unmarked : (m n : ℕ) → n < m → mark (leb m n) ≡ 0
-unmarked m n h = by (leb m n) refl
-  where
-    by : (b : Bool) → leb m n ≡ b → mark b ≡ 0
-    by true e = absurd (lt-irrefl n (lt-of-lt-of-le h (leb-true m n e)))
-    by false e = refl
+unmarked m n h = rw (lt-leb m n h)
 
 -- what is within a narrower bound is within the wider
 mark-rises : (m n m′ n′ : ℕ) → m′ ≤ m → n ≤ n′ → mark (leb m n) ≤ mark (leb m′ n′)
-mark-rises m n m′ n′ p q = by (leb m n) refl
-  where
-    by : (b : Bool) → leb m n ≡ b → mark b ≤ mark (leb m′ n′)
-    by true e = le-of-eq (sym (marked m′ n′ (le-trans p (le-trans (leb-true m n e) q))))
-    by false e = zero-le
+mark-rises m n m′ n′ p q = split m n (λ h. omega (arith, marked m n h, marked m′ n′ (omega arith))) (λ h. omega (arith, unmarked m n h))
 
 -- of two marks that fall and two that rise
 corner : (x y z t : ℕ) → y ≤ x → x ≤ 1 → t ≤ z → z ≤ 1 → (x * t + y * z ≤ x * z + y * t) × (x * z + y * t ≤ x * t + y * z + 1)
@@ -56,11 +45,8 @@ module _ (s : Ship) (h : Sound s) (u w : ℕ) (wide : u < w) where
 
   -- no hole begins in zone a + 1 and ends in zone a
   not-back : (a : ℕ) → 1 ≤ a → a < s .m → mark (leb (s .aft (a + 1)) u) * mark (leb w (s .fwd a)) ≡ 0
-  not-back a p q = by (leb (s .aft (a + 1)) u) refl
-    where
-      by : (b : Bool) → leb (s .aft (a + 1)) u ≡ b → mark b * mark (leb w (s .fwd a)) ≡ 0
-      by true e = omega (arith, unmarked w (s .fwd a) (omega (arith, leb-true (s .aft (a + 1)) u e, h .next a p q)))
-      by false e = omega arith
+  not-back a p q =
+      split (s .aft (a + 1)) u (λ l. rw (unmarked w (s .fwd a) (omega (arith, h .next a p q))) (omega arith)) (λ l. rw (unmarked (s .aft (a + 1)) u l) (omega arith))
 
   bounds : (a n : ℕ) → Group s a n → (taken (hole s u w) a n ≤ added (hole s u w) a n) × (added (hole s u w) a n ≤ taken (hole s u w) a n + 1)
   unfolding added taken hole

@@ -8,14 +8,14 @@ use native.Mathlib.Omega.{arith}
 use borrow.Author.Tests.{leb-true}
 use lib.Dec.{leb}
 use Rattle.laws.specs.Fraction.{Fraction, _less_over_, _over_, Is, _⊛_}
-use Rattle.laws.proofs.Fraction.{is-less-over, is-over, is-⊝, is-⊛, is-widened}
+use Rattle.laws.proofs.Fraction.{is-less-over, is-over, is-widened, is-shifted, is-written, is-recast, is-crossed, is-⊝, is-⊛}
+use Rattle.laws.proofs.FractionOrder.{is-chosen}
 use Rattle.laws.proofs.Polynomial.{Expr, C, _:+_, _:*_, _:^_, _:=_, _⊲_, eq, _⊢_, poly3, poly4, poly6, poly7}
 use Rattle.solas.specs.Span.{neither, p}
 use Rattle.solas.specs.Penetration.{G1, G3, GAt}
 use Rattle.solas.specs.General.{Law, Falling, fall, between, mass, law}
 use Rattle.solas.proofs.General.{between-adds}
 use Rattle.solas.proofs.GeneralLayer.{between-nothing, beyond-nothing}
-use Rattle.solas.proofs.Recast.{is-recast, is-crossed, is-rewritten, is-branch}
 use Rattle.solas.proofs.Cut.{peak, mass-sum, between-above}
 use Rattle.solas.proofs.Bands.{full, inner, knuckle, scale, even-fall, even-peak, p-is}
 use Rattle.solas.proofs.Depth.{law-falls, shallow}
@@ -68,16 +68,14 @@ module _ (L B b : ℕ) (positive : 0 < B) where
 -- the same mass on the scale of a length z
 pub is-throughout : {g : Fraction} {m : ℕ} (W κ z : ℕ) → Is g m 0 (36 * W * κ ^ 2) → Is g (W * (m * z)) 0 (36 * W ^ 2 * κ ^ 2 * z)
 is-throughout {g} {m} W κ z k =
-    is-rewritten (W * (m * z)) 0 (36 * W ^ 2 * κ ^ 2 * z) (omega arith)
+    is-written (is-widened (W * z) k) (omega arith) (omega arith)
     (poly3 (λ W κ z. [] ⊢ W :* z :* (C 36 :* W :* κ :^ 2) := C 36 :* W :^ 2 :* κ :^ 2 :* z) tt W κ z)
-    (is-widened (W * z) k)
 
 -- what has a mass in the ship has x/L of it in x
 pub is-along : {g : Fraction} {m L : ℕ} (W κ n x : ℕ) → 0 < L → Is g m 0 (36 * W * κ ^ 2) → Is ((x over L) ⊛ g) (W * (m * (n * x))) 0 (36 * W ^ 2 * κ ^ 2 * (n * L))
 is-along {g} {m} {L} W κ n x h k =
-    is-rewritten (W * (m * (n * x))) 0 (36 * W ^ 2 * κ ^ 2 * (n * L)) (omega arith)
+    is-written (is-widened (W * n) (is-⊛ (is-over x h) k)) (omega arith) (omega arith)
     (poly4 (λ W κ n L. [] ⊢ W :* n :* (L :* (C 36 :* W :* κ :^ 2)) := C 36 :* W :^ 2 :* κ :^ 2 :* (n :* L)) tt W κ n L)
-    (is-widened (W * n) (is-⊛ (is-over x h) k))
 
 -- a span no longer than the cut has all from damage lengths below it
 inner-shallow : {l : Law} → Falling l → (U X : ℕ) → U ≤ l .κ → X ≤ U → inner l X ≡ l .W * between l 0 U X
@@ -108,5 +106,5 @@ module _ {L B : ℕ} (hL : 0 < L) (hB : 0 < B) (x b : ℕ) (h : 2 * b ≤ B) whe
 
   pub inner-G-is : Is (GAt neither L B x b) (law L B .W * between (law L B) 0 (33 * b * L) (law L B .λx * x)) 0 (full (law L B) L)
   inner-G-is =
-      is-branch (15 * B * x) (b * L) (λ k. p-shallow (up-to-cut L B x b k))
-      (λ k. is-rewritten _ 0 _ (omega (arith, lacks (law L B) (33 * b * L) (law L B .λx * x) (shallow L B b h) (past-cut L B x b k))) refl (is-⊝ along-is (G3-is L B b hB)))
+      is-chosen (15 * B * x) (b * L) (λ k. p-shallow (up-to-cut L B x b k))
+      (λ k. is-shifted _ 0 (omega (arith, lacks (law L B) (33 * b * L) (law L B .λx * x) (shallow L B b h) (past-cut L B x b k))) (is-⊝ along-is (G3-is L B b hB)))

@@ -1,30 +1,24 @@
 -- Regulation 7-1's C and G of a penetration, 2.6.3, are document 01's. Assumes nothing.
 use Prim.Native.Nat.{ℕ, _-_, _*_, _≤_, _<_}
-use mathlib.Core.Path.{_≡_}
 use mathlib.Core.List.{[], _∷_}
-use mathlib.Core.Bool.{cond}
 use native.Mathlib.Nat.{mul-pos, one-le-pow, mul-le-mul-left, mul-le-mul-right}
 use native.Mathlib.Omega.{arith, by-contra}
-use lib.Dec.{T, leb, leb→le, eqb, lit<}
+use lib.Dec.{eqb, lit<}
 use Rattle.laws.specs.Polynomial.{Expr, X, C, _:*_, _:^_}
-use Rattle.laws.specs.Fraction.{Fraction, _over_, whole, Is, _≈_, _⊹_, _⊝_, _⊛_, _⊘_}
-use Rattle.laws.proofs.Fraction.{positive, is-self, is-over, is-⊛, is-⊘, ≈-trans, ⊹-≈}
+use Rattle.laws.specs.Fraction.{Fraction, _over_, Is, _≈_, _⊹_, _⊝_, _⊛_}
+use Rattle.laws.proofs.Choice.{chosen}
+use Rattle.laws.proofs.Fraction.{below-across, strictly-below-across, ≈-trans, ⊹-≈, ⊛-≈}
+use Rattle.laws.proofs.FractionTerm.{Term, number, ratio, variable, polynomial, parts, first, second, _⊹ᵗ_, _⊝ᵗ_, _⊛ᵗ_, also, agree, quotient}
+use Rattle.laws.proofs.FractionRing.{⊛-comm}
+use Rattle.laws.proofs.FractionOrder.{lesser-first, lesser-second}
 use Rattle.solas.specs.Span
 use Rattle.solas.specs.Span.{touch, half}
 use Rattle.solas.specs.Penetration
 use Rattle.solas.specs.Penetration.{GAt, G3}
 use Rattle.solas.specs.Regulation
-use Rattle.solas.specs.Regulation.{b11, b12, J, Jb, J0, G2}
+use Rattle.solas.specs.Regulation.{½, b11, b12, J, Jb, J0, G2}
 use Rattle.solas.specs.OfSolas.{UpTo198m, PenetrationsAre01's}
-use Rattle.solas.proofs.RegulationTerm.{is-also, Term, number, ratio, parts, unknown, polynomial, _⊹ᵗ_, _⊝ᵗ_, _⊛ᵗ_, agree}
-use Rattle.solas.proofs.RegulationTest.{chosen, lesser-crossed}
-use Rattle.solas.proofs.RegulationSpans.{:x, :L, J-is, Jᵗ, b11ᵗ, b12ᵗ, p1ᵗ, p1-is-p, half-is-half, by-touch}
-
-by-15 : (b B : ℕ) → 0 < B → Is (whole b ⊘ (whole 15 ⊛ whole B)) b 0 (15 * B)
-by-15 b B p =
-    let q : 0 < 15 * B = omega arith in
-    let h : Is (whole 15 ⊛ whole B) (15 * B) 0 1 = is-also (15 * B) 0 1 (lit< tt) (omega arith) (is-⊛ (is-over 15 {d = 1} (lit< tt)) (is-over B {d = 1} (lit< tt))) in
-    is-also b 0 (15 * B) (omega arith) (omega arith) (is-⊘ q (is-over b {d = 1} (lit< tt)) h)
+use Rattle.solas.proofs.RegulationSpans.{:x, :L, J-is, J-≈, Jᵗ, b11ᵗ, b12ᵗ, p1ᵗ, p1-is-p, half-is-half, by-touch}
 
 -- a span that is short against a penetration is in 01's first band
 short-span : (x L b B : ℕ) → 0 < B → 2 * b ≤ B → 15 * B * x ≤ b * L → 33 * x ≤ 5 * L
@@ -32,13 +26,7 @@ short-span x L b B p h k = by-contra (33 * x) (5 * L) (λ (z : 5 * L < 33 * x). 
 
 -- the half of f - g and f together is f less the half of g
 half-way : (f g : Fraction) → half (f ⊝ g ⊹ f) ≈ f ⊝ half g
-half-way f g = agree ((fᵗ ⊝ᵗ gᵗ ⊹ᵗ fᵗ) ⊛ᵗ number 1 2 tt) (fᵗ ⊝ᵗ gᵗ ⊛ᵗ number 1 2 tt) tt
-  where
-    fᵗ : Term (parts (f ∷ g ∷ [])) f
-    fᵗ = unknown 0 (positive f) (is-self f)
-
-    gᵗ : Term (parts (f ∷ g ∷ [])) g
-    gᵗ = unknown 3 (positive g) (is-self g)
+half-way f g = agree {ρ = parts (f ∷ g ∷ [])} ((first ⊝ᵗ second ⊹ᵗ first) ⊛ᵗ number 1 2 tt) (first ⊝ᵗ second ⊛ᵗ number 1 2 tt) tt
 
 -- ---- a span and a penetration; b and B come behind the variables of a span
 
@@ -51,7 +39,7 @@ abbrev :B : Expr
 module _ {Ls : ℕ} {√ : Fraction} (u : UpTo198m Ls √) {x1 x2 : ℕ} (h : x1 ≤ x2) (B b : ℕ) (some : 0 < B) where
   Jb-is : Is (Jb Ls √ x1 x2 B b) b 0 (15 * B)
   unfolding Jb
-  Jb-is = by-15 b B some
+  Jb-is = also {ρ = b ∷ B ∷ []} (quotient (variable 0) (number 15 1 tt ⊛ᵗ variable 1) (C 15 :* X 1) (C 1) (mul-pos (lit< tt) some) tt) (X 0) (C 0) (C 15 :* X 1) tt
 
   abbrev Jbᵗ : Term ((x2 - x1) ∷ Ls ∷ b ∷ B ∷ []) (Jb Ls √ x1 x2 B b)
   Jbᵗ = ratio :b (C 15 :* :B) (mul-pos (lit< tt) some) Jb-is
@@ -93,8 +81,7 @@ module _ {Ls : ℕ} {√ : Fraction} (u : UpTo198m Ls √) {x1 x2 : ℕ} (h : x1
   G1-≈ = agree G1ᵗ G1ᵗ′ tt
 
   G1J-≈ : Regulation.G1 Ls √ x1 x2 B b ⊛ J Ls √ x1 x2 ≈ ((x2 - x1) over Ls) ⊛ Penetration.G1 B b
-  unfolding G1ᵗ G1ᵗ′ xᵗ
-  G1J-≈ = agree (G1ᵗ ⊛ᵗ j) (xᵗ ⊛ᵗ G1ᵗ′) tt
+  G1J-≈ = ≈-trans (⊛-≈ G1-≈ (J-≈ u h)) (⊛-comm (Penetration.G1 B b) ((x2 - x1) over Ls))
 
   -- G2, by what J0 is
   G2ᵗ : Term ((x2 - x1) ∷ Ls ∷ b ∷ B ∷ []) (J0 Ls √ x1 x2 B b) → Term ((x2 - x1) ∷ Ls ∷ b ∷ B ∷ []) (G2 Ls √ x1 x2 B b)
@@ -102,36 +89,27 @@ module _ {Ls : ℕ} {√ : Fraction} (u : UpTo198m Ls √) {x1 x2 : ℕ} (h : x1
   G2ᵗ n =
       (number 0 1 tt ⊝ᵗ number 1 3 tt) ⊛ᵗ d11 ⊛ᵗ (n ⊛ᵗ n ⊛ᵗ n) ⊹ᵗ number 1 2 tt ⊛ᵗ (d11 ⊛ᵗ j ⊝ᵗ d12) ⊛ᵗ (n ⊛ᵗ n) ⊹ᵗ d12 ⊛ᵗ j ⊛ᵗ n
 
-  -- the two cases as terms
-  as-J : J0 Ls √ x1 x2 B b ≡ J Ls √ x1 x2 → Term ((x2 - x1) ∷ Ls ∷ b ∷ B ∷ []) (G2 Ls √ x1 x2 B b)
-  unfolding G2ᵗ
-  as-J e = G2ᵗ (ratio :x :L (u .some) (rw (← e) at (J-is u h)))
-
-  as-Jb : J0 Ls √ x1 x2 B b ≡ Jb Ls √ x1 x2 B b → Term ((x2 - x1) ∷ Ls ∷ b ∷ B ∷ []) (G2 Ls √ x1 x2 B b)
-  unfolding G2ᵗ
-  as-Jb e = G2ᵗ (ratio :b (C 15 :* :B) (mul-pos (lit< tt) some) (rw (← e) at Jb-is))
-
-  J0-is : J0 Ls √ x1 x2 B b ≡ cond (leb (15 * B * (x2 - x1)) (b * Ls)) (J Ls √ x1 x2) (Jb Ls √ x1 x2 B b)
-  unfolding J0
-  J0-is = lesser-crossed (u .some) (mul-pos (lit< tt) some) (J-is u h) Jb-is
-
   -- J ≤ Jb: the penetration cuts no damage length short
-  uncut : 2 * b ≤ B → T (leb (15 * B * (x2 - x1)) (b * Ls)) → J0 Ls √ x1 x2 B b ≡ J Ls √ x1 x2 → G2 Ls √ x1 x2 B b ≈ Span.p Ls (x2 - x1)
-  unfolding as-J G2ᵗ p1ᵗ
-  uncut k t e = ≈-trans (agree (as-J e) (p1ᵗ u h (b ∷ B ∷ [])) tt) (p1-is-p u h (short-span (x2 - x1) Ls b B some k (leb→le _ _ t)))
+  uncut : 2 * b ≤ B → 15 * B * (x2 - x1) ≤ b * Ls → G2 Ls √ x1 x2 B b ≈ Span.p Ls (x2 - x1)
+  unfolding J0 G2ᵗ p1ᵗ
+  uncut k l =
+      let n : Is (J0 Ls √ x1 x2 B b) (x2 - x1) 0 Ls = rw (lesser-first (below-across (J-is u h) Jb-is (u .some) (mul-pos (lit< tt) some) (omega arith))) (J-is u h) in
+      ≈-trans (agree (G2ᵗ (ratio :x :L (u .some) n)) (p1ᵗ u h (b ∷ B ∷ [])) tt) (p1-is-p u h (short-span (x2 - x1) Ls b B some k l))
 
   -- J > Jb: it does
-  cut : J0 Ls √ x1 x2 B b ≡ Jb Ls √ x1 x2 B b → G2 Ls √ x1 x2 B b ≈ ((x2 - x1) over Ls) ⊛ Penetration.G1 B b ⊝ G3 B b
-  unfolding as-Jb G2ᵗ xᵗ G1ᵗ′ G3ᵗ
-  cut e = agree (as-Jb e) (xᵗ ⊛ᵗ G1ᵗ′ ⊝ᵗ G3ᵗ) tt
+  cut : b * Ls < 15 * B * (x2 - x1) → G2 Ls √ x1 x2 B b ≈ ((x2 - x1) over Ls) ⊛ Penetration.G1 B b ⊝ G3 B b
+  unfolding J0 G2ᵗ xᵗ G1ᵗ′ G3ᵗ
+  cut l =
+      let n : Is (J0 Ls √ x1 x2 B b) b 0 (15 * B) = rw (lesser-second (strictly-below-across Jb-is (J-is u h) (omega arith))) Jb-is in
+      agree (G2ᵗ (ratio :b (C 15 :* :B) (mul-pos (lit< tt) some) n)) (xᵗ ⊛ᵗ G1ᵗ′ ⊝ᵗ G3ᵗ) tt
 
   pub G-≈ : 2 * b ≤ B → Regulation.G Ls √ x1 x2 B b ≈ Penetration.G Ls B x1 x2 b
   unfolding Regulation.G Penetration.G touch
   G-≈ k =
       by-touch (eqb x1 0) (eqb x2 Ls) (λ t. GAt t Ls B (x2 - x1) b)
-      (chosen (leb (15 * B * (x2 - x1)) (b * Ls)) J0-is (uncut k) cut)
-      (chosen (leb (15 * B * (x2 - x1)) (b * Ls)) J0-is (λ t e. half-is-half (⊹-≈ (uncut k t e) G1J-≈))
-      (λ e. ≈-trans (half-is-half (⊹-≈ (cut e) G1J-≈)) (half-way (((x2 - x1) over Ls) ⊛ Penetration.G1 B b) (G3 B b)))) G1-≈
+      (chosen (λ g. G2 Ls √ x1 x2 B b ≈ g) (15 * B * (x2 - x1)) (b * Ls) (uncut k) cut)
+      (chosen (λ g. ½ ⊛ (G2 Ls √ x1 x2 B b ⊹ Regulation.G1 Ls √ x1 x2 B b ⊛ J Ls √ x1 x2) ≈ g) (15 * B * (x2 - x1)) (b * Ls) (λ l. half-is-half (⊹-≈ (uncut k l) G1J-≈))
+      (λ l. ≈-trans (half-is-half (⊹-≈ (cut l) G1J-≈)) (half-way (((x2 - x1) over Ls) ⊛ Penetration.G1 B b) (G3 B b)))) G1-≈
 
 pub penetrations-are-01's : PenetrationsAre01's
 penetrations-are-01's Ls √ u x1 x2 B b h p k = record { the-C = C-≈ u h B b p; the-G1 = G1-≈ u h B b p; the-G = G-≈ u h B b p k }

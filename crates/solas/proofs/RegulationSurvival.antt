@@ -1,14 +1,22 @@
 -- Survival is that of the regulation: document 01's s⁴ is the fourth power of whatever 002, 2.7.3, gives for s. Assumes nothing.
 use Prim.Native.Nat.{ℕ, _-_, _*_, _^_, _≤_, _<_, min}
 use mathlib.Core.Path.{refl}
+use mathlib.Core.List.{[], _∷_}
+use native.Mathlib.Nat.{mul-pos}
 use native.Mathlib.Omega.{arith}
 use lib.Dec.{lit<}
-use Rattle.laws.specs.Fraction.{Fraction, _less_over_, _over_, whole, Is, _≈_, _⊝_, _⊛_, _⊘_}
-use Rattle.laws.proofs.Fraction.{is-over, is-whole, is-widened, is-narrowed, is-shifted, is-⊝, is-⊛, is-⊘, same, below, strictly-below, ≈-refl, ≈-sym, ≈-trans, ⊛-≈}
+use Rattle.laws.specs.Fraction.{Fraction, _less_over_, _over_, whole, Is, _≈_, _≼?_, lesser, _⊝_, _⊛_, _⊘_}
+use Rattle.laws.specs.Polynomial.{X, C}
+use Rattle.laws.proofs.Choice.{split}
+use Rattle.laws.proofs.Polynomial.{pow-two}
+use Rattle.laws.proofs.Fraction.{is-over, is-whole, is-widened, is-shifted, is-recast, is-⊛, is-⊘, same, below, strictly-below, ≈-refl, ≈-sym, ≈-trans, ⊛-≈}
+use Rattle.laws.proofs.FractionTerm.{number, ratio, _⊝ᵗ_, also, quotient-by}
+use Rattle.laws.proofs.FractionRing.{⊛-comm, ⊛-assoc}
+use Rattle.laws.proofs.FractionOrder.{is-lesser}
 use Rattle.solas.specs.Survival.{s⁴}
-use Rattle.solas.specs.RegulationIndex.{_≼?_, millimetres, hundredths, θmin, θmax, lesser, underRoot, Numbers, square, fourth, Final}
+use Rattle.solas.specs.RegulationIndex.{millimetres, hundredths, θmin, θmax, underRoot, Numbers, square, fourth, Final}
 use Rattle.solas.specs.OfSolasIndex.{SurvivalIs01's}
-use Rattle.solas.proofs.Quotients.{split, is-written, pow-two, is-millimetres, is-hundredths, test-passes, test-fails, ⊛-comm, ⊛-assoc}
+use Rattle.solas.proofs.Quotients.{is-millimetres, is-hundredths}
 use Rattle.solas.proofs.Survival.{is-s⁴}
 
 -- ---- powers of products
@@ -32,42 +40,36 @@ module _ (N : Numbers) where
   square-fraction {f = f} p = same-trans (square-same p) (same-sym (fraction-product f f))
 
 -- ---- what is under the roots
-is-lesser : {f g : Fraction} {a c d : ℕ} → 0 < d → Is f a 0 d → Is g c 0 d → Is (lesser f g) (min a c) 0 d
-unfolding lesser
-is-lesser {f} {g} {a} {c} {d} p h k =
-    split a c (λ l. rw (test-passes (below p h k (omega arith))) (is-written h (omega arith) refl refl))
-    (λ l. rw (test-fails (strictly-below k h (omega arith))) (is-written k (omega arith) refl refl))
 
 -- what f has of g, where it is not to be taken as more
 is-part : {f g : Fraction} {a c d : ℕ} → 0 < d → 0 < c → Is f a 0 d → Is g c 0 d → Is (lesser f g ⊘ g) (min a c) 0 c
-is-part {f} {g} {a} {c} {d} p q h k = is-narrowed d (min a c) 0 c p (is-written (is-⊘ q (is-lesser p h k) k) (omega arith) (omega arith) refl)
+is-part {f} {g} {a} {c} {d} p q h k = is-recast (min a c) 0 c (mul-pos p q) (omega arith) (is-⊘ q (is-lesser p h k) k)
 
 is-under-root : (g t : ℕ) → Is (underRoot (millimetres g) (hundredths t)) (min g 120 * min t 1600) 0 (120 * 1600)
 is-under-root g t =
-    let lever = is-part {d = 1000} (lit< tt) (lit< tt) (is-millimetres g) (is-widened 10 (is-over 12 {d = 100} (lit< tt))) in
-    let range = is-part {d = 100} (lit< tt) (lit< tt) (is-hundredths t) (is-whole 16 {d = 100} (lit< tt)) in
-    is-written (is-⊛ lever range) (omega arith) (omega arith) refl
-
-is-θmin : Is θmin 2500 0 100
-is-θmin = is-whole 25 {d = 100} (lit< tt)
-
-is-θmax : Is θmax 3000 0 100
-is-θmax = is-whole 30 {d = 100} (lit< tt)
+    let lever = is-part (lit< tt) (lit< tt) (is-millimetres g) (is-widened 10 (is-over 12 {d = 100} (lit< tt))) in
+    let range = is-part (lit< tt) (lit< tt) (is-hundredths t) (is-whole 16 {d = 100} (lit< tt)) in
+    is-shifted _ 0 (omega arith) (is-⊛ lever range)
 
 is-heel : {e : ℕ} → e ≤ 3000 → Is ((θmax ⊝ hundredths e) ⊘ (θmax ⊝ θmin)) (3000 - e) 0 500
 is-heel {e} p =
-    let left = is-shifted (3000 - e) 0 (omega arith) (is-⊝ is-θmax (is-hundredths e)) in
-    let all = is-shifted 500 0 refl (is-⊝ is-θmax is-θmin) in
-    is-narrowed 100 (3000 - e) 0 500 (lit< tt) (is-written (is-⊘ {c = 500} (lit< tt) left all) (omega arith) refl refl)
+    let heel = ratio {ρ = e ∷ []} (X 0) (C 100) (lit< tt) (is-hundredths e) in
+    is-shifted (3000 - e) 0 (omega arith) (also (quotient-by (number 30 1 tt ⊝ᵗ heel) (number 30 1 tt ⊝ᵗ number 25 1 tt) 5 1 tt tt) (C 3000) (X 0) (C 500) tt)
+
+is-θmin : Is θmin 2500 0 100
+is-θmin = is-whole 25 (lit< tt)
+
+is-θmax : Is θmax 3000 0 100
+is-θmax = is-whole 30 (lit< tt)
 
 -- the square of a whole n
 is-squared : (n : ℕ) → Is (whole n ⊛ whole n) (n * n * 500) 0 500
-is-squared n = is-written (is-⊛ (is-whole n {d = 1} (lit< tt)) (is-whole n {d = 500} (lit< tt))) (omega arith) (omega arith) refl
+is-squared n = is-shifted _ 0 (omega arith) (is-⊛ (is-whole n {d = 1} (lit< tt)) (is-whole n {d = 500} (lit< tt)))
 
 -- ---- s⁴, from a number's square q
 power : {q : Fraction} (g t e : ℕ) → Is q (min 500 (3000 - e)) 0 500 → q ⊛ q ⊛ underRoot (millimetres g) (hundredths t) ≈ s⁴ g t e
 power g t e h =
-    same {d = 120 * 1600 * 500 ^ 2} (lit< tt) (is-written (is-⊛ (is-⊛ h h) (is-under-root g t)) (rw pow-two (omega arith)) (omega arith) refl) (is-s⁴ g t e)
+    same {d = 120 * 1600 * 500 ^ 2} (lit< tt) (is-shifted _ 0 (rw pow-two (omega arith)) (is-⊛ (is-⊛ h h) (is-under-root g t))) (is-s⁴ g t e)
 
 module _ (N : Numbers) where
   infix 4 _≐_
@@ -83,16 +85,16 @@ module _ (N : Numbers) where
   K-squared e f = split e 2500 upright (λ l. split 3000 e lost (heeled l))
     where
       upright : e ≤ 2500 → Squared (f .K) (min 500 (3000 - e))
-      upright l = (whole 1 ⊛ whole 1, square-fraction N (f .upright (below {d = 100} (lit< tt) (is-hundredths e) is-θmin (omega arith))), is-written (is-squared 1) (omega arith) refl refl)
+      upright l = (whole 1 ⊛ whole 1, square-fraction N (f .upright (below {d = 100} (lit< tt) (is-hundredths e) is-θmin (omega arith))), is-shifted _ 0 (omega arith) (is-squared 1))
 
       lost : 3000 ≤ e → Squared (f .K) (min 500 (3000 - e))
-      lost l = (whole 0 ⊛ whole 0, square-fraction N (f .lost (below {d = 100} (lit< tt) is-θmax (is-hundredths e) (omega arith))), is-written (is-squared 0) (omega arith) refl refl)
+      lost l = (whole 0 ⊛ whole 0, square-fraction N (f .lost (below {d = 100} (lit< tt) is-θmax (is-hundredths e) (omega arith))), is-shifted _ 0 (omega arith) (is-squared 0))
 
       heeled : 2500 < e → e < 3000 → Squared (f .K) (min 500 (3000 - e))
       heeled l m = (
         (θmax ⊝ hundredths e) ⊘ (θmax ⊝ θmin),
         f .heeled (strictly-below is-θmin (is-hundredths e) (omega arith)) (strictly-below (is-hundredths e) is-θmax (omega arith)),
-        is-written (is-heel (omega arith)) (omega arith) refl refl,
+        is-shifted _ 0 (omega arith) (is-heel (omega arith)),
       )
 
   fourth-power : (g t e : ℕ) {s : Number} → Final N (millimetres g) (hundredths t) (hundredths e) s → fourth N s ≐ fraction (s⁴ g t e)

@@ -6,9 +6,9 @@ use native.Mathlib.Omega.{arith}
 use lib.Dec.{lit<}
 use borrow.Author.Tests.{lt-ltb, le-ltb}
 use Rattle.laws.specs.Fraction.{_less_over_, _over_, whole, Is, _≈_, _≺_}
-use Rattle.laws.proofs.Fraction.{is-over, is-whole}
+use Rattle.laws.proofs.Choice.{split}
+use Rattle.laws.proofs.Fraction.{is-over, is-whole, strictly-below-across}
 use Rattle.solas.specs.Index.{R}
-use Rattle.solas.proofs.Quotients.{split, strictly-below-across}
 
 pub is-R-long : {L : ℕ} → 10000 < L → Is (R L) (L + 2400) 0 (L + 15200)
 unfolding R

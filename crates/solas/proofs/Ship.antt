@@ -1,9 +1,21 @@
 -- The places of a sound ship's zones: they rise, and lie within the ship. Assumes nothing.
 use Prim.Native.Nat.{ℕ, zero, suc, _+_, _≤_, _<_}
-use mathlib.Core.Path.{_≡_, refl, ap, sym, _∙_}
+use mathlib.Core.Path.{_≡_, ap}
 use native.Mathlib.Nat.{le-dest, le-refl, add-zero}
 use native.Mathlib.Omega.{arith}
 use Rattle.solas.specs.Ship.{Ship, Sound}
+
+-- what rises from each zone to the next rises from any zone to a later one
+rises : (g : ℕ → ℕ) {m : ℕ} → ((a : ℕ) → 1 ≤ a → a < m → g a < g (a + 1)) → {a e : ℕ} → 1 ≤ a → a ≤ e → e ≤ m → g a ≤ g e
+rises g {m} next {a} p q r =
+    let (k, f) = le-dest q in
+    rw (← f) (by-steps k (omega arith))
+  where
+    by-steps : (k : ℕ) → a + k ≤ m → g a ≤ g (a + k)
+    by-steps zero h = rw (add-zero a) (le-refl (g a))
+    by-steps (suc k) h =
+        let e : g (a + suc k) ≡ g (a + k + 1) = ap g (omega arith) in
+        omega (arith, by-steps k (omega arith), next (a + k) (omega arith) (omega arith))
 
 module _ {s : Ship} (h : Sound s) where
   -- a zone ends where the next begins, or before
@@ -13,23 +25,11 @@ module _ {s : Ship} (h : Sound s) where
   pub fwd-next : (a : ℕ) → 1 ≤ a → a < s .m → s .fwd a < s .fwd (a + 1)
   fwd-next a p q = omega (arith, h .zone (a + 1) (omega arith) (omega arith), h .next a p q)
 
-  aft-up : (a k : ℕ) → 1 ≤ a → a + k ≤ s .m → s .aft a ≤ s .aft (a + k)
-  aft-up a zero p q = rw (add-zero a) (le-refl (s .aft a))
-  aft-up a (suc k) p q =
-      let e : s .aft (a + suc k) ≡ s .aft (a + k + 1) = ap (λ z. s .aft z) (omega arith) in
-      omega (arith, aft-up a k p (omega arith), aft-next (a + k) (omega arith) (omega arith))
-
-  fwd-up : (a k : ℕ) → 1 ≤ a → a + k ≤ s .m → s .fwd a ≤ s .fwd (a + k)
-  fwd-up a zero p q = rw (add-zero a) (le-refl (s .fwd a))
-  fwd-up a (suc k) p q =
-      let e : s .fwd (a + suc k) ≡ s .fwd (a + k + 1) = ap (λ z. s .fwd z) (omega arith) in
-      omega (arith, fwd-up a k p (omega arith), fwd-next (a + k) (omega arith) (omega arith))
-
   pub aft-rises : {a e : ℕ} → 1 ≤ a → a ≤ e → e ≤ s .m → s .aft a ≤ s .aft e
-  aft-rises {a} p q r = let (k, f) = le-dest q in rw (← f) (aft-up a k p (omega arith))
+  aft-rises = rises (λ a. s .aft a) aft-next
 
   pub fwd-rises : {a e : ℕ} → 1 ≤ a → a ≤ e → e ≤ s .m → s .fwd a ≤ s .fwd e
-  fwd-rises {a} p q r = let (k, f) = le-dest q in rw (← f) (fwd-up a k p (omega arith))
+  fwd-rises = rises (λ a. s .fwd a) fwd-next
 
   -- the zones from a to e are a span within the ship
   pub span : {a e : ℕ} → 1 ≤ a → a ≤ e → e ≤ s .m → s .aft a < s .fwd e

@@ -1,10 +1,10 @@
 -- Sums over all groups of a ship, as fractions over one denominator. Assumes nothing.
-use Prim.Native.Nat.{ℕ, zero, suc, _+_, _-_, _*_, _≤_, _<_}
-use mathlib.Core.Path.{_≡_, refl, ap, sym, _∙_}
+use Prim.Native.Nat.{ℕ, zero, suc, _+_, _-_, _≤_, _<_}
+use mathlib.Core.Path.{_≡_}
 use native.Mathlib.Nat.{le-refl}
 use native.Mathlib.Omega.{arith}
-use Rattle.laws.specs.Fraction.{Fraction, Is, _≈_, _≼_, _≺_, whole, _⊹_, _⊝_}
-use Rattle.laws.proofs.Fraction.{is-⊹, is-⊝, is-shifted, is-nothing, is-one, same, below, strictly-below, numerators-strictly-below, numerators-same}
+use Rattle.laws.specs.Fraction.{Fraction, Is, _≈_, _≺_, whole, _⊹_}
+use Rattle.laws.proofs.Fraction.{is-⊹, is-⊝, is-shifted, is-nothing, is-one, same, strictly-below, numerators-strictly-below}
 use Rattle.laws.proofs.FractionSum.{is-upTo}
 use Rattle.solas.specs.Ship.{Ship, Sound}
 use Rattle.solas.specs.Share.{within, share}

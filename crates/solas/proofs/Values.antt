@@ -1,18 +1,17 @@
 -- Document 01, "Proved values": the definitions give them. Assumes nothing.
-use Prim.Native.Nat.{ℕ}
 use mathlib.Core.Path.{_≡_, refl}
 use mathlib.Core.List.{[], _∷_}
 use Rattle.laws.specs.Fraction.{_less_over_, _over_, whole, _⊹_, _⊝_, _⊛_, _≈_}
 use Rattle.solas.specs.Span.{touch, p, P}
 use Rattle.solas.specs.Penetration.{C, G1, G3, G, Q}
 use Rattle.solas.specs.Ship.{Ship, abutting}
-use Rattle.solas.specs.Share.{within, share, rowShare}
+use Rattle.solas.specs.Share.{within, share}
 use Rattle.solas.specs.Height.{v, top}
 use Rattle.solas.specs.Survival.{k, s⁴}
 use Rattle.solas.specs.Index.{dp, draughts, R}
 
 -- the hull of "One file in full": two zones that meet at 1,500
-printed : Ship
+abbrev pub printed : Ship
 printed = abutting 9900 1600 2 (0 ∷ 1500 ∷ 9900 ∷ [])
 
 p-1500 : p 9900 1500 ≈ 35 over 396
@@ -24,15 +23,15 @@ unfolding p _less_over_
 p-3000 = record { cross = refl }
 
 share-1-1 : share printed 1 1 800 ≈ 95 over 792
-unfolding printed share within Q P G touch C G1 G3 p _⊹_ _⊝_ _⊛_ _less_over_
+unfolding share within Q P G touch C G1 G3 p _⊹_ _⊝_ _⊛_ _less_over_
 share-1-1 = record { cross = refl }
 
 share-1-2 : share printed 1 2 800 ≈ 155 over 2376
-unfolding printed share within Q P G touch C G1 G3 p _⊹_ _⊝_ _⊛_ _less_over_
+unfolding share within Q P G touch C G1 G3 p _⊹_ _⊝_ _⊛_ _less_over_
 share-1-2 = record { cross = refl }
 
 share-2-1 : share printed 2 1 800 ≈ 22 over 27
-unfolding printed share within Q P G touch C G1 G3 p _⊹_ _⊝_ _⊛_ _less_over_
+unfolding share within Q P G touch C G1 G3 p _⊹_ _⊝_ _⊛_ _less_over_
 share-2-1 = record { cross = refl }
 
 -- penetration at B = 1,600
@@ -66,18 +65,14 @@ R-10000 : R 10000 ≈ 31 over 63
 unfolding R _less_over_
 R-10000 = record { cross = refl }
 
--- survival, by its fourth power: 5,000 ten-thousandths; a lever and a range above their caps; half of the heel's limits; at the limit
+-- survival, by its fourth power: of 5,000 ten-thousandths, of 7,071 to 7,072, of 1,000, and at the heel's limit
 s⁴-half : s⁴ 30 400 0 ≈ 1 over 16
 unfolding s⁴ k _⊛_ _less_over_
 s⁴-half = record { cross = refl }
 
-s⁴-capped : s⁴ 240 3200 2500 ≈ whole 1
+s⁴-quarter : s⁴ 60 800 0 ≈ 1 over 4
 unfolding s⁴ k _⊛_ _less_over_
-s⁴-capped = record { cross = refl }
-
-s⁴-heeled : s⁴ 120 1600 2750 ≈ 1 over 4
-unfolding s⁴ k _⊛_ _less_over_
-s⁴-heeled = record { cross = refl }
+s⁴-quarter = record { cross = refl }
 
 s⁴-tenth : s⁴ 120 1600 2995 ≈ 1 over 10000
 unfolding s⁴ k _⊛_ _less_over_
@@ -87,10 +82,14 @@ s⁴-lost : s⁴ 120 1600 3000 ≈ whole 0
 unfolding s⁴ k _⊛_ _less_over_
 s⁴-lost = record { cross = refl }
 
--- a pair's share at a lesser depth: every span at that depth
-share-at-160 : share printed 1 2 160 ≈ within printed 1 2 160 ⊝ within printed 1 1 160 ⊝ within printed 2 2 160
-unfolding printed share within Q P G touch C G1 G3 p _⊹_ _⊝_ _⊛_ _less_over_
-share-at-160 = record { cross = refl }
+-- beside the table: a lever and a range above their caps, and half way between the heel's limits
+s⁴-capped : s⁴ 240 3200 2500 ≈ whole 1
+unfolding s⁴ k _⊛_ _less_over_
+s⁴-capped = record { cross = refl }
+
+s⁴-heeled : s⁴ 120 1600 2750 ≈ 1 over 4
+unfolding s⁴ k _⊛_ _less_over_
+s⁴-heeled = record { cross = refl }
 
 -- the three draughts, in the order deepest, partial, light
 draughts-in-order : draughts 6000 4000 ≡ 6000 ∷ 5200 ∷ 4000 ∷ []

@@ -1,20 +1,21 @@
 -- Document 01's chance of damage within a span and a penetration is the general law's, for every span of the ship. Assumes nothing.
 use Prim.Native.Nat.{ℕ, _+_, _-_, _*_, _^_, _≤_, _<_, zero-le}
 use mathlib.Core.Path.{_≡_, refl}
-use mathlib.Core.Bool.{Bool, true, false, cond}
-use native.Mathlib.Nat.{sub-zero, add-sub-cancel-left, le-dest, le-refl, mul-assoc}
+use native.Mathlib.Nat.{sub-zero, add-sub-cancel-left, le-dest, le-refl, mul-pos, mul-comm, mul-assoc}
 use native.Mathlib.Omega.{arith}
 use borrow.Author.Tests.{eqb-true}
-use lib.Dec.{eqb}
-use Rattle.laws.specs.Fraction.{_over_, whole, Is}
-use Rattle.laws.proofs.Fraction.{is-over, is-widened, is-⊹, is-⊝}
-use Rattle.solas.specs.Span.{Touch, neither, one, both, touch, PAt, P}
+use lib.Dec.{eqb, lit<}
+use Rattle.laws.specs.Fraction.{Fraction, _over_, Is}
+use Rattle.laws.proofs.Choice.{either-way}
+use Rattle.laws.proofs.Fraction.{is-over, is-one, is-widened, is-shifted, is-written, is-⊹, is-⊝, is-⊛}
+use Rattle.laws.proofs.FractionRing.{is-mixed}
+use Rattle.laws.proofs.FractionOrder.{is-chosen}
+use Rattle.solas.specs.Span.{Touch, neither, one, both, touch, half, PAt, P}
 use Rattle.solas.specs.Penetration.{GAt, G, Q}
 use Rattle.solas.specs.General.{Law, Falling, Layer, Rising, between, mass, beyond, unit, inLayer, slope, twice, inSpan, common, law, layer}
 use Rattle.solas.proofs.General.{between-adds, mass-adds, mass-one}
-use Rattle.solas.proofs.Recast.{is-rewritten, one-is, is-mixed, is-half, is-branch}
 use Rattle.solas.proofs.Bands.{full, inner, p-is}
-use Rattle.solas.proofs.Depth.{C-is, c-at-most, law-falls, shallow, layer-rises, no-cut, no-chance}
+use Rattle.solas.proofs.Depth.{C-is, c-at-most, law-falls, shallow, layer-rises, no-cut, no-chance, full-positive}
 use Rattle.solas.proofs.Penetration.{G1-is, G3-is, is-throughout, along-is, p-shallow, inner-G-is, up-to-cut, past-cut, lacks}
 
 -- twice what a span has that touches so many ends, where an inner one has i, and j is its part of what the ship has
@@ -31,24 +32,23 @@ Fits both L x = x ≡ L
 
 pub span-fits : (L aft fwd : ℕ) → Fits (touch L aft fwd) L (fwd - aft)
 unfolding touch
-span-fits L aft fwd = tests (eqb aft 0) (eqb fwd L) refl refl
-  where
-    tests : (a f : Bool) → eqb aft 0 ≡ a → eqb fwd L ≡ f → Fits (cond a (cond f both one) (cond f one neither)) L (fwd - aft)
-    tests true true d e = omega (arith, eqb-true aft 0 d, eqb-true fwd L e)
-    tests true false d e = tt
-    tests false true d e = tt
-    tests false false d e = tt
+span-fits L aft fwd =
+    either-way (eqb aft 0) (λ a. either-way (eqb fwd L) (λ f. rw (a, f) (omega (arith, eqb-true aft 0 a, eqb-true fwd L f))) (λ f. rw (a, f) tt))
+    (λ a. either-way (eqb fwd L) (λ f. rw (a, f) tt) (λ f. rw (a, f) tt))
+
+is-half : {f : Fraction} {a b d : ℕ} → Is f a b d → Is (half f) a b (2 * d)
+is-half {d = d} h = is-written (is-⊛ h (is-over 1 (lit< tt))) (omega arith) (omega arith) (mul-comm d 2)
 
 -- x/L, over any scale
 part-is : {L : ℕ} (x u n : ℕ) → 0 < L → Is (x over L) (u * (n * x)) 0 (u * (n * L))
-part-is {L} x u n h = is-rewritten (u * (n * x)) 0 (u * (n * L)) (omega arith) (mul-assoc u n L) (is-widened (u * n) (is-over x h))
+part-is {L} x u n h = is-written (is-widened (u * n) (is-over x h)) (mul-assoc u n x) (omega arith) (mul-assoc u n L)
 
 -- ---- P and G of a span of length x that touches so many ends, and of the span from aft to fwd
-module _ {L : ℕ} (hL : 0 < L) (B : ℕ) where
+module _ {L B : ℕ} (hL : 0 < L) (hB : 0 < B) where
   pub P-at : (x : ℕ) (t : Touch) → Fits t L x → Is (PAt t L x) (doubled t (inner (law L B) (law L B .λx * x)) (unit (law L B) * (law L B .λx * x))) 0 (2 * full (law L B) L)
   P-at x neither f = is-widened 2 (p-is hL B x)
   P-at x one f = is-half (is-⊹ (p-is hL B x) (part-is x (unit (law L B)) (law L B .λx) hL))
-  P-at x both f = rw f (one-is (2 * full (law L B) L))
+  P-at x both f = rw f (is-one (mul-pos (lit< tt) (full-positive hL hB)))
 
   pub P-is : (aft fwd : ℕ) →
       Is (P L aft fwd) (doubled (touch L aft fwd) (inner (law L B) (law L B .λx * (fwd - aft))) (unit (law L B) * (law L B .λx * (fwd - aft)))) 0 (2 * full (law L B) L)
@@ -61,8 +61,8 @@ module _ {L B : ℕ} (hL : 0 < L) (hB : 0 < B) (b : ℕ) (h : 2 * b ≤ B) where
       (2 * full (law L B) L)
   G-at x neither f = is-widened 2 (inner-G-is hL hB x b h)
   G-at x one f =
-      is-branch (15 * B * x) (b * L) (λ k. is-half (is-⊹ (p-shallow hL hB x b h (up-to-cut L B x b k)) (along-is hL hB x b h)))
-      (λ k. is-rewritten _ 0 _ (omega (arith, lacks (law L B) (33 * b * L) (law L B .λx * x) (shallow L B b h) (past-cut L B x b k))) refl
+      is-chosen (15 * B * x) (b * L) (λ k. is-half (is-⊹ (p-shallow hL hB x b h (up-to-cut L B x b k)) (along-is hL hB x b h)))
+      (λ k. is-shifted _ 0 (omega (arith, lacks (law L B) (33 * b * L) (law L B .λx * x) (shallow L B b h) (past-cut L B x b k)))
       (is-⊝ (is-widened 2 (along-is hL hB x b h)) (is-half (G3-is L B b hB))))
   G-at x both f = rw f (is-widened 2 (is-throughout (law L B .W) (law L B .κ) (law L B .λx * L) (G1-is L B b hB h)))
 
@@ -114,7 +114,7 @@ pub Q-is : {L B : ℕ} → 0 < L → 0 < B → (aft fwd b : ℕ) → 2 * b ≤ B
 unfolding Q inSpan layer
 Q-is {L} {B} hL hB aft fwd b h =
     rw (← twice-from-nothing (law-falls hL hB) (layer-rises L B 0 b hB zero-le h) (no-cut L B b) (no-chance L B b) (touch L aft fwd) (fwd - aft), denominators (unit (law L B)) (law L B .λx * L) (5 * B ^ 2))
-    (is-mixed (P-is hL B aft fwd) (G-is hL hB b h aft fwd) (C-is B b hB h) (c-at-most B b h))
+    (is-mixed (layer-rises L B 0 b hB zero-le h .positive) (P-is hL hB aft fwd) (G-is hL hB b h aft fwd) (C-is B b hB h) (c-at-most B b h))
   where
     denominators : (u z d : ℕ) → 2 * (d * u * z) ≡ 2 * (u * z) * d
     denominators u z d = omega arith

@@ -1,16 +1,20 @@
+-- document 01: shares
+pub mod Ship
 pub mod Span
 pub mod Penetration
-pub mod Ship
 pub mod Share
+-- document 01: heights, survival and indices
 pub mod Height
 pub mod Survival
 pub mod Index
-pub mod Layers
-pub mod RegulationIndex
-pub mod OfSolasIndex
-pub mod General
-pub mod Total
+-- what is promised of them
 pub mod Count
+pub mod Total
+pub mod General
 pub mod Promises
+pub mod Layers
+-- the regulation itself, and that document 01 is no other
 pub mod Regulation
 pub mod OfSolas
+pub mod RegulationIndex
+pub mod OfSolasIndex

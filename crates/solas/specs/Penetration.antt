@@ -1,5 +1,5 @@
 -- Document 01, "Penetration", exact: damage within a span and within a depth b of a ship of breadth B. Assumes nothing.
-use Prim.Native.Nat.{ℕ, _+_, _-_, _*_, _^_}
+use Prim.Native.Nat.{ℕ, _-_, _*_, _^_}
 use mathlib.Core.Bool.{cond}
 use lib.Dec.{leb}
 use Rattle.laws.specs.Fraction.{Fraction, _less_over_, _over_, whole, _⊹_, _⊝_, _⊛_}

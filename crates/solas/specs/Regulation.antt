@@ -1,11 +1,10 @@
 -- Regulation 7-1 in its own letters, as document 002 prints it in 2.6.1 to 2.6.3. Lengths are in centimetres. Assumes nothing.
-use Prim.Native.Nat.{ℕ, zero, suc, _+_, _-_, _*_}
-use mathlib.Core.Bool.{Bool, cond, _&&_, _||_}
-use lib.Dec.{leb, eqb}
-use Rattle.laws.specs.Fraction.{Fraction, den, _over_, whole, _≈_, _≼_, _⊹_, _⊝_, _⊛_, _⊘_}
+use Prim.Native.Nat.{ℕ, zero, suc, _+_, _-_}
+use mathlib.Core.Bool.{cond, _&&_, _||_}
+use lib.Dec.{eqb}
+use Rattle.laws.specs.Fraction.{Fraction, _over_, whole, _≈_, _≼_, _≼?_, lesser, _⊹_, _⊝_, _⊛_, _⊘_}
 use Rattle.solas.specs.Ship.{Ship}
 
-infix 4 _≼?_
 infix 8 ⊖_
 infix 9 _²
 infix 9 _³
@@ -30,13 +29,6 @@ f ² = f ⊛ f
 
 abbrev pub _³ : Fraction → Fraction
 f ³ = f ⊛ f ⊛ f
-
--- is f at most g?
-unfoldable pub _≼?_ : Fraction → Fraction → Bool
-f ≼? g = leb (f .up * den g + g .down * den f) (g .up * den f + f .down * den g)
-
-unfoldable pub lesser : Fraction → Fraction → Fraction
-lesser f g = cond (f ≼? g) f g
 
 -- r = √f
 pub record IsRoot (r f : Fraction) : Type 0 where

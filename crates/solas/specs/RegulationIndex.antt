@@ -1,17 +1,8 @@
 -- What the regulation itself says of s, v, A, dp and R, in its own letters, in metres and degrees: document 002, 2.5.1, 2.7.3 and 2.7.7,
 -- and document 003, 4.1 and 10.1. Assumes nothing.
-use Prim.Native.Nat.{ℕ, _+_, _*_}
-use mathlib.Core.Bool.{Bool, cond}
-use lib.Dec.{leb}
-use Rattle.laws.specs.Fraction.{Fraction, den, _over_, whole, _≈_, _≼_, _≺_, _⊹_, _⊝_, _⊛_, _⊘_}
-
-infix 4 _≼?_
--- is f at most g?
-unfoldable pub _≼?_ : Fraction → Fraction → Bool
-f ≼? g = leb (f .up * den g + g .down * den f) (g .up * den f + f .down * den g)
-
-unfoldable pub lesser : Fraction → Fraction → Fraction
-lesser f g = cond (f ≼? g) f g
+use Prim.Native.Nat.{ℕ}
+use mathlib.Core.Bool.{cond}
+use Rattle.laws.specs.Fraction.{Fraction, _over_, whole, _≈_, _≼_, _≺_, _≼?_, lesser, _⊹_, _⊝_, _⊛_, _⊘_}
 
 -- ---- the units of document 01, in metres and degrees
 abbrev pub millimetres : ℕ → Fraction

@@ -28,5 +28,5 @@ totals = (record { cross = refl }, record { cross = refl }, record { cross = ref
 slips : (share small 1 3 800 ⊝ middleSpan small 1 3 800 ≈ 0 less 70 over 297)
     × (share small 1 2 800 ⊹ firstOfPair small 1 2 800 ≈ 100 over 297)
     × (share small 2 2 800 ⊹ firstOfPair small 2 2 800 ≈ 90 over 297)
-unfolding small middleSpan firstOfPair share within Q P G touch C G1 G3 p _⊹_ _⊝_ _⊛_ _less_over_
+unfolding middleSpan firstOfPair share within Q P G touch C G1 G3 p _⊹_ _⊝_ _⊛_ _less_over_
 slips = (record { cross = refl }, record { cross = refl }, record { cross = refl })

@@ -1,9 +1,35 @@
 """The regulation's formulas in its own letters and in metres, to hold document 01's closed forms against."""
 
 from fractions import Fraction
+from math import isqrt
 
-J_M, J_K = Fraction(10, 33), Fraction(5, 33)
-B11, B12, B21, B22 = Fraction(-3267, 50), Fraction(11), Fraction(-363, 50), Fraction(11, 5)
+# Source document 002, 2.6.2: what it gives, and what it makes of it for ships up to 198 m
+P_K, J_MAX, J_KN = Fraction(11, 12), Fraction(10, 33), Fraction(5, 33)
+L_MAX = 60     # the longest damage, in metres
+LONGEST = 198  # the longest ship that document 01 takes on, in metres
+
+
+def longest_damage(length):
+    """002, 2.6.2: Jm of a ship of so many metres, up to 260."""
+    return min(J_MAX, L_MAX / Fraction(length))
+
+
+def root(square):
+    """The root of a fraction that is the square of one."""
+    found = Fraction(isqrt(square.numerator), isqrt(square.denominator))
+    if found**2 != square:
+        raise ArithmeticError(f"{square} has no root among the fractions")
+    return found
+
+
+B0 = 2 * (P_K / J_KN - (1 - P_K) / (J_MAX - J_KN))
+J_M = longest_damage(LONGEST)
+UNDER_THE_ROOT = 1 + (1 - 2 * P_K) * B0 * J_M + B0**2 * J_M**2 / 4
+J_K = J_M / 2 + (1 - root(UNDER_THE_ROOT)) / B0
+B12 = B0
+B11 = 4 * (1 - P_K) / ((J_M - J_K) * J_K) - 2 * P_K / J_K**2
+B21 = -2 * (1 - P_K) / (J_M - J_K) ** 2
+B22 = -B21 * J_M
 
 
 def inner_p(J):
@@ -32,13 +58,16 @@ def r(J, touched, b, B):
     return 1 - (1 - C) * (1 - G / p(J, touched))
 
 
-def v(height):
-    """Regulation 7-2: v of a boundary that stands so many metres above the waterline."""
-    if height <= 0:
-        return Fraction(0)
+def sloping_v(height):
+    """Regulation 7-2: v of a boundary that stands so many metres above the waterline, with no cap."""
     if height <= Fraction(78, 10):
         return Fraction(8, 10) * height / Fraction(78, 10)
-    return min(Fraction(1), Fraction(8, 10) + Fraction(2, 10) * (height - Fraction(78, 10)) / Fraction(47, 10))
+    return Fraction(8, 10) + Fraction(2, 10) * (height - Fraction(78, 10)) / Fraction(47, 10)
+
+
+def v(height):
+    """Document 01's cap: v stays within 0 and 1. 002 has none on v: it holds only a difference of two, v_m, within them."""
+    return min(Fraction(1), max(Fraction(0), sloping_v(height)))
 
 
 def s_fourth(lever, reach, heel):

@@ -142,7 +142,9 @@ class RowNumbers(ReadingTest):
         self.expect({"five hundred": with_rows(*full)}, ACCEPTED)
         for last in (GIVEN, full[0], given_row(0, 0, 0, 0, (0, 0, 0))):
             self.expect({last: with_rows(*full, last)}, (6, 502))
-        self.expect({"kind first": file_of([HULL, *full, "04"])}, (3, 502))
+        for last in ("04", "02", "03", "0f", ROW[:-2], ROW + "00", GIVEN[:-2], GIVEN + "00"):
+            self.expect({last: file_of([HULL, *full, last])}, (3, 502))
+        self.expect({"odd digits": file_of([HULL, *full, GIVEN + "0"])}, (2, 502))
 
     def test_within_the_limits(self):
         for row in (given_row(1, 3, 800, TOP, (0, 0, 0)), given_row(3, 1, 800, TOP, (10_000,) * 3),

@@ -49,6 +49,22 @@ class ProvedValues(unittest.TestCase):
 class RegulationLetters(unittest.TestCase):
     """The closed forms of document 01 against the regulation's constants."""
 
+    def test_root_is_of_one(self):
+        self.assertEqual(letters.UNDER_THE_ROOT, 1)
+        self.assertEqual(letters.B0, 11)
+        for no_square in (Fraction(2), Fraction(1, 2), Fraction(4, 3)):
+            self.assertRaises(ArithmeticError, letters.root, no_square)
+
+    def test_constants(self):
+        self.assertEqual((letters.J_M, letters.J_K), (Fraction(10, 33), Fraction(5, 33)))
+        self.assertEqual((letters.B11, letters.B12), (Fraction(-3_267, 50), 11))
+        self.assertEqual((letters.B21, letters.B22), (Fraction(-363, 50), Fraction(11, 5)))
+
+    def test_constants_are_the_same_up_to_198_metres(self):
+        for L in (8_000, 13_900, 19_799, 19_800):
+            self.assertEqual(letters.longest_damage(Fraction(L, 100)), letters.J_M)
+        self.assertLess(letters.longest_damage(Fraction(19_801, 100)), letters.J_M)
+
     def test_p_and_P(self):
         chooser = random.Random(71)
         for L in [8_000, 9_900, 10_000, 13_200, 19_800] + [chooser.randrange(8_000, 19_801) for _ in range(15)]:
@@ -73,11 +89,15 @@ class RegulationLetters(unittest.TestCase):
         self.assertEqual(G(Span(0, 66), 160, 9_900, 1_600), (inner + 66 * G1(160, 1_600) / 9_900) / 2)
 
     def test_v(self):
-        for h in range(-10, 13_000, 7):
+        for h in range(-10, 13_000):
             self.assertEqual(Fraction(v(h), 916_500), letters.v(Fraction(h, 1_000)), h)
 
+    def test_v_is_capped_where_its_slopes_end(self):
+        self.assertEqual((letters.sloping_v(Fraction(0)), letters.sloping_v(Fraction(125, 10))), (0, 1))
+        self.assertEqual([v(h) for h in (-30_000, -1, 12_500, 12_501, 60_000)], [0, 0] + 3 * [916_500])
+
     def test_R(self):
-        for L in range(8_000, 19_801, 50):
+        for L in range(8_000, 19_801):
             self.assertEqual(R(L), letters.R(Fraction(L, 100)), L)
 
     def test_s_fourth(self):

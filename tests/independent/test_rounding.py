@@ -3,14 +3,13 @@
 import unittest
 from fractions import Fraction
 
-from independent.answering import FAILS, MEETS, UNSETTLED, answer, verdict_of
-from independent.casefile import Row, reading
-from independent.regulation import Span, group_share, row_share, s_fourth
+from independent.casefile import Hull, Row, reading
+from independent.regulation import C, P, Span, group_share, row_share, s_fourth
 from independent.rounding import (
     Ends, G1_ends, G3_ends, G_ends, P_ends, Q_ends, added_ends, attained_ends, billionths, p_ends, product_ends,
     share_ends, survival_ends,
 )
-from independent.writing import given_row, hull_line, lever_row, whole_file
+from independent.writing import given_row, hull_line, whole_file
 
 L, B = 9_900, 1_600
 INNER, AFT, BOW, SHIP = Span(100, 3_100), Span(0, 3_000), Span(6_900, 9_900), Span(0, 9_900)
@@ -77,6 +76,25 @@ class Chances(unittest.TestCase):
         self.assertEqual(10_616_431_148, 235_690_236 * 37 + 21_544_232 * 88)
         self.assertEqual(Q_ends(INNER, 160, L, B), Ends(10_616_430_935 // 125, 10_616_431_148 // 125 + 1))
 
+    def test_Q_is_made_from_the_ends_of_P_and_G(self):
+        span = Span(100, 1_600)
+        self.assertEqual(C(400, B), Fraction(13, 20))
+        self.assertEqual(P_ends(span, L), Ends(88_383_838, 88_383_839))
+        self.assertEqual(G_ends(span, 400, L, B), Ends(24_975_832, 24_975_834))
+        lower, upper = 88_383_838 * 13 + 24_975_832 * 7, 88_383_839 * 13 + 24_975_834 * 7
+        self.assertEqual(Q_ends(span, 400, L, B), Ends(lower // 20, upper // 20 + 1))
+        from_exact_P = P(span, L) * 10**9 * 13
+        self.assertEqual((from_exact_P + 24_975_832 * 7) // 20, lower // 20 + 1)
+        self.assertEqual((from_exact_P + 24_975_834 * 7) // 20, upper // 20 - 1)
+
+    def test_Q_has_C_exact(self):
+        self.assertEqual(C(200, 1_200), Fraction(7, 15))
+        self.assertEqual(G1_ends(200, 1_200), Ends(118_188_888, 118_188_889))
+        self.assertEqual(7_945_511_104, 10**9 * 7 + 118_188_888 * 8)
+        self.assertEqual(7_945_511_112, 10**9 * 7 + 118_188_889 * 8)
+        # C in billionths, down or up, would move one of the ends
+        self.assertEqual(Q_ends(SHIP, 200, L, 1_200), Ends(7_945_511_104 // 15, 7_945_511_112 // 15 + 1))
+
     def test_Q_at_half_the_breadth_is_P(self):
         for span in (INNER, AFT, BOW, SHIP, Span(100, 110)):
             self.assertEqual(Q_ends(span, 800, L, B), P_ends(span, L))
@@ -109,6 +127,12 @@ class Shares(unittest.TestCase):
         taken = P_ends(Span(0, 4_003), L).upper + P_ends(Span(1_001, 5_000), L).upper
         self.assertLess(added - taken, 0)
         self.assertEqual(share_ends(case.hull, case.rows[0]).lower, 0)
+
+    def test_upper_end_is_held_at_one(self):
+        hull, deeper_than_any = Hull(L, 1_500, 6_000, 4_000, (SHIP,)), 1_000
+        self.assertEqual(C(deeper_than_any, 1_500), Fraction(16, 15))
+        self.assertGreater(Q_ends(SHIP, deeper_than_any, L, 1_500).upper, 10**9)
+        self.assertEqual(share_ends(hull, Row(1, 1, deeper_than_any, 60_000, None, None)).upper, 10**9)
 
     def test_widest_row(self):
         rows = [given_row(2, 3, b, 60_000, (10_000, 10_000, 10_000)) for b in (48, 122, 1_983)]
@@ -144,52 +168,25 @@ class Survival(unittest.TestCase):
 
 
 class Sums(unittest.TestCase):
-    """What rows add, the attained index and the verdict."""
+    """What rows add, and the attained index."""
+
+    FOUR_FIFTHS = Row(1, 1, 800, 13_800, None, None)  # its v at a draught of 6,000
+
+    def added(self, share, survival):
+        return added_ends(share, self.FOUR_FIFTHS, 6_000, survival)
 
     def test_added(self):
-        row = Row(1, 1, 800, 13_800, None, None)
-        self.assertEqual(added_ends(Ends(11, 12), row, 6_000, Ends(5_000, 5_001)), Ends(4, 5))
-        self.assertEqual(added_ends(Ends(10, 10), row, 6_000, Ends(5_000, 5_000)), Ends(4, 4))
-        self.assertEqual(added_ends(Ends(1_000, 1_000), row, 6_000, Ends(5_000, 5_001)), Ends(400, 401))
+        self.assertEqual(self.added(Ends(11, 12), Ends(5_000, 5_001)), Ends(4, 5))
+        self.assertEqual(self.added(Ends(10, 10), Ends(5_000, 5_000)), Ends(4, 4))
+        self.assertEqual(self.added(Ends(1_000, 1_000), Ends(5_000, 5_001)), Ends(400, 401))
+
+    def test_added_goes_by_bottom_and_top(self):
+        self.assertEqual(self.added(Ends(10**9, 10**9), Ends(7_071, 7_072)), Ends(565_680_000, 565_760_000))
+
+    def test_added_is_rounded_once(self):
+        # rounded after v or after s as well, the ends would be 5 and 8
+        self.assertEqual(self.added(Ends(11, 12), Ends(7_071, 7_072)), Ends(6, 7))
 
     def test_attained(self):
         self.assertEqual(attained_ends(Ends(1, 2), Ends(3, 4), Ends(5, 6)), Ends(2, 4))
         self.assertEqual(attained_ends(Ends(5, 5), Ends(10, 10), Ends(15, 15)), Ends(9, 9))
-
-    def test_draughts_have_their_own_survivals(self):
-        rows = [given_row(1, 1, 800, 60_000, (1_000, 2_000, 4_000))]
-        ends = answer(whole_file(hull_line(L, B, 6_000, 4_000, []), rows)).ends
-        expected = (200_000_000, 100_000_000, 200_000_000, 400_000_000)
-        self.assertEqual(ends, tuple(Ends(whole, whole) for whole in expected))
-
-    def test_draughts_have_their_own_results(self):
-        rows = [lever_row(1, 1, 800, 60_000, ((120, 1_600, 0), (30, 400, 0), (0, 0, 0)))]
-        ends = answer(whole_file(hull_line(L, B, 6_000, 4_000, []), rows)).ends
-        self.assertEqual(ends, tuple(Ends(whole, whole) for whole in (600_000_000, 10**9, 500_000_000, 0)))
-
-    def test_sums_are_not_held_at_one(self):
-        zones = range(1, 21)
-        rows = [given_row(a, n, 800, 60_000, (10_000,) * 3) for a in zones for n in range(1, 22 - a)]
-        bulkheads = [487 * i for i in range(1, 20)]
-        ends = answer(whole_file(hull_line(L, B, 6_000, 4_000, bulkheads), rows)).ends
-        self.assertTrue(all(end.lower < 10**9 < end.upper for end in ends))
-
-    def test_verdict_at_a_whole_mark(self):
-        half, quarter = 500_000_000, 250_000_000
-        good = [Ends(half, half)] + 3 * [Ends(quarter, quarter)]
-        self.assertEqual(verdict_of(good, 10_400), MEETS)
-        for place in range(4):
-            mark = good[place].lower
-            for end, verdict in ((Ends(mark - 1, mark), UNSETTLED), (Ends(mark - 1, mark - 1), FAILS)):
-                self.assertEqual(verdict_of(good[:place] + [end] + good[place + 1:], 10_400), verdict)
-
-    def test_verdict_between_whole_numbers(self):
-        good = [Ends(393_939_394, 10**9)] + 3 * [Ends(196_969_697, 10**9)]
-        self.assertEqual(verdict_of(good, 8_000), MEETS)
-        self.assertEqual(verdict_of([Ends(393_939_393, 393_939_394)] + good[1:], 8_000), UNSETTLED)
-        self.assertEqual(verdict_of([Ends(393_939_393, 393_939_393)] + good[1:], 8_000), FAILS)
-        self.assertEqual(verdict_of(good[:3] + [Ends(196_969_696, 196_969_696)], 8_000), FAILS)
-
-    def test_one_failing_mark_outweighs_unsettled_ones(self):
-        ends = [Ends(0, 10**9)] * 3 + [Ends(0, 1)]
-        self.assertEqual(verdict_of(ends, 8_000), FAILS)

@@ -1,0 +1,112 @@
+"""The faults that the tests must find, by file: what is wrong, the text as it stands, and the text with the fault."""
+
+READING = [
+    # Limits and lines
+    ("32,769 bytes are let through", "LONGEST_INPUT = 32_768", "LONGEST_INPUT = 32_769"),
+    ("21 zones are let through", "MOST_ZONES = 20", "MOST_ZONES = 21"),
+    ("Ls to 19,801", "L <= 19_800", "L <= 19_801"),
+    ("an odd B is let through", "B % 2 == 0 and ", ""),
+    ("dl above ds is let through", "500 <= dl <= ds", "500 <= dl"),
+    ("ds - dl need not be a multiple of 5", " and (ds - dl) % 5 == 0", ""),
+    ("two bulkheads may stand at one place", "all(here < there for", "all(here <= there for"),
+    ("a + n wraps at a byte", "row.a + row.n - 1 <=", "(row.a + row.n - 1) % 256 <="),
+    ("b to B", "row.b <= hull.B // 2", "row.b <= hull.B"),
+    ("capital letters are digits too", 'b"0123456789abcdef"', 'b"0123456789abcdefABCDEF"'),
+    ("a last line needs no line feed", "(pieces[-1], False)", "(pieces[-1], True)"),
+    # Judging order
+    ("2 is judged before 10", "if ended:", "if ended and is_written_well(text, closed):"),
+    ("5 is judged before 4", "if not within:", "if not within and 1 <= frame[9] <= MOST_ZONES:"),
+    ("6 is judged before 3 at row 501 of kind 02", "        if kind not in LENGTHS or", """\
+        if kind == LEVER_ROW and len(rows) == MOST_ROWS:
+            return Refusal(6, number)
+        if kind not in LENGTHS or"""),
+    ("6 is judged before 3 at row 501 of kind 03", "        if kind not in LENGTHS or", """\
+        if kind == GIVEN_ROW and len(rows) == MOST_ROWS:
+            return Refusal(6, number)
+        if kind not in LENGTHS or"""),
+    ("7 is judged before 6 at row 501", "if len(rows) == MOST_ROWS:",
+     "if len(rows) == MOST_ROWS and row_is_within(row, hull):"),
+    ("9 is judged before 8", "if rows and is_out_of_order(row, rows[-1], hull):",
+     "if rows and is_out_of_order(row, rows[-1], hull) and not leaves_open(row, rows[-1], hull):"),
+    ("9 is judged before 6 at the end frame", "if two_bytes(frame, 1) != len(rows):",
+     "if two_bytes(frame, 1) != len(rows) and (not rows or group_is_closed(rows[-1], hull)):"),
+    ("a missing end frame is told of the last line", "Refusal(10, len(lines) + 1)", "Refusal(10, len(lines))"),
+    # Order of the rows
+    ("groups come by n, then a", "return row.group < before.group", "return row.group[::-1] < before.group[::-1]"),
+    ("a layer goes on above its top", " or layer_is_closed(before, hull)", ""),
+    ("a group may close before B/2", "row.b == hull.B // 2 and ", ""),
+    ("the layer before goes on into the next group", "if not rows or rows[-1].group != row.group:", "if not rows:"),
+    ("the row below goes on into the next layer", "b_before=before.b)", "b_before=before.b, H_below=before.H)"),
+]
+
+FIGURES = [
+    # Spans and penetration
+    ("the first band ends a centimetre too late", "33 * x <= 5 * L", "33 * (x - 1) <= 5 * L"),
+    ("the second band ends a centimetre too soon", "33 * x <= 10 * L", "33 * (x + 1) <= 10 * L"),
+    ("one end is tested at the stern alone", "(span.forward == L)\n", "(span == Span(0, L))\n"),
+    ("one end is tested at the bow alone", "return (span.aft == 0) +", "return (span == Span(0, L)) +"),
+    ("the edge between the forms of G goes to the first", "15 * B * x <= b * L", "15 * B * x < b * L"),
+    # Shares
+    ("the middle is not put back at n >= 3", "        (+1, zones_from(a + 1, last - 1)),\n", ""),
+    ("a zone is put back at n = 2", "(-1, zones_from(last, last))]",
+     "(-1, zones_from(last, last)), (+1, zones_from(a, a))]"),
+    ("a subtracted span has a b of its own", "(sign, span, b) for", "(sign, span, b if sign > 0 else b_before or b) for"),
+    ("the layer before is not taken off", "if b_before > 0:", "if b_before > b:"),
+    # Height and survival
+    ("v goes on by 39 to 12,501", "if h <= 12_500:", "if h <= 12_501:"),
+    ("v of the row below is not taken off", "v(row.H - d) - below", "v(row.H - d)"),
+    ("the lever is not capped", "min(lever, 120)", "lever"),
+    ("K² stands for K⁴", "Fraction(3_000 - heel, 500) ** 2", "Fraction(3_000 - heel, 500)"),
+    ("k rises again beyond a heel of 3,000", "heel >= 3_000", "heel == 3_000"),
+    ("the partial draught is the mean", "3 * (ds - dl) // 5", "(ds - dl) // 2"),
+    ("R changes its form a centimetre too late", "L > 10_000", "L > 10_001"),
+    ("a partial index must reach the whole of R", "(R(L), R(L) / 2, ", "(R(L), R(L), "),
+]
+
+ENDS = [
+    # Spans and penetration
+    ("P with one end comes from the ends of p", "    return billionths(P(span, L))", """\
+    if ends_touched(span, L) != 1:
+        return billionths(P(span, L))
+    x, inner = span.length, p_ends(span.length, L)
+    lower, upper = quotient_down(x * BILLION, L), quotient_up(x * BILLION, L)
+    return Ends(quotient_down(inner.lower + lower, 2), quotient_up(inner.upper + upper, 2))"""),
+    ("the product comes from the exact G1", "Ends(quotient_down(x * g1.lower, L), quotient_up(x * g1.upper, L))",
+     "billionths(x * G1(b, B) / L)"),
+    ("G3's own end is subtracted", "product.lower - g3.upper, product.upper - g3.lower",
+     "product.lower - g3.lower, product.upper - g3.upper"),
+    ("half of G3 narrows G from below", "quotient_up(g3.upper, 2)", "quotient_down(g3.upper, 2)"),
+    ("the half of G's second form narrows it from above", "quotient_up(inner.upper + product.upper, 2)",
+     "quotient_down(inner.upper + product.upper, 2)"),
+    ("G's lower end is not held at 0", "Ends(max(lower, 0), upper)", "Ends(lower, upper)"),
+    ("C is rounded", "return exact.numerator, exact.denominator", "return billionths(exact).lower, BILLION"),
+    ("Q's lower end comes from the exact P", "chance.lower * c", "P(span, L) * BILLION * c"),
+    ("Q's upper end comes from the exact P", "chance.upper * c", "P(span, L) * BILLION * c"),
+    ("Q's lower end is rounded term by term", "quotient_down(chance.lower * c + g.lower * (whole - c), whole)",
+     "quotient_down(chance.lower * c, whole) + quotient_down(g.lower * (whole - c), whole)"),
+    # Shares
+    ("subtracted spans are rounded like the added", "lower -= q.upper\n            upper -= q.lower",
+     "lower -= q.lower\n            upper -= q.upper"),
+    ("a share is held at 0 after every term", "lower -= q.upper", "lower = max(lower - q.upper, 0)"),
+    ("a share's lower end is not held at 0", "max(lower, 0), min(", "lower, min("),
+    ("a share's upper end is not held at 10⁹", "min(upper, BILLION)", "upper"),
+    # Height and survival
+    ("top is one above bottom at an exact root too", "bottom if reaches else bottom + 1", "bottom + 1"),
+    ("a row's lower end is rounded after v too", "share.lower * height * survival.lower, whole",
+     "quotient_down(share.lower * height, WHOLE_V) * survival.lower, WHOLE_SURVIVAL"),
+    ("a row's upper end is rounded after v too", "share.upper * height * survival.upper, whole",
+     "quotient_up(share.upper * height, WHOLE_V) * survival.upper, WHOLE_SURVIVAL"),
+    ("a row's lower end takes the top s", "height * survival.lower", "height * survival.upper"),
+    ("A weighs the light draught twice", "2 * partial.lower + light.lower", "partial.lower + 2 * light.lower"),
+    ("A's upper end is rounded down", "quotient_up(2 * deepest", "quotient_down(2 * deepest"),
+]
+
+ANSWER = [
+    ("a result is that of the deepest draught", "*row.results[draught]", "*row.results[0]"),
+    ("every partial index stands at the deepest draught", "case.hull.dl)[draught]", "case.hull.dl)[0]"),
+    ("the verdict meets by upper ends", "all(end.lower >= mark", "all(end.upper >= mark"),
+    ("the verdict fails only where all fall short", "any(end.upper < mark", "all(end.upper < mark"),
+    ("a sheet of just two numbers a row is short", "sheet < 2 * len(read.rows)", "sheet <= 2 * len(read.rows)"),
+]
+
+FAULTS = {"casefile": READING, "regulation": FIGURES, "rounding": ENDS, "answering": ANSWER}

@@ -1,0 +1,5 @@
+pub mod Rounded
+pub mod Span
+pub mod Penetration
+pub mod Share
+pub mod Hull

@@ -1,4 +1,5 @@
 pub mod Rounded
+pub mod Bands
 pub mod Span
 pub mod Penetration
 pub mod Share

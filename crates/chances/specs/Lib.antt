@@ -4,3 +4,4 @@ pub mod Span
 pub mod Penetration
 pub mod Share
 pub mod Hull
+pub mod Table

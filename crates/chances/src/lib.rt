@@ -1,11 +1,17 @@
 // The chance of damage within a span and a penetration, and the share of a row, in billionths rounded both ways.
+use numbers::billionths;
 use records::Ends;
 use records::Hull;
 ghost use mathlib.Core.Path.{_≡_};
 ghost use Prim.Native.Nat.{_+_, _*_, _^_, _≤_};
+ghost use lib.ListN.{length};
 ghost use lib.Signed.{mag};
-ghost use Rattle.solas.specs.Span.{p};
+ghost use Rattle.solas.specs.Span.{one, touch, p, PAt};
+ghost use Rattle.chances.specs.Rounded.{endsOf};
 ghost use Rattle.chances.specs.Bands.{bandOf, above, beneath, counted, valued, quotientOf, Small, Within, Ready, Chance};
+ghost use Rattle.chances.specs.Span.{touches, spanEnds};
+ghost use Rattle.chances.specs.Hull.{Hulled};
+ghost use Rattle.chances.specs.Table.{spanAt, tableOf};
 
 // Inner p by bands: the coefficients of L³, xL², x²L and x³, and the divisor, which stands with L³.
 const BANDS: [[i64; 5]; 3] = [
@@ -25,6 +31,12 @@ struct Ratio {
     num: u64,
     den: u64,
     cm: u64,
+}
+
+// The ends of p and of P of one span.
+pub struct SpanEnds {
+    pub inner: Ends,
+    pub chance: Ends,
 }
 
 fn band(l: u64, x: u64) -> usize
@@ -104,4 +116,92 @@ fn inner(l: u64, x: u64) -> Ratio
     let l2 = l * l;
     let x2 = x * x;
     quotient(row, [l2 * l, l2 * x, l * x2, x2 * x], l2, l)
+}
+
+// How many ends of the ship the span from aft to fwd touches, by their places.
+fn ends_touched(l: u64, aft: u64, fwd: u64) -> u64
+    ensures { λ r. ⌜ r ≡ touches (touch l aft fwd) ⌝ }
+{
+    if aft == 0 {
+        if fwd == l { 2 } else { 1 }
+    } else if fwd == l {
+        1
+    } else {
+        0
+    }
+}
+
+// P of a span at one end: (p + x/L)/2.
+fn at_one_end(l: u64, x: u64, r: Ratio) -> Ends
+    requires { ⌜ (1 ≤ l) × (x ≤ l) × Chance (p l x) l r ⌝ }
+    ensures { λ g. ⌜ g ≡ endsOf (PAt one l x) ⌝ }
+{
+    billionths(r.num + x * r.cm, 2 * r.den)
+}
+
+// p and P of the span from aft to fwd.
+pub fn span_ends(l: u64, aft: u64, fwd: u64) -> SpanEnds
+    requires { ⌜ (1 ≤ l) × (l ≤ 19800) × (aft ≤ fwd) × (fwd ≤ l) ⌝ }
+    ensures { λ r. ⌜ r ≡ spanEnds l aft fwd ⌝ }
+{
+    let x = fwd - aft;
+    let r = inner(l, x);
+    let p = billionths(r.num, r.den);
+    let t = ends_touched(l, aft, fwd);
+    if t == 0 {
+        return SpanEnds {
+            inner: p,
+            chance: p,
+        };
+    }
+    if t == 2 {
+        return SpanEnds {
+            inner: p,
+            chance: Ends {
+                lower: 1_000_000_000,
+                upper: 1_000_000_000,
+            },
+        };
+    }
+    let chance = at_one_end(l, x, r);
+    SpanEnds { inner: p, chance }
+}
+
+// The zones from i to j of a hull, counted from 0; zeros where there is no such span.
+fn zone_span(h: Hull, i: usize, j: usize) -> SpanEnds
+    requires { ⌜ Hulled h ⌝ }
+    ensures { λ r. ⌜ r ≡ spanAt h i j ⌝ }
+{
+    if (i <= j) & (j < h.zones) {
+        return span_ends(h.length, h.places[i], h.places[j + 1]);
+    }
+    SpanEnds {
+        inner: Ends { lower: 0, upper: 0 },
+        chance: Ends { lower: 0, upper: 0 },
+    }
+}
+
+// A table that is still to be filled.
+fn blank() -> [u64; 1_600]
+    ensures { λ r. ⌜ length r ≡ 1600 ⌝ }
+{
+    [0u64; 1_600]
+}
+
+// The ends of p and P of every span of a hull's zones, worked out once.
+pub fn span_table(h: Hull) -> [u64; 1_600]
+    requires { ⌜ Hulled h ⌝ }
+    ensures { λ r. ⌜ r ≡ tableOf h ⌝ }
+{
+    let mut t = blank();
+    let mut k: usize = 0;
+    while k < 1_600 {
+        let s = zone_span(h, k / 80, k / 4 % 20);
+        t[k] = s.inner.lower;
+        t[k + 1] = s.inner.upper;
+        t[k + 2] = s.chance.lower;
+        t[k + 3] = s.chance.upper;
+        k = k + 4;
+    }
+    t
 }

@@ -1,5 +1,5 @@
 -- 01, "Shares", in billionths: the ends of a row's share, from those of up to eight Q. Assumes nothing.
-use Prim.Native.Nat.{ℕ, zero, suc, _+_, _-_, _^_, min}
+use Prim.Native.Nat.{ℕ, zero, suc, _+_, _-_, _*_, _^_, _≤_, min}
 use Rattle.records.specs.declared.Ends.{Ends}
 use Rattle.solas.specs.Ship.{Ship}
 use Rattle.solas.specs.Count.{added, taken}
@@ -24,6 +24,13 @@ sumsOf s b a n =
       added = record { lower = added (low s b) a n; upper = added (high s b) a n };
       taken = record { lower = taken (low s b) a n; upper = taken (high s b) a n };
     }
+
+-- no more than two chances on either side
+pub record Few (s : Sums) : Type 0 where
+  pub added-order : s .added .lower ≤ s .added .upper
+  pub added-few : s .added .upper ≤ 2 * 10 ^ 9
+  pub taken-order : s .taken .lower ≤ s .taken .upper
+  pub taken-few : s .taken .upper ≤ 2 * 10 ^ 9
 
 -- the row of the group of n zones from zone a, in the layer from b′ to b: "every added Q low and every subtracted Q high, and is then, once, held
 -- to be not below 0; the upper the other way, not above 10⁹"

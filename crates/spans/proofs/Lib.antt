@@ -1,0 +1,6 @@
+pub mod Bands
+mod Coefficient
+pub mod Plain
+pub mod Rounded
+pub mod Span
+pub mod Table

@@ -1,5 +1,6 @@
 pub mod Bands
 mod Coefficient
+pub mod Enclosure
 pub mod Plain
 pub mod Rounded
 pub mod Span

@@ -52,6 +52,11 @@ module _ (B b : ℕ) (h : (1 ≤ B) × (B ≤ 6000) × (2 * b ≤ B)) where
   unfolding c d
   C-at-most-one = let q = products B b h in rw (square b, square B) (omega arith, omega (arith, c-below B b (h .2)))
 
+  -- at half of the breadth, C is one
+  pub C-whole : 2 * b ≡ B → c B b ≡ d B
+  unfolding c d
+  C-whole e = rw (square b, square B, ← e) (omega arith)
+
   pub G1-is : Is (G1 B b) (5500 * b * B - 1089 * b * b) 0 (7500 * B * B)
   unfolding G1
   G1-is = let q = products B b h in rw (square b, square B) (as-plain _ _ (omega arith) (omega arith) (is-less-over (5500 * b * B) (1089 * (b * b)) (omega arith)))

@@ -18,8 +18,10 @@ use Rattle.spans.specs.Hull.{shipOf, Hulled}
 use Rattle.spans.specs.Table.{spanIn}
 use Rattle.spans.proofs.Plain.{square}
 use Rattle.chances.proofs.Depth.{products, C-at-most-one}
-use Rattle.spans.proofs.Table.{place-below, place-within, table-long, span-read}
-use Rattle.chances.proofs.Probable.{P-probable, G-probable, Q-probable}
+use Rattle.spans.proofs.Places.{place-below, place-within}
+use Rattle.spans.proofs.Table.{table-long, span-read}
+use Rattle.spans.proofs.Enclosure.{P-probable}
+use Rattle.chances.proofs.Enclosure.{G-probable, Q-probable}
 
 module _ {t : List ℕ} {h : Hull} {y : Layer} (l : Lent t h y) where
   pub long : length t ≡ 1600

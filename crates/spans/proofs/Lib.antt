@@ -1,6 +1,7 @@
 pub mod Bands
 mod Coefficient
 pub mod Enclosure
+pub mod Places
 pub mod Plain
 pub mod Rounded
 pub mod Span

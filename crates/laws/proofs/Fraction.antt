@@ -1,7 +1,7 @@
 -- Fractions by common denominators: what sums, differences, products and quotients come to, and how two compare. Assumes nothing.
 use Prim.Native.Nat.{ℕ, suc, _+_, _-_, _*_, _≤_, _<_}
 use mathlib.Core.Path.{_≡_, refl, ap, sym, _∙_}
-use native.Mathlib.Nat.{mul-sub, mul-comm, mul-pos, eq-of-mul-eq-mul-right, le-of-mul-le-mul-right, lt-of-mul-lt-mul-right, mul-lt-mul-of-pos-right, mul-le-mul-right, zero-lt-suc, le-refl, le-of-eq, le-antisymm}
+use native.Mathlib.Nat.{zero-mul, one-mul, mul-sub, mul-comm, mul-pos, eq-of-mul-eq-mul-right, le-of-mul-le-mul-right, lt-of-mul-lt-mul-right, mul-lt-mul-of-pos-right, mul-le-mul-right, zero-lt-suc, le-refl, le-of-eq, le-antisymm}
 use native.Mathlib.Omega.{arith, by-contra}
 use Rattle.laws.specs.Fraction.{Fraction, den, _less_over_, _over_, Is, _≈_, _≼_, _≺_, whole, _⊹_, _⊝_, _⊛_, _⊘_, total}
 
@@ -41,6 +41,12 @@ is-over n h = is-less-over n 0 h
 pub is-whole : (n : ℕ) {d : ℕ} → 0 < d → Is (whole n) (n * d) 0 d
 unfolding _less_over_
 is-whole n {d} h = record { cross = omega arith }
+
+pub is-nothing : {d : ℕ} → 0 < d → Is (whole 0) 0 0 d
+is-nothing {d} h = rw (zero-mul d) at (is-whole 0 h)
+
+pub is-one : {d : ℕ} → 0 < d → Is (whole 1) d 0 d
+is-one {d} h = rw (one-mul d) at (is-whole 1 h)
 
 pub is-self : (f : Fraction) → Is f (f .up) (f .down) (den f)
 is-self f = record { cross = refl }

@@ -1,54 +1,43 @@
 -- What holds of the fourth roots, rounded down and up: each is one number, and they are at most one apart. Assumes nothing.
 use mathlib.Core.Path.{_≡_, sym}
 use mathlib.Core.Logic.{_↔_}
-use Prim.Native.Nat.{ℕ, suc, _+_, _*_, _/_, _≤_, _<_}
-use native.Mathlib.Nat.{mul-le-mul, le-of-lt, le-of-eq, lt-of-not-le, le-antisymm, le-trans, le-div-iff-mul-le}
+use Prim.Native.Nat.{ℕ, _+_, _*_, _/_, _^_, _≤_, _<_}
+use native.Mathlib.Nat.{le-of-lt, le-of-eq, lt-of-not-le, le-antisymm, le-trans, le-div-iff-mul-le}
 use native.Mathlib.Omega.{arith}
 use Rattle.laws.specs.Rounding.{ceil}
+use Rattle.laws.proofs.Roots.{powers-ordered, powers-strict}
 use Rattle.laws.proofs.Rounding.{ceil-least}
-use Rattle.numbers.specs.Root.{fourth, RootDown, RootUp}
+use Rattle.numbers.specs.Root.{RootDown, RootUp}
 
--- ---- fourth powers keep the order, and give it back
+within-of-fourth : {s t : ℕ} → s ^ 4 ≤ t ^ 4 → s ≤ t
+within-of-fourth {s} {t} = powers-ordered 3 s t .0
 
-pub fourth-rises : {s t : ℕ} → s ≤ t → fourth s ≤ fourth t
-unfolding fourth
-fourth-rises h = mul-le-mul (mul-le-mul h h) (mul-le-mul h h)
-
-pub fourth-rises-strictly : {s t : ℕ} → s < t → fourth s < fourth t
-unfolding fourth
-fourth-rises-strictly {s} {t} h = omega (arith, mul-le-mul (mul-le-mul h h) (mul-le-mul h h))
-
-pub below-of-fourth : {s t : ℕ} → fourth s < fourth t → s < t
-below-of-fourth h = lt-of-not-le (λ g. omega (arith, fourth-rises g))
-
-pub within-of-fourth : {s t : ℕ} → fourth s ≤ fourth t → s ≤ t
-within-of-fourth {s} {t} h =
-    let below : s < suc t = lt-of-not-le (λ g. omega (arith, fourth-rises-strictly g)) in
-    omega arith
+below-of-fourth : {s t : ℕ} → s ^ 4 < t ^ 4 → s < t
+below-of-fourth {s} {t} = powers-strict 3 s t .0
 
 -- ---- rounded down: n lies between the fourth powers of s and of the next number
 
-pub down-between : {n s : ℕ} → fourth s ≤ n → n < fourth (s + 1) → RootDown n s
+pub down-between : {n s : ℕ} → s ^ 4 ≤ n → n < (s + 1) ^ 4 → RootDown n s
 down-between {n} {s} low high =
     record { within = low; greatest = λ t h. let below : t < s + 1 = below-of-fourth (omega arith) in omega arith }
 
-pub below-next : {n s : ℕ} → RootDown n s → n < fourth (s + 1)
+pub below-next : {n s : ℕ} → RootDown n s → n < (s + 1) ^ 4
 below-next {n} {s} p = lt-of-not-le (λ g. omega (arith, p .greatest (s + 1) g))
 
 pub down-unique : {n s t : ℕ} → RootDown n s → RootDown n t → s ≡ t
 down-unique {n} {s} {t} p q = le-antisymm (q .greatest s (p .within)) (p .greatest t (q .within))
 
-pub down-at-most : {n s : ℕ} (k : ℕ) → n ≤ fourth k → RootDown n s → s ≤ k
+pub down-at-most : {n s : ℕ} (k : ℕ) → n ≤ k ^ 4 → RootDown n s → s ≤ k
 down-at-most k h p = within-of-fourth (le-trans (p .within) h)
 
 -- ---- rounded up: the root rounded down where that is exact, and else the next number
 
-pub up-exact : {n s : ℕ} → fourth s ≡ n → RootUp n s
+pub up-exact : {n s : ℕ} → s ^ 4 ≡ n → RootUp n s
 up-exact {n} {s} e = record { reaches = omega arith; least = λ t h. within-of-fourth (omega arith) }
 
-pub up-next : {n s : ℕ} → RootDown n s → (fourth s ≡ n → ⊥) → RootUp n (s + 1)
+pub up-next : {n s : ℕ} → RootDown n s → (s ^ 4 ≡ n → ⊥) → RootUp n (s + 1)
 up-next {n} {s} p e =
-    let low : fourth s < n = omega (arith, p .within) in
+    let low : s ^ 4 < n = omega (arith, p .within) in
     record {
       reaches = le-of-lt (below-next p);
       least = λ t h. let above : s < t = below-of-fourth (omega arith) in omega arith;
@@ -57,7 +46,7 @@ up-next {n} {s} p e =
 pub up-unique : {n s t : ℕ} → RootUp n s → RootUp n t → s ≡ t
 up-unique {n} {s} {t} p q = le-antisymm (p .least t (q .reaches)) (q .least s (p .reaches))
 
-pub up-at-most : {n s : ℕ} (k : ℕ) → n ≤ fourth k → RootUp n s → s ≤ k
+pub up-at-most : {n s : ℕ} (k : ℕ) → n ≤ k ^ 4 → RootUp n s → s ≤ k
 up-at-most k h p = p .least k h
 
 -- ---- both
@@ -70,7 +59,7 @@ module _ {n s t : ℕ} (p : RootDown n s) (q : RootUp n t) where
   roots-near = q .least (s + 1) (le-of-lt (below-next p))
 
   -- they meet exactly where n is a fourth power
-  pub roots-meet : (s ≡ t) ↔ ((k : ℕ) × (fourth k ≡ n))
+  pub roots-meet : (s ≡ t) ↔ ((k : ℕ) × (k ^ 4 ≡ n))
   roots-meet = (
     λ e. (s, le-antisymm (p .within) (rw e (q .reaches))),
     λ f. le-antisymm roots-ordered (le-trans (q .least (f .0) (le-of-eq (sym (f .1)))) (p .greatest (f .0) (le-of-eq (f .1)))),
@@ -78,9 +67,9 @@ module _ {n s t : ℕ} (p : RootDown n s) (q : RootUp n t) where
 
 -- ---- the roots of a fraction n/d are those of its quotient, rounded the same way
 
-pub down-of-fraction : {n d s : ℕ} → 0 < d → RootDown (n / d) s → (fourth s * d ≤ n) × ((t : ℕ) → fourth t * d ≤ n → t ≤ s)
+pub down-of-fraction : {n d s : ℕ} → 0 < d → RootDown (n / d) s → (s ^ 4 * d ≤ n) × ((t : ℕ) → t ^ 4 * d ≤ n → t ≤ s)
 down-of-fraction hd p = (le-div-iff-mul-le hd .0 (p .within), λ t h. p .greatest t (le-div-iff-mul-le hd .1 h))
 
-pub up-of-fraction : (n : ℕ) {d s : ℕ} → 0 < d → RootUp (ceil n d) s → (n ≤ fourth s * d) × ((t : ℕ) → n ≤ fourth t * d → s ≤ t)
+pub up-of-fraction : (n : ℕ) {d s : ℕ} → 0 < d → RootUp (ceil n d) s → (n ≤ s ^ 4 * d) × ((t : ℕ) → n ≤ t ^ 4 * d → s ≤ t)
 up-of-fraction n {d} {s} hd p =
-    (ceil-least n d (fourth s) hd .0 (p .reaches), λ t h. p .least t (ceil-least n d (fourth t) hd .1 h))
+    (ceil-least n d (s ^ 4) hd .0 (p .reaches), λ t h. p .least t (ceil-least n d (t ^ 4) hd .1 h))

@@ -6,31 +6,31 @@ use native.Mathlib.Nat.{pow-suc}
 use native.Mathlib.Omega.{arith}
 use borrow.Author.Tests.{leb-true, leb-false, eqb-true, eqb-false}
 use lib.Dec.{leb, eqb}
-use Rattle.numbers.specs.Root.{fourth, RootDown, RootUp, withDigits, rootDown, rootUp}
+use Rattle.numbers.specs.Root.{RootDown, RootUp, withDigits, rootDown, rootUp}
 use Rattle.numbers.proofs.Root.{down-between, up-exact, up-next, down-unique, up-unique}
 
-digits-root : (n k s : ℕ) → fourth s ≤ n → n < fourth (s + 2 ^ k) → RootDown n (withDigits n k s)
+digits-root : (n k s : ℕ) → s ^ 4 ≤ n → n < (s + 2 ^ k) ^ 4 → RootDown n (withDigits n k s)
 unfolding withDigits
 digits-root n zero s low high = down-between low high
-digits-root n (suc k) s low high = chosen (λ t. digits-root n k t) (leb (fourth (s + 2 ^ k)) n) refl
+digits-root n (suc k) s low high = chosen (λ t. digits-root n k t) (leb ((s + 2 ^ k) ^ 4) n) refl
   where
     twice : s + 2 ^ suc k ≡ s + 2 ^ k + 2 ^ k
     twice = omega (arith, pow-suc 2 k)
 
-    chosen : ((t : ℕ) → fourth t ≤ n → n < fourth (t + 2 ^ k) → RootDown n (withDigits n k t))
-        → (b : Bool) → leb (fourth (s + 2 ^ k)) n ≡ b → RootDown n (withDigits n k (cond b (s + 2 ^ k) s))
+    chosen : ((t : ℕ) → t ^ 4 ≤ n → n < (t + 2 ^ k) ^ 4 → RootDown n (withDigits n k t))
+        → (b : Bool) → leb ((s + 2 ^ k) ^ 4) n ≡ b → RootDown n (withDigits n k (cond b (s + 2 ^ k) s))
     chosen rest true e = rest (s + 2 ^ k) (leb-true _ _ e) (rw twice at high)
     chosen rest false e = rest s low (leb-false _ _ e)
 
 pub down-root : (n : ℕ) → n < 2 ^ 56 → RootDown n (rootDown n)
-unfolding rootDown fourth
+unfolding rootDown
 down-root n h = digits-root n 14 0 (omega arith) (omega arith)
 
 pub up-root : (n : ℕ) → n < 2 ^ 56 → RootUp n (rootUp n)
 unfolding rootUp
-up-root n h = chosen (eqb (fourth (rootDown n)) n) refl
+up-root n h = chosen (eqb (rootDown n ^ 4) n) refl
   where
-    chosen : (b : Bool) → eqb (fourth (rootDown n)) n ≡ b → RootUp n (cond b (rootDown n) (rootDown n + 1))
+    chosen : (b : Bool) → eqb (rootDown n ^ 4) n ≡ b → RootUp n (cond b (rootDown n) (rootDown n + 1))
     chosen true e = up-exact (eqb-true _ _ e)
     chosen false e = up-next (down-root n h) (eqb-false _ _ e)
 

@@ -4,7 +4,7 @@ use Prim.Native.Nat.{ℕ, _/_, _^_}
 use Rattle.laws.specs.Rounding.{ceil}
 use Rattle.records.specs.declared.Ends.{Ends}
 use Rattle.numbers.specs.Figures.{billionthsOf, halvesOf, portionOf}
-use Rattle.numbers.specs.Root.{fourth, withDigits, rootDown, rootUp}
+use Rattle.numbers.specs.Root.{withDigits, rootDown, rootUp}
 
 abbrev ends : ℕ → ℕ → Ends
 ends lower upper = record { lower = lower; upper = upper }
@@ -37,5 +37,5 @@ pub roots :
     × (rootUp (10 ^ 16 / 10000) ≡ 1000)
     × (rootDown 0 ≡ 0)
     × (rootUp 0 ≡ 0)
-unfolding rootDown rootUp withDigits fourth
+unfolding rootDown rootUp withDigits
 roots = (refl, refl, refl, refl, refl, refl, refl, refl)

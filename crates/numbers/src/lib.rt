@@ -5,7 +5,7 @@ ghost use Prim.Native.Nat.{_*_, _^_, _≤_, _<_};
 ghost use Rattle.laws.specs.Rounding.{ceil};
 ghost use Rattle.numbers.specs.Division.{Division, Carries, dividend};
 ghost use Rattle.numbers.specs.Figures.{Proper, billionthsOf, portionOf, halvesOf};
-ghost use Rattle.numbers.specs.Root.{fourth, RootDown, RootUp};
+ghost use Rattle.numbers.specs.Root.{RootDown, RootUp};
 
 // The largest number that 64 bits hold.
 const LARGEST: u64 = 18_446_744_073_709_551_615;
@@ -120,7 +120,7 @@ pub fn halves(g: Ends) -> Ends
 
 fn fourth_power(s: u64) -> u64
     requires { ⌜ s < 2 ^ 16 ⌝ }
-    ensures { λ r. ⌜ r ≡ fourth s ⌝ }
+    ensures { λ r. ⌜ r ≡ s ^ 4 ⌝ }
 {
     let square = s * s;
     square * square

@@ -5,7 +5,7 @@ use native.Mathlib.Nat.{add-zero, le-trans}
 use native.Mathlib.Numerals.{add-one}
 use native.Mathlib.Omega.{arith}
 use Rattle.laws.specs.Sums.{sumBelow}
-use Rattle.laws.proofs.Sums.{sumBelow-same, sumBelow-add, place-not-above}
+use Rattle.laws.proofs.Sums.{sumBelow-same, sumBelow-add, sumBelow-zero, place-not-above}
 use Rattle.solas.specs.Count.{added, taken, groups}
 
 module _ (F : ℕ → ℕ → ℕ) where
@@ -74,6 +74,10 @@ groups-add f g m =
     sumBelow-same (λ i. sumBelow (λ j. f (suc i) (suc j) + g (suc i) (suc j)) (m - i)) (λ i. sumBelow (λ j. f (suc i) (suc j)) (m - i) + sumBelow (λ j. g (suc i) (suc j)) (m - i)) m
     (λ i p. sumBelow-add (λ j. f (suc i) (suc j)) (λ j. g (suc i) (suc j)) (m - i))
     ∙ sumBelow-add (λ i. sumBelow (λ j. f (suc i) (suc j)) (m - i)) (λ i. sumBelow (λ j. g (suc i) (suc j)) (m - i)) m
+
+pub groups-nothing : (m : ℕ) → groups (λ a n. 0) m ≡ 0
+unfolding groups
+groups-nothing m = sumBelow-zero (λ i. sumBelow (λ j. 0) (m - i)) m .1 (λ i p. sumBelow-zero (λ j. 0) (m - i) .1 (λ j q. refl))
 
 pub group-not-above : (f : ℕ → ℕ → ℕ) (m i j : ℕ) → suc i + suc j ≤ m + 1 → f (suc i) (suc j) ≤ groups f m
 unfolding groups

@@ -4,12 +4,13 @@ use mathlib.Core.Path.{_≡_, refl, ap, sym, _∙_}
 use native.Mathlib.Nat.{le-refl}
 use native.Mathlib.Omega.{arith}
 use Rattle.solas.specs.Ship.{Ship, Sound}
-use Rattle.solas.specs.General.{Law, Layer, Falling, Rising, inSpan, common, law, layer, unit}
-use Rattle.solas.specs.Count.{added, taken, groups, Group}
-use Rattle.solas.proofs.Count.{counted-once, excess-not-above}
-use Rattle.solas.proofs.Ship.{aft-next, fwd-next, aft-rises, fwd-rises, span, ends-within}
+use Rattle.solas.specs.General.{inSpan, law, layer}
+use Rattle.solas.specs.Count.{added, taken, Group}
+use Rattle.solas.proofs.Count.{excess-not-above}
+use Rattle.solas.proofs.Ship.{aft-next, fwd-next, ends-within}
 use Rattle.solas.proofs.GeneralSpan.{group-share-not-negative, pair-share-not-negative, whole-ship-at-most-one, whole-ship-one}
-use Rattle.solas.proofs.Figure.{figure, over}
+use Rattle.solas.proofs.Figure.{figure, over, falls, rises}
+use Rattle.solas.proofs.Depth.{no-cut, no-chance, c-one}
 
 module _ (s : Ship) (h : Sound s) (b′ b : ℕ) where
   pub taken-not-above : (a n : ℕ) → Group s a n → taken (figure s b′ b) a n ≤ added (figure s b′ b) a n
@@ -31,15 +32,22 @@ module _ (s : Ship) (h : Sound s) (b′ b : ℕ) where
   figure-of-ship : figure s b′ b 1 (s .m) ≡ inSpan (law (s .L) (s .B)) (layer (s .L) (s .B) b′ b) (s .L) 0 (s .L)
   figure-of-ship = rw (h .stern, h .bow) refl
 
-  pub ship-not-above : Falling (law (s .L) (s .B)) → Rising (law (s .L) (s .B)) (layer (s .L) (s .B) b′ b) → figure s b′ b 1 (s .m) ≤ over s
-  unfolding layer
-  ship-not-above f r = rw figure-of-ship (whole-ship-at-most-one (law (s .L) (s .B)) (layer (s .L) (s .B) b′ b) (s .L) f r)
+  module _ (q : b′ ≤ b) (p : 2 * b ≤ s .B) where
+    pub ship-not-above : figure s b′ b 1 (s .m) ≤ over s
+    unfolding layer
+    ship-not-above = rw figure-of-ship (whole-ship-at-most-one (law (s .L) (s .B)) (layer (s .L) (s .B) b′ b) (s .L) (falls s h) (rises s h b′ b q p))
 
-  pub added-not-above : Falling (law (s .L) (s .B)) → Rising (law (s .L) (s .B)) (layer (s .L) (s .B) b′ b) →
-      (a n : ℕ) → Group s a n → added (figure s b′ b) a n ≤ taken (figure s b′ b) a n + over s
-  added-not-above f r a n g =
-      omega (
-        arith,
-        ship-not-above f r,
-        excess-not-above (figure s b′ b) (s .m) (h .some) (λ a n x y z. taken-not-above a n (record { from = x; some = y; fits = z })) a n (g .from) (g .some) (g .fits),
-      )
+    pub added-not-above : (a n : ℕ) → Group s a n → added (figure s b′ b) a n ≤ taken (figure s b′ b) a n + over s
+    added-not-above a n g =
+        omega (
+          arith,
+          ship-not-above,
+          excess-not-above (figure s b′ b) (s .m) (h .some) (λ a n x y z. taken-not-above a n (record { from = x; some = y; fits = z })) a n (g .from) (g .some) (g .fits),
+        )
+
+-- at the half breadth the whole ship is one
+pub ship-is-one : (s : Ship) (h : Sound s) (b : ℕ) → 2 * b ≡ s .B → figure s 0 b 1 (s .m) ≡ over s
+unfolding layer
+ship-is-one s h b e =
+    figure-of-ship s h 0 b
+    ∙ whole-ship-one (law (s .L) (s .B)) (layer (s .L) (s .B) 0 b) (s .L) (falls s h) (rises s h 0 b (omega arith) (omega arith)) (no-cut (s .L) (s .B) b) (no-chance (s .L) (s .B) b) (c-one (s .B) b e)

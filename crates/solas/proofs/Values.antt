@@ -7,9 +7,9 @@ use Rattle.solas.specs.Span.{touch, p, P}
 use Rattle.solas.specs.Penetration.{C, G1, G3, G, Q}
 use Rattle.solas.specs.Ship.{Ship, abutting}
 use Rattle.solas.specs.Share.{within, share, rowShare}
-use Rattle.solas.specs.Height.{v}
+use Rattle.solas.specs.Height.{v, top}
 use Rattle.solas.specs.Survival.{k, s⁴}
-use Rattle.solas.specs.Index.{R}
+use Rattle.solas.specs.Index.{dp, draughts, R}
 
 -- the hull of "One file in full": two zones that meet at 1,500
 printed : Ship
@@ -65,3 +65,38 @@ R-8000 = record { cross = refl }
 R-10000 : R 10000 ≈ 31 over 63
 unfolding R _less_over_
 R-10000 = record { cross = refl }
+
+-- survival, by its fourth power: 5,000 ten-thousandths; a lever and a range above their caps; half of the heel's limits; at the limit
+s⁴-half : s⁴ 30 400 0 ≈ 1 over 16
+unfolding s⁴ k _⊛_ _less_over_
+s⁴-half = record { cross = refl }
+
+s⁴-capped : s⁴ 240 3200 2500 ≈ whole 1
+unfolding s⁴ k _⊛_ _less_over_
+s⁴-capped = record { cross = refl }
+
+s⁴-heeled : s⁴ 120 1600 2750 ≈ 1 over 4
+unfolding s⁴ k _⊛_ _less_over_
+s⁴-heeled = record { cross = refl }
+
+s⁴-tenth : s⁴ 120 1600 2995 ≈ 1 over 10000
+unfolding s⁴ k _⊛_ _less_over_
+s⁴-tenth = record { cross = refl }
+
+s⁴-lost : s⁴ 120 1600 3000 ≈ whole 0
+unfolding s⁴ k _⊛_ _less_over_
+s⁴-lost = record { cross = refl }
+
+-- a pair's share at a lesser depth: every span at that depth
+share-at-160 : share printed 1 2 160 ≈ within printed 1 2 160 ⊝ within printed 1 1 160 ⊝ within printed 2 2 160
+unfolding printed share within Q P G touch C G1 G3 p _⊹_ _⊝_ _⊛_ _less_over_
+share-at-160 = record { cross = refl }
+
+-- the three draughts, in the order deepest, partial, light
+draughts-in-order : draughts 6000 4000 ≡ 6000 ∷ 5200 ∷ 4000 ∷ []
+unfolding dp
+draughts-in-order = refl
+
+-- a layer's top
+top-6000 : top 6000 ≡ 18500
+top-6000 = refl

@@ -45,16 +45,3 @@ pub record CountsOnce (s : Ship) (u w : ℕ) : Type 0 where
 -- ONE HOLE: every hole in the side of every sound ship
 abbrev pub OneHole : Type 0
 OneHole = (s : Ship) → Sound s → (u w : ℕ) → u < w → w ≤ s .L → CountsOnce s u w
-
--- ---- two slips: the middle span left out at three and more zones; the group's first zone put back at two
-unfoldable pub middle : (ℕ → ℕ → ℕ) → ℕ → ℕ → ℕ
-middle F a zero = 0
-middle F a (suc zero) = 0
-middle F a (suc (suc zero)) = 0
-middle F a (suc (suc (suc k))) = F (a + 1) (a + k + 1)
-
-unfoldable pub putBack : (ℕ → ℕ → ℕ) → ℕ → ℕ → ℕ
-putBack F a zero = 0
-putBack F a (suc zero) = 0
-putBack F a (suc (suc zero)) = F a a
-putBack F a (suc (suc (suc k))) = 0

@@ -5,7 +5,12 @@ pub mod Share
 pub mod Height
 pub mod Survival
 pub mod Index
+pub mod Layers
+pub mod RegulationIndex
+pub mod OfSolasIndex
 pub mod General
 pub mod Total
 pub mod Count
 pub mod Promises
+pub mod Regulation
+pub mod OfSolas

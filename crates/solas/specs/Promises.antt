@@ -2,12 +2,12 @@
 use Prim.Native.Nat.{ℕ, _*_, _≤_, _<_}
 use mathlib.Core.Path.{_≡_}
 use mathlib.Core.List.{List, _∷_}
-use Rattle.laws.specs.Fraction.{Fraction, whole, _≈_, _≼_, total}
+use Rattle.laws.specs.Fraction.{Fraction, whole, _≈_, _≼_, _≺_, _⊹_, total}
 use Rattle.laws.specs.Sums.{last, Linked}
 use Rattle.solas.specs.Ship.{Ship, Sound}
 use Rattle.solas.specs.Share.{within, share, rowShare, layerShares}
 use Rattle.solas.specs.Count.{Group}
-use Rattle.solas.specs.Total.{allShares}
+use Rattle.solas.specs.Total.{overGroups, allShares, middleSpan, allWithoutMiddle, firstOfPair, allWithZoneBack}
 
 -- every row's share, for every ship, group and pair of layers
 abbrev pub NoShareNegative : Type 0
@@ -30,3 +30,17 @@ TotalIsOne = (s : Ship) → Sound s → (b : ℕ) → 2 * b ≡ s .B → allShar
 abbrev pub LayersClose : Type 0
 LayersClose = (s : Ship) → Sound s → (a n : ℕ) → Group s a n → (b : ℕ) (bs : List ℕ) → Linked _<_ 0 (b ∷ bs) → 2 * last 0 (b ∷ bs) ≡ s .B →
     total (layerShares s a n 0 (b ∷ bs)) ≈ share s a n (last 0 (b ∷ bs))
+
+-- the middle spans left out at three and more zones: just they are lost, so the total falls short unless they are all 0
+abbrev pub MiddleLost : Type 0
+MiddleLost = (s : Ship) → Sound s → (b : ℕ) → 2 * b ≤ s .B → allWithoutMiddle s b ⊹ overGroups (λ a n. middleSpan s a n b) (s .m) ≈ within s 1 (s .m) b
+
+abbrev pub MiddleMissed : Type 0
+MiddleMissed = (s : Ship) → Sound s → (b : ℕ) → 2 * b ≡ s .B → whole 0 ≺ overGroups (λ a n. middleSpan s a n b) (s .m) → allWithoutMiddle s b ≺ whole 1
+
+-- a zone put back at two zones: just that is gained, so the total is too great unless those zones are all 0
+abbrev pub ZoneGained : Type 0
+ZoneGained = (s : Ship) → Sound s → (b : ℕ) → 2 * b ≤ s .B → allWithZoneBack s b ≈ within s 1 (s .m) b ⊹ overGroups (λ a n. firstOfPair s a n b) (s .m)
+
+abbrev pub ZoneTooMuch : Type 0
+ZoneTooMuch = (s : Ship) → Sound s → (b : ℕ) → 2 * b ≡ s .B → whole 0 ≺ overGroups (λ a n. firstOfPair s a n b) (s .m) → whole 1 ≺ allWithZoneBack s b

@@ -1,21 +1,19 @@
 -- `numbers::root_down` meets its contract: n stays between the fourth powers of `low` and `high`, which close in on each other. Assumes nothing.
 use borrow.Author.Needs.{needs}
 use mathlib.Core.Path.{_≡_}
-use Prim.Native.Nat.{_+_, _-_, _≤_, _<_}
+use Prim.Native.Nat.{_+_, _-_, _^_, _≤_, _<_}
 use native.Mathlib.Omega.{arith}
-use Rattle.numbers.specs.Root.{fourth}
 use Rattle.numbers.proofs.Root.{down-between}
 use Rattle.numbers.proofs.root_down.Statement.{statement}
 use Rattle.numbers.proofs.root_down.Tie as tie
 
 abbrev Inv-loop : tie.InvT-loop
-Inv-loop n low₀ high₀ low high = (low < high) × (high ≤ 10001) × (fourth low ≤ n) × (n < fourth high)
+Inv-loop n low₀ high₀ low high = (low < high) × (high ≤ 10001) × (low ^ 4 ≤ n) × (n < high ^ 4)
 
 abbrev μ-loop : tie.MeasureT-loop
 μ-loop n low₀ high₀ low high = high - low
 
 loop-holds : tie.Need-loop-holds Inv-loop μ-loop
-unfolding fourth
 loop-holds c = search needs
 
 add-loop : tie.Need-add-loop Inv-loop μ-loop

@@ -2,7 +2,6 @@
 use borrow.Author.Needs.{needs}
 use mathlib.Core.Path.{_≡_, sym, _∙_}
 use native.Mathlib.Omega.{arith}
-use Rattle.numbers.specs.Root.{fourth}
 use Rattle.numbers.proofs.Root.{up-exact, up-next, up-at-most}
 use Rattle.numbers.proofs.root_up.Statement.{statement}
 use Rattle.numbers.proofs.root_up.Tie as tie
@@ -20,7 +19,6 @@ returns : tie.Need-returns
 returns c = (up-exact (sym (c .before .fourth-power .ensures) ∙ c .if1 .taken), omega arith)
 
 returns-2 : tie.Need-returns-2
-unfolding fourth
 returns-2 c =
     let p = up-next (c .before .before .root-down .ensures .0) (λ e. c .if1 .left (c .before .fourth-power .ensures ∙ e)) in
     (p, up-at-most 10000 (omega arith) p)

@@ -1,0 +1,129 @@
+-- Boundaries: document 01's v and that of a row are those of 002, 2.7.7, up to 12.5 m above the draught; and where the two part. Assumes nothing.
+use Prim.Native.Nat.{ℕ, _+_, _-_, _*_, _≤_, _<_, min}
+use mathlib.Core.Path.{_≡_, refl}
+use native.Mathlib.Omega.{arith}
+use lib.Dec.{lit<}
+use Rattle.laws.specs.Fraction.{Fraction, _less_over_, _over_, whole, Is, _≺_, _⊹_, _⊝_, _⊛_, _⊘_}
+use Rattle.laws.proofs.Fraction.{is-over, is-whole, is-⊹, is-⊝, is-⊛, is-⊘, is-shifted, is-widened, is-narrowed, same, below, strictly-below}
+use Rattle.solas.specs.Height.{v, vAt, rowV}
+use Rattle.solas.specs.RegulationIndex as regulation
+use Rattle.solas.specs.RegulationIndex.{_≼?_, millimetres, none, at, uppermost, counted, vOf, held, vm}
+use Rattle.solas.specs.OfSolasIndex.{HeightIs01's, PartedAbove, UppermostParts, RowIs01's, LastRowIs01's}
+use Rattle.solas.proofs.Quotients.{split, is-written, is-millimetres, test-passes, test-fails}
+use Rattle.solas.proofs.Height.{v-slopes, vAt-full, vAt-top, vAt-waterline, vAt-at-most}
+
+-- document 01's parts
+in-parts : (n : ℕ) → Is (n over 916500) n 0 916500
+in-parts n = is-over n {d = 916500} (lit< tt)
+
+is-full : Is (whole 1) 916500 0 916500
+is-full = is-whole 1 {d = 916500} (lit< tt)
+
+-- ---- 2.7.7.2 in these parts, up to the knuckle at 7.8 m above the draught and beyond it
+is-above : (H d : ℕ) → Is (millimetres H ⊝ millimetres d) H d 1000
+is-above H d = is-written (is-⊝ (is-millimetres H) (is-millimetres d)) (omega arith) (omega arith) refl
+
+is-knuckle : Is (78 over 10) 7800 0 1000
+is-knuckle = is-widened 100 (is-over 78 {d = 10} (lit< tt))
+
+is-v-low : (H d : ℕ) → H ≤ d + 7800 → Is (regulation.v (millimetres H) (millimetres d)) (94 * H) (94 * d) 916500
+unfolding regulation.v
+is-v-low H d p =
+    let low = test-passes (below {d = 1000} (lit< tt) (is-above H d) is-knuckle (omega arith)) in
+    let slope = is-⊛ (is-over 8 {d = 10} (lit< tt)) (is-⊘ {c = 7800} (lit< tt) (is-above H d) is-knuckle) in
+    rw low (is-widened 94 (is-narrowed 8000 H d 9750 (lit< tt) (is-written slope (omega arith) (omega arith) refl)))
+
+is-v-high : (H d : ℕ) → d + 7800 < H → Is (regulation.v (millimetres H) (millimetres d)) (733200 + 39 * H) (39 * (d + 7800)) 916500
+unfolding regulation.v
+is-v-high H d p =
+    let high = test-fails (strictly-below is-knuckle (is-above H d) (omega arith)) in
+    let slope = is-⊛ (is-over 2 {d = 10} (lit< tt)) (is-⊘ {c = 47} (lit< tt) (is-⊝ (is-above H d) is-knuckle) (is-over 47 {d = 10} (lit< tt))) in
+    rw high
+    (is-written
+    (is-⊹ (is-widened 91650 (is-over 8 {d = 10} (lit< tt))) (is-widened 39 (is-narrowed 20 H (d + 7800) 23500 (lit< tt) (is-written slope (omega arith) (omega arith) refl)))) refl (omega arith) refl)
+
+is-vAt : (H d : ℕ) → d ≤ H → H ≤ d + 12500 → Is (regulation.v (millimetres H) (millimetres d)) (vAt H d) 0 916500
+unfolding vAt
+is-vAt H d p q =
+    split H (d + 7800) (λ low. is-shifted (v (H - d)) 0 (omega (arith, v-slopes (H - d))) (is-v-low H d low))
+    (λ high. is-shifted (v (H - d)) 0 (omega (arith, v-slopes (H - d))) (is-v-high H d high))
+
+pub height-is-01's : HeightIs01's
+height-is-01's H d p q = same (lit< tt) (is-vAt H d p q) (in-parts (vAt H d))
+
+-- ---- where they part
+rises : {H K : ℕ} (d : ℕ) → H < K → regulation.v (millimetres H) (millimetres d) ≺ regulation.v (millimetres K) (millimetres d)
+rises {H} {K} d p =
+    split K (d + 7800) (λ low. strictly-below (is-v-low H d (omega arith)) (is-v-low K d low) (omega arith))
+    (λ high. split H (d + 7800) (λ low. strictly-below (is-v-low H d low) (is-v-high K d high) (omega arith)) (λ high′. strictly-below (is-v-high H d high′) (is-v-high K d high) (omega arith)))
+
+pub parted-above : PartedAbove
+parted-above H d p =
+    record { uncapped = strictly-below is-full (is-v-high H d (omega arith)) (omega arith); rising = λ K. rises d; capped = vAt-full d (omega arith) }
+
+is-uppermost : (H d : ℕ) → Is (vOf (uppermost (millimetres H)) (millimetres d)) 916500 0 916500
+unfolding vOf
+is-uppermost H d = is-full
+
+vAt-short : {H : ℕ} (d : ℕ) → H < d + 12500 → vAt H d < 916500
+unfolding vAt
+vAt-short {H} d p = omega (arith, v-slopes (H - d))
+
+pub uppermost-parts : UppermostParts
+uppermost-parts H d = record {
+  any-height = same (lit< tt) (is-uppermost H d) is-full;
+  too-low = vAt-short d;
+  high = λ p. same (lit< tt) (is-uppermost H d) (rw (vAt-full d p) (in-parts 916500));
+}
+
+-- ---- 2.7.7.1
+is-held : {f : Fraction} {a b d : ℕ} → 0 < d → Is f a b d → Is (held f) (min (a - b) d) 0 d
+unfolding held
+is-held {f} {a} {b} {d} p h = split a b nothing (λ l. split a (b + d) (inside l) (beyond l))
+  where
+    nothing : a ≤ b → Is (held f) (min (a - b) d) 0 d
+    nothing l = rw (test-passes (below p h (is-whole 0 {d = d} p) (omega arith))) (is-written (is-whole 0 {d = d} p) (omega arith) refl refl)
+
+    inside : b < a → a ≤ b + d → Is (held f) (min (a - b) d) 0 d
+    inside l m =
+        rw (test-fails (strictly-below (is-whole 0 {d = d} p) h (omega arith)), test-passes (below p h (is-whole 1 {d = d} p) (omega arith)))
+        (is-shifted (min (a - b) d) 0 (omega arith) h)
+
+    beyond : b < a → b + d < a → Is (held f) (min (a - b) d) 0 d
+    beyond l m =
+        rw (test-fails (strictly-below (is-whole 0 {d = d} p) h (omega arith)), test-fails (strictly-below (is-whole 1 {d = d} p) h (omega arith)))
+        (is-written (is-whole 1 {d = d} p) (omega arith) refl refl)
+
+pub not-above-none : {H d : ℕ} → H ≤ d → counted (millimetres H) (millimetres d) ≡ none
+unfolding counted
+not-above-none {H} {d} l = rw (test-passes (below {d = 1000} (lit< tt) (is-millimetres H) (is-millimetres d) (omega arith))) refl
+
+pub above-counts : {H d : ℕ} → d < H → counted (millimetres H) (millimetres d) ≡ at (millimetres H)
+unfolding counted
+above-counts {H} {d} l = rw (test-fails (strictly-below (is-millimetres d) (is-millimetres H) (omega arith))) refl
+
+is-counted : (H d : ℕ) → H ≤ d + 12500 → Is (vOf (counted (millimetres H) (millimetres d)) (millimetres d)) (vAt H d) 0 916500
+unfolding vOf
+is-counted H d p =
+    split H d (λ l. rw (not-above-none l, vAt-waterline l) (is-whole 0 {d = 916500} (lit< tt))) (λ l. rw (above-counts l) (is-vAt H d (omega arith) p))
+
+pub row-is-01's : RowIs01's
+unfolding vm rowV
+row-is-01's H′ H d p q =
+    same (lit< tt) (is-written (is-held (lit< tt) (is-⊝ (is-counted H d q) (is-counted H′ d (omega arith)))) (omega (arith, vAt-at-most H d)) refl refl)
+    (in-parts (vAt H d - vAt H′ d))
+
+-- where the regulation's v is above 1 below the last row, it is held at 0 there, and document 01 has nothing left
+pub last-row-is-01's : LastRowIs01's
+unfolding vm rowV vOf
+last-row-is-01's ds d H′ H p q =
+    same (lit< tt)
+    (rw (vAt-top {ds = ds} {H = H} {d = d} q p)
+    (split H′ (d + 12500) (λ l. is-written (is-held (lit< tt) (is-⊝ (is-uppermost H d) (is-counted H′ d l))) (omega arith) refl refl)
+    (λ l. rw (above-counts {H = H′} {d = d} (omega arith), vAt-full {H = H′} d (omega arith))
+    (is-written (is-held (lit< tt) (is-⊝ (is-uppermost H d) (is-v-high H′ d (omega arith)))) (omega arith) refl refl)))) (in-parts (vAt H d - vAt H′ d))
+
+-- what the cap is for: without it boundaries 12 and 14 m above the waterline and the uppermost would share more than the whole
+pub uncapped-shares-too-much : whole 1 ≺ vm none (at (whole 12)) (whole 0) ⊹ vm (at (whole 12)) (at (whole 14)) (whole 0) ⊹ vm (at (whole 14)) (uppermost (whole 15)) (whole 0)
+unfolding vm held vOf regulation.v _≼?_ _⊹_ _⊝_ _⊛_ _⊘_ _less_over_
+uncapped-shares-too-much = record { cross = lit< tt }

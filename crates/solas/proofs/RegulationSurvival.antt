@@ -1,0 +1,148 @@
+-- Survival is that of the regulation: document 01's s⁴ is the fourth power of whatever 002, 2.7.3, gives for s. Assumes nothing.
+use Prim.Native.Nat.{ℕ, _-_, _*_, _^_, _≤_, _<_, min}
+use mathlib.Core.Path.{refl}
+use native.Mathlib.Omega.{arith}
+use lib.Dec.{lit<}
+use Rattle.laws.specs.Fraction.{Fraction, _less_over_, _over_, whole, Is, _≈_, _⊝_, _⊛_, _⊘_}
+use Rattle.laws.proofs.Fraction.{is-over, is-whole, is-widened, is-narrowed, is-shifted, is-⊝, is-⊛, is-⊘, same, below, strictly-below, ≈-refl, ≈-sym, ≈-trans, ⊛-≈}
+use Rattle.solas.specs.Survival.{s⁴}
+use Rattle.solas.specs.RegulationIndex.{_≼?_, millimetres, hundredths, θmin, θmax, lesser, underRoot, Numbers, square, fourth, Final}
+use Rattle.solas.specs.OfSolasIndex.{SurvivalIs01's}
+use Rattle.solas.proofs.Quotients.{split, is-written, pow-two, is-millimetres, is-hundredths, test-passes, test-fails, ⊛-comm, ⊛-assoc}
+use Rattle.solas.proofs.Survival.{is-s⁴}
+
+-- ---- powers of products
+module _ (N : Numbers) where
+  infix 4 _≐_
+  infixl 7 _·_
+  open Numbers N using (Number, _≐_, _·_, fraction, same-refl, same-sym, same-trans, same-product, commutes, associates, fraction-product)
+
+  square-product : (a b : Number) → square N (a · b) ≐ square N a · square N b
+  square-product a b =
+      let inner : b · (a · b) ≐ a · (b · b) = same-trans (commutes b (a · b)) (associates a b b) in
+      same-trans (associates a b (a · b)) (same-trans (same-product (same-refl a) inner) (same-sym (associates a a (b · b))))
+
+  square-same : {a b : Number} → a ≐ b → square N a ≐ square N b
+  square-same p = same-product p p
+
+  fourth-product : (a b : Number) → fourth N (a · b) ≐ fourth N a · fourth N b
+  fourth-product a b = same-trans (square-same (square-product a b)) (square-product (square N a) (square N b))
+
+  square-fraction : {a : Number} {f : Fraction} → a ≐ fraction f → square N a ≐ fraction (f ⊛ f)
+  square-fraction {f = f} p = same-trans (square-same p) (same-sym (fraction-product f f))
+
+-- ---- what is under the roots
+is-lesser : {f g : Fraction} {a c d : ℕ} → 0 < d → Is f a 0 d → Is g c 0 d → Is (lesser f g) (min a c) 0 d
+unfolding lesser
+is-lesser {f} {g} {a} {c} {d} p h k =
+    split a c (λ l. rw (test-passes (below p h k (omega arith))) (is-written h (omega arith) refl refl))
+    (λ l. rw (test-fails (strictly-below k h (omega arith))) (is-written k (omega arith) refl refl))
+
+-- what f has of g, where it is not to be taken as more
+is-part : {f g : Fraction} {a c d : ℕ} → 0 < d → 0 < c → Is f a 0 d → Is g c 0 d → Is (lesser f g ⊘ g) (min a c) 0 c
+is-part {f} {g} {a} {c} {d} p q h k = is-narrowed d (min a c) 0 c p (is-written (is-⊘ q (is-lesser p h k) k) (omega arith) (omega arith) refl)
+
+is-under-root : (g t : ℕ) → Is (underRoot (millimetres g) (hundredths t)) (min g 120 * min t 1600) 0 (120 * 1600)
+is-under-root g t =
+    let lever = is-part {d = 1000} (lit< tt) (lit< tt) (is-millimetres g) (is-widened 10 (is-over 12 {d = 100} (lit< tt))) in
+    let range = is-part {d = 100} (lit< tt) (lit< tt) (is-hundredths t) (is-whole 16 {d = 100} (lit< tt)) in
+    is-written (is-⊛ lever range) (omega arith) (omega arith) refl
+
+is-θmin : Is θmin 2500 0 100
+is-θmin = is-whole 25 {d = 100} (lit< tt)
+
+is-θmax : Is θmax 3000 0 100
+is-θmax = is-whole 30 {d = 100} (lit< tt)
+
+is-heel : {e : ℕ} → e ≤ 3000 → Is ((θmax ⊝ hundredths e) ⊘ (θmax ⊝ θmin)) (3000 - e) 0 500
+is-heel {e} p =
+    let left = is-shifted (3000 - e) 0 (omega arith) (is-⊝ is-θmax (is-hundredths e)) in
+    let all = is-shifted 500 0 refl (is-⊝ is-θmax is-θmin) in
+    is-narrowed 100 (3000 - e) 0 500 (lit< tt) (is-written (is-⊘ {c = 500} (lit< tt) left all) (omega arith) refl refl)
+
+-- the square of a whole n
+is-squared : (n : ℕ) → Is (whole n ⊛ whole n) (n * n * 500) 0 500
+is-squared n = is-written (is-⊛ (is-whole n {d = 1} (lit< tt)) (is-whole n {d = 500} (lit< tt))) (omega arith) (omega arith) refl
+
+-- ---- s⁴, from a number's square q
+power : {q : Fraction} (g t e : ℕ) → Is q (min 500 (3000 - e)) 0 500 → q ⊛ q ⊛ underRoot (millimetres g) (hundredths t) ≈ s⁴ g t e
+power g t e h =
+    same {d = 120 * 1600 * 500 ^ 2} (lit< tt) (is-written (is-⊛ (is-⊛ h h) (is-under-root g t)) (rw pow-two (omega arith)) (omega arith) refl) (is-s⁴ g t e)
+
+module _ (N : Numbers) where
+  infix 4 _≐_
+  infixl 7 _·_
+  open Numbers N using (Number, _≐_, _·_, fraction, same-sym, same-trans, same-product, same-fraction, fraction-product)
+
+  -- a's square is n/500
+  abbrev Squared : Number → ℕ → Type 0
+  Squared a n = (q : Fraction) × (square N a ≐ fraction q) × Is q n 0 500
+
+  -- all three cases of K are one quotient
+  K-squared : {GZmax Range : Fraction} {s : Number} (e : ℕ) (f : Final N GZmax Range (hundredths e) s) → Squared (f .K) (min 500 (3000 - e))
+  K-squared e f = split e 2500 upright (λ l. split 3000 e lost (heeled l))
+    where
+      upright : e ≤ 2500 → Squared (f .K) (min 500 (3000 - e))
+      upright l = (whole 1 ⊛ whole 1, square-fraction N (f .upright (below {d = 100} (lit< tt) (is-hundredths e) is-θmin (omega arith))), is-written (is-squared 1) (omega arith) refl refl)
+
+      lost : 3000 ≤ e → Squared (f .K) (min 500 (3000 - e))
+      lost l = (whole 0 ⊛ whole 0, square-fraction N (f .lost (below {d = 100} (lit< tt) is-θmax (is-hundredths e) (omega arith))), is-written (is-squared 0) (omega arith) refl refl)
+
+      heeled : 2500 < e → e < 3000 → Squared (f .K) (min 500 (3000 - e))
+      heeled l m = (
+        (θmax ⊝ hundredths e) ⊘ (θmax ⊝ θmin),
+        f .heeled (strictly-below is-θmin (is-hundredths e) (omega arith)) (strictly-below (is-hundredths e) is-θmax (omega arith)),
+        is-written (is-heel (omega arith)) (omega arith) refl refl,
+      )
+
+  fourth-power : (g t e : ℕ) {s : Number} → Final N (millimetres g) (hundredths t) (hundredths e) s → fourth N s ≐ fraction (s⁴ g t e)
+  fourth-power g t e f =
+      let (q, squared, quotient) = K-squared e f in
+      let parts = same-product (square-fraction N squared) (f .fourth-root) in
+      let together = same-trans (same-sym (fraction-product (q ⊛ q) (underRoot (millimetres g) (hundredths t)))) (same-fraction (power g t e quotient)) in
+      same-trans (square-same N (square-same N (f .product))) (same-trans (fourth-product N (f .K) (f .root)) (same-trans parts together))
+
+pub survival-is-01's : SurvivalIs01's
+survival-is-01's N g t e s f = fourth-power N g t e f
+
+-- ---- the fractions are such numbers themselves
+abbrev pub fractions : Numbers
+fractions = record {
+  Number = Fraction;
+  _≐_ = _≈_;
+  _·_ = _⊛_;
+  fraction = λ f. f;
+  same-refl = ≈-refl;
+  same-sym = ≈-sym;
+  same-trans = ≈-trans;
+  same-product = ⊛-≈;
+  commutes = ⊛-comm;
+  associates = ⊛-assoc;
+  same-fraction = λ p. p;
+  fraction-product = λ f g. ≈-refl (f ⊛ g);
+}
+
+-- two of document 01's proved values, from the regulation's own formula: 1/2 upright, and 1/10 at a heel of 29.95 degrees
+pub half-survives : Final fractions (millimetres 30) (hundredths 400) (hundredths 0) (1 over 2)
+unfolding lesser _≼?_ _⊝_ _⊛_ _⊘_ _less_over_
+half-survives = record {
+  K = whole 1;
+  root = 1 over 2;
+  upright = λ p. record { cross = refl };
+  lost = λ p. absurd (omega (arith, p .cross));
+  heeled = λ p q. absurd (omega (arith, p .cross));
+  fourth-root = record { cross = refl };
+  product = record { cross = refl };
+}
+
+pub tenth-survives : Final fractions (millimetres 120) (hundredths 1600) (hundredths 2995) (1 over 10)
+unfolding lesser _≼?_ _⊝_ _⊛_ _⊘_ _less_over_
+tenth-survives = record {
+  K = 1 over 10;
+  root = whole 1;
+  upright = λ p. absurd (omega (arith, p .cross));
+  lost = λ p. absurd (omega (arith, p .cross));
+  heeled = λ p q. record { cross = refl };
+  fourth-root = record { cross = refl };
+  product = record { cross = refl };
+}

@@ -1,0 +1,69 @@
+-- What "those of SOLAS" means: the letters of regulation 7-1 come to document 01's forms, for every ship of up to 198 m. Assumes nothing.
+use Prim.Native.Nat.{ℕ, _+_, _-_, _*_, _≤_, _<_}
+use Rattle.laws.specs.Fraction.{Fraction, _less_over_, _over_, whole, _≈_, _≼_, _≺_, _⊛_}
+use Rattle.solas.specs.Span
+use Rattle.solas.specs.Span.{P}
+use Rattle.solas.specs.Penetration
+use Rattle.solas.specs.Penetration.{Q}
+use Rattle.solas.specs.Ship.{Ship, Sound}
+use Rattle.solas.specs.Share.{rowShare}
+use Rattle.solas.specs.Regulation
+use Rattle.solas.specs.Regulation.{IsRoot, L*, Jm, under√, Jk, b0, b11, b12, b21, b22, p1or2, p, r, pi}
+
+-- 01 starts at 80 m, which nothing here needs; √ is the root in the ship's Jk
+pub record UpTo198m (Ls : ℕ) (√ : Fraction) : Type 0 where
+  pub some : 0 < Ls
+  pub short : Ls ≤ 19800
+  pub root : IsRoot √ (under√ Ls)
+
+-- 01: "For Ls up to 198 m the regulation's constants become .."
+pub record Constants (Ls : ℕ) (√ : Fraction) : Type 0 where
+  pub not-long : whole Ls ≼ L*
+  pub the-Jm : Jm Ls ≈ 10 over 33
+  pub the-under√ : under√ Ls ≈ whole 1
+  pub the-√ : √ ≈ whole 1
+  pub the-Jk : Jk Ls √ ≈ 5 over 33
+  pub the-b0 : b0 ≈ whole 11
+  pub the-b11 : b11 Ls √ ≈ 0 less 3267 over 50
+  pub the-b12 : b12 Ls √ ≈ whole 11
+  pub the-b21 : b21 Ls √ ≈ 0 less 363 over 50
+  pub the-b22 : b22 Ls √ ≈ 11 over 5
+
+-- 2.6.2 and 01's bands; its p and 01's P, by the ends that the span touches
+pub record Spans (Ls : ℕ) (√ : Fraction) (x1 x2 : ℕ) : Type 0 where
+  pub inner : p1or2 Ls √ x1 x2 ≈ Span.p Ls (x2 - x1)
+  pub outer : p Ls √ x1 x2 ≈ P Ls x1 x2
+
+-- 2.6.3; its G and 01's, by the ends that the span touches
+pub record Penetrations (Ls : ℕ) (√ : Fraction) (x1 x2 B b : ℕ) : Type 0 where
+  pub the-C : Regulation.C Ls √ x1 x2 B b ≈ Penetration.C B b
+  pub the-G1 : Regulation.G1 Ls √ x1 x2 B b ≈ Penetration.G1 B b
+  pub the-G : Regulation.G Ls √ x1 x2 B b ≈ Penetration.G Ls B x1 x2 b
+
+-- 01: "this is p·r of the regulation with no division by p"; and p may be divided by
+pub record Chances (Ls : ℕ) (√ : Fraction) (x1 x2 B b : ℕ) : Type 0 where
+  pub above-0 : whole 0 ≺ p Ls √ x1 x2
+  pub the-pr : p Ls √ x1 x2 ⊛ r Ls √ x1 x2 B b ≈ Q Ls B x1 x2 b
+
+-- ---- the promises
+
+-- each of these ships has such a root, so that what follows is said of every one
+abbrev pub RootsAreThere : Type 0
+RootsAreThere = (Ls : ℕ) → 0 < Ls → Ls ≤ 19800 → UpTo198m Ls (whole 1)
+
+abbrev pub ConstantsAre01's : Type 0
+ConstantsAre01's = (Ls : ℕ) (√ : Fraction) → UpTo198m Ls √ → Constants Ls √
+
+abbrev pub SpansAre01's : Type 0
+SpansAre01's = (Ls : ℕ) (√ : Fraction) → UpTo198m Ls √ → (x1 x2 : ℕ) → x1 ≤ x2 → Spans Ls √ x1 x2
+
+abbrev pub PenetrationsAre01's : Type 0
+PenetrationsAre01's = (Ls : ℕ) (√ : Fraction) → UpTo198m Ls √ → (x1 x2 B b : ℕ) → x1 ≤ x2 → 0 < B → 2 * b ≤ B → Penetrations Ls √ x1 x2 B b
+
+abbrev pub ChancesAre01's : Type 0
+ChancesAre01's = (Ls : ℕ) (√ : Fraction) → UpTo198m Ls √ → (x1 x2 B b : ℕ) → x1 < x2 → 0 < B → 2 * b ≤ B → Chances Ls √ x1 x2 B b
+
+-- THE RULE, 2.6.1: of any group of n zones from zone a of any sound ship, between any two depths up to B/2, the regulation's pi is 01's share of a row
+abbrev pub SharesAreTheRegulation's : Type 0
+SharesAreTheRegulation's = (s : Ship) → Sound s → (√ : Fraction) → IsRoot √ (under√ (s .L)) → (a n b′ b : ℕ) → 1 ≤ a → a + n ≤ s .m + 1 → b′ < b → 2 * b ≤ s .B →
+    pi s √ b′ b a n ≈ rowShare s a n b′ b

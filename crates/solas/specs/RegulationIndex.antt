@@ -1,0 +1,124 @@
+-- What the regulation itself says of s, v, A, dp and R, in its own letters, in metres and degrees: document 002, 2.5.1, 2.7.3 and 2.7.7,
+-- and document 003, 4.1 and 10.1. Assumes nothing.
+use Prim.Native.Nat.{ℕ, _+_, _*_}
+use mathlib.Core.Bool.{Bool, cond}
+use lib.Dec.{leb}
+use Rattle.laws.specs.Fraction.{Fraction, den, _over_, whole, _≈_, _≼_, _≺_, _⊹_, _⊝_, _⊛_, _⊘_}
+
+infix 4 _≼?_
+-- is f at most g?
+unfoldable pub _≼?_ : Fraction → Fraction → Bool
+f ≼? g = leb (f .up * den g + g .down * den f) (g .up * den f + f .down * den g)
+
+unfoldable pub lesser : Fraction → Fraction → Fraction
+lesser f g = cond (f ≼? g) f g
+
+-- ---- the units of document 01, in metres and degrees
+abbrev pub millimetres : ℕ → Fraction
+millimetres n = n over 1000
+
+abbrev pub centimetres : ℕ → Fraction
+centimetres n = n over 100
+
+abbrev pub hundredths : ℕ → Fraction
+hundredths n = n over 100
+
+-- ---- 003, 4.1: the light service draught plus 60% of the difference
+unfoldable pub dp : Fraction → Fraction → Fraction
+dp ds dl = dl ⊹ (60 over 100) ⊛ (ds ⊝ dl)
+
+-- ---- 002, 2.5.1
+unfoldable pub A : Fraction → Fraction → Fraction → Fraction
+A As Ap Al = (4 over 10) ⊛ As ⊹ (4 over 10) ⊛ Ap ⊹ (2 over 10) ⊛ Al
+
+-- ---- 003, 10.1.1 and 10.1.2, cargo ships of the length Ls: above 100 m, and up to 100 m
+unfoldable pub R₀ : Fraction → Fraction
+R₀ Ls = whole 1 ⊝ whole 128 ⊘ (Ls ⊹ whole 152)
+
+unfoldable pub R : Fraction → Fraction
+R Ls = cond (Ls ≼? whole 100) (whole 1 ⊝ whole 1 ⊘ (whole 1 ⊹ (Ls ⊘ whole 100) ⊛ (R₀ Ls ⊘ (whole 1 ⊝ R₀ Ls)))) (R₀ Ls)
+
+-- 003, 10.2: what each partial index must reach
+unfoldable pub partialMark : Fraction → Fraction
+partialMark Ls = (5 over 10) ⊛ R Ls
+
+-- ---- 002, 2.7.7.2: v of a height H over the baseline at the draught d
+unfoldable pub v : Fraction → Fraction → Fraction
+v H d = cond (H ⊝ d ≼? 78 over 10) ((8 over 10) ⊛ ((H ⊝ d) ⊘ (78 over 10))) ((8 over 10) ⊹ (2 over 10) ⊛ ((H ⊝ d ⊝ (78 over 10)) ⊘ (47 over 10)))
+
+-- what may limit flooding upwards: nothing, under the first; a boundary at a height; the uppermost watertight boundary, at a height
+pub data Boundary : Type 0 where
+  none : Boundary
+  at uppermost : Fraction → Boundary
+
+-- boundaries are counted upwards from the waterline: one that is not above it is none
+unfoldable pub counted : Fraction → Fraction → Boundary
+counted H d = cond (H ≼? d) none (at H)
+
+unfoldable pub vOf : Boundary → Fraction → Fraction
+vOf none d = whole 0
+vOf (at H) d = v H d
+vOf (uppermost H) d = whole 1
+
+-- taken as no less than zero and no more than 1
+unfoldable pub held : Fraction → Fraction
+held f = cond (f ≼? whole 0) (whole 0) (cond (f ≼? whole 1) f (whole 1))
+
+-- 2.7.7.1: from the boundary before, m - 1, to the boundary m
+unfoldable pub vm : Boundary → Boundary → Fraction → Fraction
+vm before m d = held (vOf m d ⊝ vOf before d)
+
+-- ---- 002, 2.7.3, cargo ships with no cross-flooding, whose other two factors are unity (2.7.2, 2.7.4)
+abbrev pub θmin : Fraction
+θmin = whole 25
+
+abbrev pub θmax : Fraction
+θmax = whole 30
+
+abbrev pub TGZmax : Fraction
+TGZmax = 12 over 100
+
+abbrev pub TRange : Fraction
+TRange = whole 16
+
+-- what stands under the fourth root: GZmax not to be taken as more than TGZmax, Range not as more than TRange
+abbrev pub underRoot : Fraction → Fraction → Fraction
+underRoot GZmax Range = (lesser GZmax TGZmax ⊘ TGZmax) ⊛ (lesser Range TRange ⊘ TRange)
+
+-- numbers among which roots may be found: they hold the fractions, and multiply as these do
+pub record Numbers : Type 1 where
+  infix 4 _≐_
+  infixl 7 _·_
+  pub Number : Type 0
+  pub _≐_ : Number → Number → Type 0
+  pub _·_ : Number → Number → Number
+  pub fraction : Fraction → Number
+  pub same-refl : (a : Number) → a ≐ a
+  pub same-sym : {a b : Number} → a ≐ b → b ≐ a
+  pub same-trans : {a b c : Number} → a ≐ b → b ≐ c → a ≐ c
+  pub same-product : {a a′ b b′ : Number} → a ≐ a′ → b ≐ b′ → a · b ≐ a′ · b′
+  pub commutes : (a b : Number) → a · b ≐ b · a
+  pub associates : (a b c : Number) → a · b · c ≐ a · (b · c)
+  pub same-fraction : {f g : Fraction} → f ≈ g → fraction f ≐ fraction g
+  pub fraction-product : (f g : Fraction) → fraction (f ⊛ g) ≐ fraction f · fraction g
+
+module _ (N : Numbers) where
+  infix 4 _≐_
+  infixl 7 _·_
+  open Numbers N using (Number, _≐_, _·_, fraction)
+
+  abbrev pub square : Number → Number
+  square a = a · a
+
+  abbrev pub fourth : Number → Number
+  fourth a = square (square a)
+
+  -- s is K times the fourth root; a root is known by its power, and its sign is left open
+  pub record Final (GZmax Range θe : Fraction) (s : Number) : Type 0 where
+    pub K : Number
+    pub root : Number
+    pub upright : θe ≼ θmin → K ≐ fraction (whole 1)
+    pub lost : θmax ≼ θe → K ≐ fraction (whole 0)
+    pub heeled : θmin ≺ θe → θe ≺ θmax → square K ≐ fraction ((θmax ⊝ θe) ⊘ (θmax ⊝ θmin))
+    pub fourth-root : fourth root ≐ fraction (underRoot GZmax Range)
+    pub product : s ≐ K · root

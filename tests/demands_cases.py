@@ -1,0 +1,220 @@
+"""Accepted case files to hold the demands against: random ones from a seed, and extreme ones built by hand."""
+
+import random
+from fractions import Fraction
+from typing import NamedTuple, Optional, Tuple
+
+from independent.letters import R
+from independent.writing import given_row, hull_line, lever_row, whole_file
+
+MOST_ROWS = 500
+ABOVE_DEEPEST = 12_500
+HIGHEST = 60_000
+
+
+class Height(NamedTuple):
+    """One row of a layer: its H, and three results or three given survivals."""
+
+    H: int
+    results: Optional[Tuple[Tuple[int, int, int], ...]] = None
+    given: Optional[Tuple[int, int, int]] = None
+
+
+class Layer(NamedTuple):
+    """The rows at one b, from the lowest up."""
+
+    b: int
+    heights: Tuple[Height, ...]
+
+
+class Group(NamedTuple):
+    """Zones a to a+n-1 with their layers, from the shell inwards."""
+
+    a: int
+    n: int
+    layers: Tuple[Layer, ...]
+
+
+class Ship(NamedTuple):
+    """A case as it was drawn, with a name to find it again."""
+
+    name: str
+    L: int
+    B: int
+    ds: int
+    dl: int
+    bulkheads: Tuple[int, ...]
+    groups: Tuple[Group, ...]
+
+    @property
+    def places(self):
+        return (0, *self.bulkheads, self.L)
+
+    @property
+    def rows(self):
+        return sum(len(layer.heights) for group in self.groups for layer in group.layers)
+
+
+def file_of_ship(ship):
+    """The case file of a drawn ship."""
+    lines = []
+    for group in ship.groups:
+        for layer in group.layers:
+            for height in layer.heights:
+                head = (group.a, group.n, layer.b, height.H)
+                lines.append(given_row(*head, height.given) if height.given else lever_row(*head, height.results))
+    return whole_file(hull_line(ship.L, ship.B, ship.ds, ship.dl, ship.bulkheads), lines)
+
+
+# Random ships
+
+
+def edge_or_any(chooser, edges, low, high):
+    """One of the edges, or any number of the range."""
+    return chooser.choice(edges) if chooser.randrange(10) < 3 else chooser.randint(low, high)
+
+
+def random_bulkheads(chooser, L, m):
+    """m - 1 bulkheads: spread evenly, thrown anywhere, or crowded into one part of the ship."""
+    way = chooser.randrange(3)
+    if way == 0:
+        return tuple(L * i // m + chooser.randint(-20, 20) for i in range(1, m))
+    if way == 1:
+        return tuple(sorted(chooser.sample(range(1, L), m - 1)))
+    width = chooser.choice((40, 400, 4_000))
+    start = chooser.choice((1, L - width, chooser.randint(1, L - width)))
+    return tuple(sorted(chooser.sample(range(start, start + width), m - 1)))
+
+
+def has_long_middle(ship_places, a, n):
+    """A group of three or more zones whose inner zones are longer than any damage: its share is nothing."""
+    L = ship_places[-1]
+    return n >= 3 and 33 * (ship_places[a + n - 2] - ship_places[a]) >= 10 * L
+
+
+def random_groups(chooser, places):
+    """The groups to list: all, all that can be damaged, all of these but one, or any."""
+    m = len(places) - 1
+    every = [(a, n) for a in range(1, m + 1) for n in range(1, m - a + 2)]
+    way = chooser.randrange(4)
+    if way == 0:
+        return every
+    exposed = [group for group in every if not has_long_middle(places, *group)]
+    if way == 1:
+        return exposed
+    if way == 2:
+        left_out = chooser.choice(exposed)
+        return [group for group in every if group != left_out]
+    return sorted(chooser.sample(every, chooser.randint(0, len(every))))
+
+
+def near_result(chooser, L):
+    """A result whose survival is close to R, so that verdicts are hard to settle."""
+    wanted = R(Fraction(L, 100)) ** 4 * 120 * 1_600
+    lever = chooser.randint(int(wanted / 1_600) + 1, 120)
+    return (lever, round(wanted / lever), chooser.randint(0, 2_500))
+
+
+def random_result(chooser, L, way):
+    """A draught's result: anything, a good one, one close to R, or one at an edge."""
+    if way == "any":
+        return (chooser.randint(0, 5_000), chooser.randint(0, 9_000), chooser.randint(0, 9_000))
+    if way == "good":
+        return (chooser.randint(90, 130), chooser.randint(1_200, 1_700), chooser.randint(0, 2_700))
+    if way == "near":
+        return near_result(chooser, L)
+    return (
+        chooser.choice((0, 1, 30, 60, 119, 120, 121, 5_000)),
+        chooser.choice((0, 1, 400, 800, 1_599, 1_600, 1_601, 9_000)),
+        chooser.choice((0, 2_499, 2_500, 2_501, 2_750, 2_995, 2_999, 3_000, 3_001, 9_000)),
+    )
+
+
+def random_height(chooser, L, H, way):
+    """A row of a layer, of either kind."""
+    if way == "given" or (way != "near" and chooser.randrange(5) == 0):
+        return Height(H, given=tuple(edge_or_any(chooser, (0, 1, 9_999, 10_000), 0, 10_000) for _ in range(3)))
+    return Height(H, results=tuple(random_result(chooser, L, way) for _ in range(3)))
+
+
+def random_layer(chooser, L, ds, b, count, way):
+    """A layer of so many rows, the last one at the top or above."""
+    top = ds + ABOVE_DEEPEST
+    below = sorted(chooser.sample(range(1, top), count - 1))
+    last = edge_or_any(chooser, (top, top + 1, HIGHEST), top, HIGHEST)
+    return Layer(b, tuple(random_height(chooser, L, H, way) for H in (*below, last)))
+
+
+def random_ship(seed, number):
+    """The random ship of this number under this seed."""
+    chooser = random.Random(f"{seed}/{number}")
+    L = edge_or_any(chooser, (8_000, 9_900, 10_000, 10_001, 10_400, 19_800), 8_000, 19_800)
+    B = 2 * edge_or_any(chooser, (500, 3_000), 500, 3_000)
+    ds = edge_or_any(chooser, (1_000, 30_000), 1_000, 30_000)
+    dl = ds - 5 * edge_or_any(chooser, (0, (ds - 500) // 5), 0, (ds - 500) // 5)
+    m = chooser.choice((1, 2, 3, 3, 4, 5, 6, 7, 8, 10, 12, 20))
+    bulkheads = random_bulkheads(chooser, L, m)
+    chosen = random_groups(chooser, (0, *bulkheads, L))
+    way = chooser.choice(("any", "good", "good", "near", "edges", "given"))
+    spare = MOST_ROWS - len(chosen) if chooser.randrange(7) == 0 else chooser.randint(0, 40)
+    most_layers, most_heights = chooser.choice(((1, 1), (2, 1), (3, 2), (2, 4), (8, 8)))
+    groups = []
+    for a, n in chosen:
+        depths = sorted(chooser.sample(range(1, B // 2), min(chooser.randint(1, most_layers) - 1, spare)))
+        spare -= len(depths)
+        layers = []
+        for b in (*depths, B // 2):
+            more = min(chooser.randint(1, most_heights) - 1, spare)
+            spare -= more
+            layers.append(random_layer(chooser, L, ds, b, more + 1, way))
+        groups.append(Group(a, n, tuple(layers)))
+    return Ship(f"random {seed}/{number}", L, B, ds, dl, bulkheads, tuple(groups))
+
+
+# Ships built by hand
+
+
+def every_group(m, layers):
+    """All groups of m zones, each with the same layers."""
+    return tuple(Group(a, n, layers) for a in range(1, m + 1) for n in range(1, m - a + 2))
+
+
+def with_results(result, H=HIGHEST):
+    """A row with the same result at each draught."""
+    return Height(H, results=(result,) * 3)
+
+
+def with_given(survival, H=HIGHEST):
+    """A row with the same given survival at each draught."""
+    return Height(H, given=(survival,) * 3)
+
+
+def built_ships():
+    """Extreme cases: the widest row, the fewest and most rows, the thinnest zones, and each verdict at its edge."""
+    whole = with_results((120, 1_600, 2_500))
+    odd = with_results((67, 179, 0))
+    thin = tuple(range(1, 11)) + tuple(range(8_000 - 9, 8_000))
+    yield Ship("no rows", 8_000, 1_000, 1_000, 500, (), ())
+    yield Ship("meets, one zone", 8_000, 1_000, 1_000, 1_000, (), (Group(1, 1, (Layer(500, (whole,)),)),))
+    yield Ship("unsettled, one zone", 10_400, 1_000, 1_000, 500, (), (Group(1, 1, (Layer(500, (odd,)),)),))
+    yield Ship("meets at its mark", 10_400, 1_000, 1_000, 500, (), (Group(1, 1, (Layer(500, (with_given(5_000),)),)),))
+    yield Ship("fails by one", 10_400, 1_000, 1_000, 500, (), (Group(1, 1, (Layer(500, (with_given(4_999),)),)),))
+    yield Ship(
+        "widest row", 10_621, 3_966, 6_000, 4_000, (1_371, 3_256, 4_258, 4_766),
+        (Group(2, 3, tuple(Layer(b, (odd,)) for b in (48, 122, 1_983))),))
+    yield Ship(
+        "edges of the bands", 9_901, 1_600, 6_000, 4_000, (1_501, 3_001, 6_002, 7_501),
+        every_group(5, (Layer(160, (odd,)), Layer(800, (odd,)))))
+    yield Ship("thin zones", 8_000, 6_000, 30_000, 500, thin, every_group(20, (Layer(1, (odd,)), Layer(3_000, (odd,)))))
+    yield Ship(
+        "five hundred layers", 19_800, 6_000, 30_000, 500, (6_600,),
+        (Group(1, 2, tuple(Layer(b, (odd,)) for b in (*range(1, 500), 3_000))),))
+    yield Ship(
+        "five hundred heights", 19_800, 6_000, 30_000, 500, (6_600,),
+        (Group(1, 1, (Layer(3_000, tuple(with_results((67, 179, 0), H) for H in range(42_001, 42_501))),)),))
+    yield Ship(
+        "all groups, all survive", 19_799, 5_998, 30_000, 500, tuple(987 * i for i in range(1, 20)),
+        every_group(20, (Layer(77, (whole,)), Layer(2_999, (with_given(10_000),)))))
+    yield Ship(
+        "all groups, none quite", 13_331, 2_222, 7_000, 3_000, tuple(666 * i for i in range(1, 20)),
+        every_group(20, (Layer(40, (with_results((119, 1_599, 2_501)),)), Layer(1_111, (odd,)))))

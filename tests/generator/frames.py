@@ -1,0 +1,76 @@
+"""Case files written from numbers: hull, rows and end as lines of hexadecimal."""
+
+from typing import NamedTuple, Tuple
+
+
+class Hull(NamedTuple):
+    """A hull: lengths in centimetres, draughts in millimetres, the inner bulkheads from aft."""
+
+    ls: int
+    breadth: int
+    ds: int
+    dl: int
+    bulkheads: Tuple[int, ...] = ()
+
+    @property
+    def zones(self):
+        return len(self.bulkheads) + 1
+
+    @property
+    def half(self):
+        return self.breadth // 2
+
+    @property
+    def top(self):
+        """The height from which a row closes its layer."""
+        return self.ds + 12500
+
+
+class Row(NamedTuple):
+    """A row: nine figures make it kind 02, three make it kind 03."""
+
+    a: int
+    n: int
+    b: int
+    h: int
+    figures: Tuple[int, ...]
+
+
+def number(value, size):
+    """A number as hexadecimal of so many bytes, the high byte first."""
+    return value.to_bytes(size, "big").hex()
+
+
+def pairs(values):
+    """Numbers of two bytes each."""
+    return "".join(number(value, 2) for value in values)
+
+
+def hull_line(hull, zones=None):
+    """The hull's line; another zone count than the bulkheads' own may be asked for."""
+    count = hull.zones if zones is None else zones
+    return "01" + pairs(hull[:4]) + number(count, 1) + pairs(hull.bulkheads)
+
+
+def row_line(row):
+    kind = "02" if len(row.figures) == 9 else "03"
+    return kind + number(row.a, 1) + number(row.n, 1) + pairs((row.b, row.h) + tuple(row.figures))
+
+
+def end_line(count):
+    return "0f" + number(count, 2)
+
+
+def lines_of(hull, rows, count=None):
+    """The lines of a whole file; another count than that of the rows may be asked for."""
+    end = end_line(len(rows) if count is None else count)
+    return [hull_line(hull)] + [row_line(row) for row in rows] + [end]
+
+
+def joined(lines):
+    """Lines as bytes, each closed by a line feed; a line may be text or bytes."""
+    return b"".join((line if isinstance(line, bytes) else line.encode("latin-1")) + b"\n" for line in lines)
+
+
+def case_file(hull, rows, count=None):
+    return joined(lines_of(hull, rows, count))

@@ -1,0 +1,139 @@
+"""Seeded damage to case files: bytes, lines, counts, and fields set to a limit or next to it."""
+
+from .frames import case_file, end_line, joined, lines_of
+from .shapes import seeded_case
+
+LIMITS = (0, 1, 2, 3, 20, 21, 255, 256, 499, 500, 501, 999, 1000, 1001, 1002, 5000, 5001, 5998, 6000, 6002, 7999, 8000, 9000, 9001,
+          10000, 10001, 12499, 12500, 19800, 19801, 30000, 30001, 60000, 60001, 65535)
+ALIEN = b"\x00\r \tABCDEFGg/:`@-\x7f\x80\xff\n"
+
+
+def flip(dice, data):
+    at = dice.below(len(data))
+    return data[:at] + bytes([data[at] ^ (1 << dice.below(8))]) + data[at + 1:]
+
+
+def another_digit(dice, data):
+    at = dice.below(len(data))
+    return data[:at] + bytes([dice.pick(b"0123456789abcdef")]) + data[at + 1:]
+
+
+def alien_byte(dice, data):
+    at = dice.below(len(data))
+    return data[:at] + bytes([dice.pick(ALIEN)]) + data[at + dice.below(2):]
+
+
+def cut(dice, data):
+    at = dice.below(len(data) + 1)
+    return data[:at] if dice.one_in(2) else data[:at] + data[at + dice.between(1, 8):]
+
+
+def twice(dice, data):
+    at = dice.below(len(data))
+    end = at + dice.between(1, 60)
+    return data[:end] + data[at:]
+
+
+def line_doubled(dice, data):
+    lines = data.split(b"\n")
+    at = dice.below(len(lines))
+    return b"\n".join(lines[:at + 1] + lines[at:])
+
+
+def line_dropped(dice, data):
+    lines = data.split(b"\n")
+    at = dice.below(len(lines))
+    return b"\n".join(lines[:at] + lines[at + 1:])
+
+
+def lines_swapped(dice, data):
+    lines = data.split(b"\n")
+    at = dice.below(len(lines))
+    to = at + 1 if dice.one_in(2) and at + 1 < len(lines) else dice.below(len(lines))
+    lines[at], lines[to] = lines[to], lines[at]
+    return b"\n".join(lines)
+
+
+def carriage_returns(dice, data):
+    return data.replace(b"\n", b"\r\n", -1 if dice.one_in(2) else 1)
+
+
+def upper_case(dice, data):
+    return data.upper() if dice.one_in(2) else data.replace(b"a", b"A", 1)
+
+
+def wrong_count(dice, data):
+    lines = data.split(b"\n")[:-2]
+    count = dice.pick((0, len(lines) - 2, len(lines), 500, 501, 65535, (len(lines) - 1) ^ 256, dice.below(65536)))
+    return joined(lines + [end_line(max(count, 0))])
+
+
+def field_changed(dice, data):
+    """A whole field of one line set to a limit, or to what it was give or take a little."""
+    lines = data.split(b"\n")
+    at = 0 if dice.one_in(3) else dice.below(max(len(lines) - 1, 1))
+    line = lines[at].decode("latin-1")
+    if at == 0:
+        places = [(2, 4), (6, 4), (10, 4), (14, 4), (18, 2)] + [(place, 4) for place in range(20, len(line), 4)]
+    elif line[:2] == "0f":
+        places = [(2, 4)]
+    else:
+        places = [(2, 2), (4, 2)] + [(place, 4) for place in range(6, len(line), 4)]
+    start, size = dice.pick(places + [(0, 2)])
+    most = 16 ** size
+    try:
+        was = int(line[start:start + size] or "0", 16)
+    except ValueError:
+        was = 0
+    value = dice.pick((dice.pick(LIMITS), was + 1, was - 1, was + 5, was - 5, was + dice.between(-300, 300), dice.below(most)))
+    lines[at] = (line[:start] + "%0*x" % (size, value % most) + line[start + size:]).encode("latin-1")
+    return b"\n".join(lines)
+
+
+WAYS = (flip, another_digit, another_digit, alien_byte, cut, twice, line_doubled, line_dropped, lines_swapped,
+        carriage_returns, upper_case, wrong_count) + 8 * (field_changed,)
+
+
+def damaged(dice, data):
+    """One to three damages; the words say which."""
+    names = []
+    for _ in range(dice.pick((1, 1, 1, 2, 2, 3))):
+        if not data:
+            break
+        way = dice.pick(WAYS)
+        data = way(dice, data)
+        names.append(way.__name__.replace("_", " "))
+    return data, ", ".join(names)
+
+
+def short_tops(dice, hull, rows):
+    """Rows in which one height, b or group is moved by a little, so that order and closing are at stake."""
+    rows = list(rows)
+    if rows:
+        at = dice.below(len(rows))
+        row = rows[at]
+        rows[at] = dice.pick((
+            row._replace(h=max(hull.top - 1, 1)), row._replace(h=hull.top), row._replace(h=max(row.h + dice.between(-2, 2), 0)),
+            row._replace(b=max(row.b + dice.between(-2, 2), 0)), row._replace(b=hull.half), row._replace(a=max(row.a - 1, 0)),
+            row._replace(a=row.a + 1), row._replace(n=row.n + 1), row._replace(n=max(row.n - 1, 0))))
+    return rows
+
+
+def seeded_file(dice):
+    """A file of any sort with a word on how it was made: about half of them undamaged."""
+    most = dice.pick((0, 1, 5, 20, 20, 60)) if not dice.one_in(40) else 500
+    hull, rows = seeded_case(dice, most)
+    way = dice.below(8)
+    if way < 4:
+        return case_file(hull, rows), "valid, %d zones, %d rows" % (hull.zones, len(rows))
+    if way == 4:
+        return case_file(hull, short_tops(dice, hull, rows)), "a row moved"
+    if way == 5:
+        lines = lines_of(hull, rows)
+        at = dice.below(len(lines))
+        return joined(lines[:at] + [dice.pick(lines)] + lines[at:]), "a line put in"
+    if way == 6 and dice.one_in(8):
+        data = case_file(hull, rows)
+        size = dice.pick((32767, 32768, 32769, 40000))
+        return (data * (size // len(data) + 1))[:size], "repeated to %d bytes" % size
+    return damaged(dice, case_file(hull, rows))

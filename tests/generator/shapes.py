@@ -1,0 +1,135 @@
+"""Valid hulls and rows of many shapes: fixed ones for the topics, seeded ones for everything else."""
+
+from .figures import Figures
+from .frames import Hull, Row
+
+PRINTED = Hull(9900, 1600, 6000, 4000, (1500,))
+FOUR = Hull(12000, 2000, 8000, 5000, (2000, 5000, 9000))
+SAFE = (120, 1600, 0) * 3
+LOST = (0, 0, 3000) * 3
+CERTAIN = (10000, 10000, 10000)
+NONE = (0, 0, 0)
+
+
+def group(hull, a, n, layers=(), heights=(), figures=CERTAIN, top=None):
+    """The rows of a closed group: the layers before B/2, the heights under the top, the same figures in each row."""
+    return [Row(a, n, b, h, tuple(figures))
+            for b in tuple(layers) + (hull.half,)
+            for h in tuple(heights) + (hull.top if top is None else top,)]
+
+
+def groups_of(hull, longest=None):
+    """Every group of the hull in order, those of more zones than longest left out."""
+    most = hull.zones if longest is None else longest
+    return [(a, n) for a in range(1, hull.zones + 1) for n in range(1, min(most, hull.zones + 1 - a) + 1)]
+
+
+def every_group(hull, layers=(), heights=(), figures=CERTAIN, longest=None):
+    return [row for a, n in groups_of(hull, longest) for row in group(hull, a, n, layers, heights, figures)]
+
+
+def places(dice, hull_length, count):
+    """So many different inner bulkheads, some of them close together or near the ends."""
+    found = set()
+    while len(found) < count:
+        way = dice.below(6)
+        if way == 0 and found:
+            place = dice.pick(sorted(found)) + dice.between(1, hull_length // 30)
+        elif way == 1:
+            place = dice.pick((1, 2, hull_length - 1, hull_length - 2, hull_length // 2))
+        elif way == 2:
+            place = dice.pick((5, 10)) * hull_length // 33 + dice.between(-1, 1)
+        else:
+            place = dice.between(1, hull_length - 1)
+        if 0 < place < hull_length:
+            found.add(place)
+    return tuple(sorted(found))
+
+
+def seeded_hull(dice, zones=None):
+    ls = dice.pick((8000, 9900, 10000, 10001, 19800)) if dice.one_in(5) else dice.between(8000, 19800)
+    breadth = dice.pick((1000, 6000)) if dice.one_in(6) else 2 * dice.between(500, 3000)
+    ds = dice.pick((1000, 30000)) if dice.one_in(6) else dice.between(1000, 30000)
+    dl = ds if dice.one_in(6) else ds - 5 * dice.between(0, (ds - 500) // 5)
+    count = zones or dice.pick((1, 2, 2, 3, 3, 4, 5, 6, 8, 12, 20))
+    return Hull(ls, breadth, ds, dl, places(dice, ls, count - 1))
+
+
+def seeded_layers(dice, hull, count):
+    """The layers before B/2; now and then one where 15Bx = bL or next to it for some zone."""
+    layers = set()
+    ends = (0,) + hull.bulkheads + (hull.ls,)
+    for _ in range(count):
+        at = dice.below(hull.zones)
+        edge = 15 * hull.breadth * (ends[at + 1] - ends[at]) // hull.ls + dice.between(-1, 1)
+        b = edge if dice.one_in(3) else dice.pick((1, hull.half - 1)) if dice.one_in(6) else dice.between(1, hull.half)
+        if 1 <= b < hull.half:
+            layers.add(b)
+    return sorted(layers)
+
+
+def seeded_heights(dice, hull, count):
+    """The heights under the top, many of them at a step of v."""
+    heights = set()
+    for _ in range(count):
+        draught = dice.pick((hull.ds, hull.dl, hull.dl + 3 * (hull.ds - hull.dl) // 5))
+        step = draught + dice.pick((0, 7800, 12500)) + dice.between(-1, 1)
+        height = step if dice.one_in(2) else dice.between(1, hull.top)
+        if 1 <= height < hull.top:
+            heights.add(height)
+    return sorted(heights)
+
+
+def mixed_figures(dice, hull):
+    """Results at three draughts, or given survivals, many of them at a cap or a limit."""
+    if dice.one_in(3):
+        return tuple(dice.pick((0, 1, 9999, 10000)) if dice.one_in(3) else dice.below(10001) for _ in range(3))
+    figures = ()
+    for _ in range(3):
+        lever = dice.pick((0, 1, 119, 120, 121, 5000)) if dice.one_in(3) else dice.between(0, 130)
+        reach = dice.pick((0, 1, 1599, 1600, 1601, 9000)) if dice.one_in(3) else dice.between(0, 1700)
+        heel = dice.pick((0, 2499, 2500, 2501, 2999, 3000, 3001, 9000)) if dice.one_in(3) else dice.between(0, 3100)
+        figures += (lever, reach, heel)
+    return figures
+
+
+def mild_figures(dice, hull):
+    """Results that most ships would be glad of."""
+    if dice.one_in(3):
+        return tuple(dice.between(5000, 10000) for _ in range(3))
+    return tuple(figure for _ in range(3) for figure in (dice.between(60, 150), dice.between(800, 2000), dice.between(0, 2600)))
+
+
+def marked_figures(dice, hull):
+    """A survival next to the required index, given or from a result."""
+    over, under = Figures(hull, []).required()
+    mark = 10000 * over // under
+    lever = dice.between(1, 120)
+    reach = mark ** 4 * 192000 // (10 ** 16 * lever) + dice.below(2)
+    if dice.one_in(2) or not 1 <= reach <= 1600:
+        return (mark + dice.between(-1, 2),) * 3
+    return (lever, reach, 0) * 3
+
+
+def seeded_rows(dice, hull, most):
+    """Closed groups in order, at most so many rows."""
+    listed = groups_of(hull, dice.pick((1, 2, 3, hull.zones, hull.zones)))
+    if dice.one_in(2):
+        listed = [one for one in listed if dice.one_in(2)]
+    deep, tall = dice.below(4), dice.below(4)
+    figures = dice.pick((mixed_figures, mixed_figures, mild_figures, marked_figures))
+    rows = []
+    for a, n in listed:
+        more = []
+        for b in seeded_layers(dice, hull, deep) + [hull.half]:
+            top = dice.pick((hull.top, hull.top, hull.top + 1, 60000, dice.between(hull.top, 60000)))
+            more += [Row(a, n, b, h, figures(dice, hull)) for h in seeded_heights(dice, hull, tall) + [top]]
+        if len(rows) + len(more) > most:
+            break
+        rows += more
+    return rows
+
+
+def seeded_case(dice, most=60, zones=None):
+    hull = seeded_hull(dice, zones)
+    return hull, seeded_rows(dice, hull, most)

@@ -1,0 +1,22 @@
+"""An independent program for document 01's case files, in whole numbers and exact fractions."""
+
+from .answering import Answer, answer, answer_to_case
+from .casefile import Case, Hull, Refusal, Result, Row, reading
+from .printing import exact_text, figures, printed
+from .rounding import Ends
+
+__all__ = [
+    "Answer", "Case", "Ends", "Hull", "Refusal", "Result", "Row",
+    "answer", "answer_to_case", "exact_text", "figures", "judge", "printed", "reading", "run",
+]
+
+
+def run(data, sheet=None):
+    """The bytes that the program damindex must print for these bytes of input."""
+    return printed(answer(data, sheet)).encode("ascii")
+
+
+def judge(data):
+    """The refusal's number and line, or zeros for an accepted file."""
+    read = reading(data)
+    return tuple(read) if isinstance(read, Refusal) else (0, 0)

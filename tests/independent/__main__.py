@@ -1,0 +1,44 @@
+"""The command line: a case file from a path or standard input, its printed answer to standard output."""
+
+import argparse
+import sys
+from pathlib import Path
+
+sys.path.insert(0, str(Path(__file__).resolve().parent.parent))
+
+from independent import answer, exact_text, figures, printed, reading  # noqa: E402
+
+
+def whole_number(text):
+    """A sheet's length, which is not negative."""
+    if not (text.isascii() and text.isdigit()):
+        raise argparse.ArgumentTypeError(f"not a whole number: {text}")
+    return int(text)
+
+
+def arguments():
+    """The command line's parts."""
+    parser = argparse.ArgumentParser(prog="independent", description=__doc__)
+    parser.add_argument("file", nargs="?", help="the case file; standard input where left out")
+    parser.add_argument("--sheet", type=whole_number, metavar="N", help="a sheet of N numbers; else as long as needed")
+    form = parser.add_mutually_exclusive_group()
+    form.add_argument("--exact", action="store_true", help="the exact figures as fractions")
+    form.add_argument("--figures", action="store_true", help="the answer as decimal numbers, one a line")
+    return parser.parse_args()
+
+
+def main():
+    """Reads, answers and writes."""
+    asked = arguments()
+    data = Path(asked.file).read_bytes() if asked.file else sys.stdin.buffer.read()
+    if asked.exact:
+        text = exact_text(reading(data))
+    elif asked.figures:
+        text = "".join(f"{figure}\n" for figure in figures(answer(data, asked.sheet)))
+    else:
+        text = printed(answer(data, asked.sheet))
+    sys.stdout.buffer.write(text.encode("ascii"))
+
+
+if __name__ == "__main__":
+    main()

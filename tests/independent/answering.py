@@ -1,0 +1,64 @@
+"""The answer to a case file: refusal or verdict, the ends of A, As, Ap and Al, and each row's share for the sheet."""
+
+from typing import NamedTuple, Tuple
+
+from .casefile import Refusal, reading
+from .regulation import draughts, marks, s_fourth
+from .rounding import BILLION, Ends, added_ends, attained_ends, share_ends, sum_ends, survival_ends
+
+MEETS, FAILS, UNSETTLED = 1, 2, 3
+NO_ENDS = (Ends(0, 0),) * 4
+
+
+class Answer(NamedTuple):
+    """Number and line of a refusal, verdict, the ends of A, As, Ap, Al, and the rows' shares; zeros at a refusal."""
+
+    number: int
+    line: int
+    verdict: int
+    ends: Tuple[Ends, ...]
+    shares: Tuple[Ends, ...]
+
+    @property
+    def rows(self):
+        return len(self.shares)
+
+
+def row_survival(row, draught):
+    """Height and survival: bottom and top of a row's survival at one draught; a given survival has bottom = top."""
+    if row.given is not None:
+        return Ends(row.given[draught], row.given[draught])
+    return survival_ends(s_fourth(*row.results[draught]))
+
+
+def partial_ends(case, shares, draught):
+    """Height and survival: a partial index, the sum of what the rows add at one draught."""
+    d = draughts(case.hull.ds, case.hull.dl)[draught]
+    return sum_ends([added_ends(share, row, d, row_survival(row, draught)) for row, share in zip(case.rows, shares)])
+
+
+def verdict_of(ends, L):
+    """Height and survival: 1 meets, 2 fails, 3 unsettled, all compared exactly."""
+    if all(end.lower >= mark * BILLION for end, mark in zip(ends, marks(L))):
+        return MEETS
+    if any(end.upper < mark * BILLION for end, mark in zip(ends, marks(L))):
+        return FAILS
+    return UNSETTLED
+
+
+def answer_to_case(case):
+    """Height and survival: the answer of an accepted file."""
+    shares = tuple(share_ends(case.hull, row) for row in case.rows)
+    partials = tuple(partial_ends(case, shares, draught) for draught in range(3))
+    ends = (attained_ends(*partials),) + partials
+    return Answer(0, 0, verdict_of(ends, case.hull.L), ends, shares)
+
+
+def answer(data, sheet=None):
+    """The case file: the answer to the bytes, with a sheet of that many numbers, or one as long as needed."""
+    read = reading(data)
+    if not isinstance(read, Refusal) and sheet is not None and sheet < 2 * len(read.rows):
+        read = Refusal(11, 0)
+    if isinstance(read, Refusal):
+        return Answer(read.number, read.line, 0, NO_ENDS, ())
+    return answer_to_case(read)

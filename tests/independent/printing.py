@@ -1,0 +1,49 @@
+"""The text of an answer: the lines of the program damindex, the bare figures, and the exact figures for reading."""
+
+from .casefile import Refusal
+from .regulation import R, WHOLE_SURVIVAL, WHOLE_V, draughts, row_share, row_v, s_fourth
+
+DRAUGHTS = ("deepest", "partial", "light")
+
+
+def printed(answer):
+    """One file in full: an 81 line and an 82 line a row, or the one 8f line of a refusal."""
+    if answer.number:
+        return f"8f{answer.number:02x}{answer.line:04x}\n"
+    index = "".join(f"{end.lower:08x}{end.upper:08x}" for end in answer.ends)
+    shares = "".join(f"82{share.lower:08x}{share.upper:08x}\n" for share in answer.shares)
+    return f"81{answer.verdict:02x}{index}\n{shares}"
+
+
+def figures(answer):
+    """The answer's numbers: number, line, verdict, rows, eight ends, then what the sheet is given."""
+    ends = [figure for end in answer.ends for figure in end]
+    sheet = [figure for share in answer.shares for figure in share]
+    return [answer.number, answer.line, answer.verdict, answer.rows] + ends + sheet
+
+
+def exact_survival(row, draught):
+    """Height and survival: a row's s⁴ at one draught as a fraction, or its given survival."""
+    if row.given is not None:
+        return f"s {row.given[draught]}/{WHOLE_SURVIVAL} given"
+    return f"s^4 {s_fourth(*row.results[draught])}"
+
+
+def exact_text(read):
+    """Shares, and Height and survival: the exact figures of a reading, one a line."""
+    if isinstance(read, Refusal):
+        return f"refused {read.number} at line {read.line}\n"
+    hull = read.hull
+    depths = draughts(hull.ds, hull.dl)
+    shares = [row_share(hull, row) for row in read.rows]
+    lines = []
+    for number, (row, share) in enumerate(zip(read.rows, shares), 1):
+        lines.append(f"row {number}: group ({row.a}, {row.n}) b {row.b} H {row.H} share {share}")
+        for draught, name in enumerate(DRAUGHTS):
+            lines.append(f"  {name}: v {row_v(row, depths[draught])}/{WHOLE_V} {exact_survival(row, draught)}")
+    lines.append(f"R {R(hull.L)}")
+    lines.append(f"partial mark {R(hull.L) / 2}")
+    for d, name in zip(depths, DRAUGHTS):
+        total = sum(share * row_v(row, d) for row, share in zip(read.rows, shares)) / WHOLE_V if shares else 0
+        lines.append(f"total chance at {name} draught {d}: {total}")
+    return "".join(line + "\n" for line in lines)

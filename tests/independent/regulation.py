@@ -1,0 +1,183 @@
+"""The exact figures of document 01 as fractions: chances, shares, height, survival and the required index."""
+
+from fractions import Fraction
+from functools import lru_cache
+from typing import NamedTuple
+
+WHOLE_V = 916_500        # v of a boundary that no damage passes
+WHOLE_SURVIVAL = 10_000  # a survival of one
+KEPT = 8_192             # figures kept by the caches: more than the spans and layers of any one file
+
+
+class Span(NamedTuple):
+    """A stretch of the ship by its aft and forward place, in centimetres from the aft end."""
+
+    aft: int
+    forward: int
+
+    @property
+    def length(self):
+        return self.forward - self.aft
+
+
+# Chance of damage within a span (regulation 7-1)
+
+
+def p(x, L):
+    """Chance of damage within a span: inner p, one of three bands."""
+    if 33 * x <= 5 * L:
+        return Fraction(550 * x**2 * L - 1089 * x**3, 100 * L**3)
+    if 33 * x <= 10 * L:
+        return Fraction(-1000 * L**3 + 19800 * x * L**2 + 32670 * x**2 * L - 35937 * x**3, 29700 * L**3)
+    return Fraction(297 * x - 20 * L, 297 * L)
+
+
+def ends_touched(span, L):
+    """Chance of damage within a span: how many ends of the ship the span touches, by place."""
+    return (span.aft == 0) + (span.forward == L)
+
+
+@lru_cache(maxsize=KEPT)
+def P(span, L):
+    """Chance of damage within a span: P of an inner span, of one that touches one end, and of the whole ship."""
+    touched = ends_touched(span, L)
+    if touched == 2:
+        return Fraction(1)
+    if touched == 1:
+        return (p(span.length, L) + Fraction(span.length, L)) / 2
+    return p(span.length, L)
+
+
+# Penetration
+
+
+def C(b, B):
+    """Penetration: C."""
+    return Fraction(16 * b * B - 12 * b**2, 5 * B**2)
+
+
+def G1(b, B):
+    """Penetration: G1."""
+    return Fraction(5500 * b * B - 1089 * b**2, 7500 * B**2)
+
+
+def G3(b, B):
+    """Penetration: G3."""
+    return Fraction(1375 * b**2 * B - 363 * b**3, 56250 * B**3)
+
+
+def is_short(x, b, L, B):
+    """Penetration: the spans that take the second form of G."""
+    return 15 * B * x <= b * L
+
+
+def G(span, b, L, B):
+    """Penetration: exact G of the whole ship, of a span with one end, and with neither."""
+    x = span.length
+    touched = ends_touched(span, L)
+    if touched == 2:
+        return G1(b, B)
+    if touched == 1:
+        if is_short(x, b, L, B):
+            return (p(x, L) + x * G1(b, B) / L) / 2
+        return x * G1(b, B) / L - G3(b, B) / 2
+    if is_short(x, b, L, B):
+        return p(x, L)
+    return x * G1(b, B) / L - G3(b, B)
+
+
+@lru_cache(maxsize=KEPT)
+def Q(span, b, L, B):
+    """Penetration: the chance of damage within the span and within b."""
+    return P(span, L) * C(b, B) + G(span, b, L, B) * (1 - C(b, B))
+
+
+# Shares
+
+
+def group_terms(zones, a, n):
+    """Shares: the spans of group (a, n), each with the sign of its Q."""
+
+    def zones_from(first, last):
+        return Span(zones[first - 1].aft, zones[last - 1].forward)
+
+    last = a + n - 1
+    if n == 1:
+        return [(+1, zones_from(a, a))]
+    if n == 2:
+        return [(+1, zones_from(a, last)), (-1, zones_from(a, a)), (-1, zones_from(last, last))]
+    return [
+        (+1, zones_from(a, last)),
+        (-1, zones_from(a, last - 1)),
+        (-1, zones_from(a + 1, last)),
+        (+1, zones_from(a + 1, last - 1)),
+    ]
+
+
+def row_terms(zones, a, n, b, b_before):
+    """Shares: the up to eight terms (sign, span, b) of a row; b_before is 0 in a group's first layer."""
+    terms = [(sign, span, b) for sign, span in group_terms(zones, a, n)]
+    if b_before > 0:
+        terms += [(-sign, span, b_before) for sign, span in group_terms(zones, a, n)]
+    return terms
+
+
+def row_share(hull, row):
+    """Shares: a row's exact share, that at its b less that at the layer before."""
+    terms = row_terms(hull.zones, row.a, row.n, row.b, row.b_before)
+    return sum((sign * Q(span, b, hull.L, hull.B) for sign, span, b in terms), Fraction(0))
+
+
+def group_share(hull, a, n):
+    """Shares: the exact share of group (a, n) over its full depth, at b = B/2."""
+    return sum(sign * Q(span, hull.B // 2, hull.L, hull.B) for sign, span in group_terms(hull.zones, a, n))
+
+
+# Height and survival
+
+
+def v(h):
+    """Height and survival: v at h = H - d, in 916,500ths."""
+    if h <= 0:
+        return 0
+    if h <= 7_800:
+        return 94 * h
+    if h <= 12_500:
+        return 733_200 + 39 * (h - 7_800)
+    return WHOLE_V
+
+
+def row_v(row, d):
+    """Height and survival: a row's v at draught d; H_below is None for the first row of a layer."""
+    below = 0 if row.H_below is None else v(row.H_below - d)
+    return v(row.H - d) - below
+
+
+def s_fourth(lever, reach, heel):
+    """Height and survival: s⁴ of one result, from its lever, range and heel."""
+    g = min(lever, 120)
+    t = min(reach, 1_600)
+    if heel <= 2_500:
+        k = Fraction(1)
+    elif heel >= 3_000:
+        k = Fraction(0)
+    else:
+        k = Fraction(3_000 - heel, 500) ** 2
+    return Fraction(g, 120) * Fraction(t, 1_600) * k
+
+
+def draughts(ds, dl):
+    """Height and survival: deepest, partial, light; dp is whole because ds - dl is a multiple of 5."""
+    return (ds, dl + 3 * (ds - dl) // 5, dl)
+
+
+def R(L):
+    """Height and survival: the required index."""
+    if L > 10_000:
+        return Fraction(L + 2_400, L + 15_200)
+    return Fraction(L * (L + 2_400), L * (L + 2_400) + 128_000_000)
+
+
+def marks(L):
+    """Height and survival: what A, As, Ap and Al must reach."""
+    return (R(L), R(L) / 2, R(L) / 2, R(L) / 2)

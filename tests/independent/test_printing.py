@@ -1,0 +1,111 @@
+"""Tests of what is printed: document 01's file byte for byte, the sheet, and the command line."""
+
+import subprocess
+import sys
+import unittest
+from pathlib import Path
+
+from independent import answer, figures, run
+from independent.writing import end_line, file_of, given_row, hull_line, whole_file
+
+PROGRAM = Path(__file__).resolve().parent
+
+PRINTED_CASE = b"""\
+0126ac064017700fa00205dc
+02010103204844001e01900000001e01900000001e01900000
+03010203204844000000000000
+03020103204844271027102710
+0f0003
+"""
+PRINTED_ANSWER = b"""\
+810134243ab934243abb34243ab934243abb34243ab934243abb34243ab934243abb
+82072648b6072648b7
+8203e36aea03e36aec
+823091165e3091165f
+"""
+SHARES = [119_949_494, 119_949_495, 65_235_690, 65_235_692, 814_814_814, 814_814_815]
+FIGURES = [0, 0, 1, 3] + 4 * [874_789_561, 874_789_563] + SHARES
+
+
+def program(*words, data=b""):
+    """What the command writes for these words and this input."""
+    done = subprocess.run([sys.executable, str(PROGRAM), *words], input=data, capture_output=True, check=True)
+    return done.stdout
+
+
+class Printed(unittest.TestCase):
+    """Document 01, "One file in full"."""
+
+    def test_printed_case(self):
+        self.assertEqual(run(PRINTED_CASE), PRINTED_ANSWER)
+
+    def test_figures(self):
+        self.assertEqual(figures(answer(PRINTED_CASE)), FIGURES)
+
+    def test_answers_do_not_depend_on_files_before(self):
+        other = PRINTED_CASE.replace(b"05dc", b"05dd")
+        turns = [run(data) for data in (other, PRINTED_CASE, other, PRINTED_CASE)]
+        self.assertEqual(turns[1::2], [PRINTED_ANSWER] * 2)
+        self.assertEqual(turns[0], turns[2])
+        self.assertNotEqual(turns[0], PRINTED_ANSWER)
+
+    def test_refusals(self):
+        self.assertEqual(run(b""), b"8f0a0001\n")
+        self.assertEqual(run(b"\n" * 40_000), b"8f010000\n")
+        self.assertEqual(run(file_of([hull_line(9_900, 1_600, 6_000, 4_000, [])] + ["0f"])), b"8f030002\n")
+        self.assertEqual(figures(answer(b"")), [10, 1] + 10 * [0])
+
+    def test_line_number_of_two_bytes(self):
+        rows = [given_row(1, 1, 800, 18_000 + i, (0, 0, 0)) for i in range(499)]
+        hull = hull_line(9_900, 1_600, 6_000, 4_000, [])
+        self.assertEqual(run(file_of([hull, *rows, end_line(499)])), b"8f0901f5\n")
+
+    def test_no_rows(self):
+        data = whole_file(hull_line(9_900, 1_600, 6_000, 4_000, [1_500]), [])
+        self.assertEqual(run(data), b"8102" + b"0" * 64 + b"\n")
+        self.assertEqual(figures(answer(data)), [0, 0, 2] + 9 * [0])
+
+
+class Sheet(unittest.TestCase):
+    """Refusal 11."""
+
+    def test_short_sheet(self):
+        for length in (0, 1, 5):
+            self.assertEqual(run(PRINTED_CASE, length), b"8f0b0000\n")
+        for length in (6, 7, 1_000):
+            self.assertEqual(run(PRINTED_CASE, length), PRINTED_ANSWER)
+
+    def test_short_sheet_comes_last(self):
+        self.assertEqual(run(PRINTED_CASE + b"\n", 0), b"8f0a0006\n")
+
+    def test_no_rows_need_no_sheet(self):
+        self.assertEqual(run(whole_file(hull_line(9_900, 1_600, 6_000, 4_000, []), []), 0)[:4], b"8102")
+
+
+class CommandLine(unittest.TestCase):
+    """The program as others call it."""
+
+    def test_standard_input(self):
+        self.assertEqual(program(data=PRINTED_CASE), PRINTED_ANSWER)
+
+    def test_sheet(self):
+        self.assertEqual(program("--sheet", "5", data=PRINTED_CASE), b"8f0b0000\n")
+        self.assertEqual(program("--sheet", "6", data=PRINTED_CASE), PRINTED_ANSWER)
+
+    def test_figures(self):
+        self.assertEqual(program("--figures", data=PRINTED_CASE), "".join(f"{n}\n" for n in FIGURES).encode())
+
+    def test_exact(self):
+        lines = program("--exact", data=PRINTED_CASE).decode().splitlines()
+        shares = [line.split(" share ")[1] for line in lines if " share " in line]
+        self.assertEqual(shares, ["95/792", "155/2376", "22/27"])
+        self.assertIn("  partial: v 916500/916500 s^4 1/16", lines)
+        self.assertIn("  light: v 916500/916500 s 10000/10000 given", lines)
+        self.assertIn("R 12177/24977", lines)
+        self.assertIn("partial mark 12177/49954", lines)
+        self.assertIn("total chance at partial draught 5200: 1", lines)
+        self.assertEqual(program("--exact"), b"refused 10 at line 1\n")
+
+    def test_every_byte_is_a_byte(self):
+        self.assertEqual(program(data=bytes(range(256))), b"8f020001\n")
+        self.assertEqual(program(data=PRINTED_CASE.replace(b"\n", b"\r\n")), b"8f020001\n")

@@ -1,0 +1,32 @@
+"""Frames of the case file from their numbers, unjudged, so that tests can write files on both sides of each limit."""
+
+
+def hull_line(L, B, ds, dl, bulkheads, m=None):
+    """The case file: a hull frame; m is the zone count that fits the bulkheads unless another is asked for."""
+    count = len(bulkheads) + 1 if m is None else m
+    return f"01{L:04x}{B:04x}{ds:04x}{dl:04x}{count:02x}" + "".join(f"{place:04x}" for place in bulkheads)
+
+
+def lever_row(a, n, b, H, results):
+    """The case file: a row of kind 02 with three results (lever, range, heel)."""
+    return f"02{a:02x}{n:02x}{b:04x}{H:04x}" + "".join(f"{number:04x}" for result in results for number in result)
+
+
+def given_row(a, n, b, H, survivals):
+    """The case file: a row of kind 03 with three given survivals."""
+    return f"03{a:02x}{n:02x}{b:04x}{H:04x}" + "".join(f"{survival:04x}" for survival in survivals)
+
+
+def end_line(count):
+    """The case file: an end frame."""
+    return f"0f{count:04x}"
+
+
+def file_of(lines):
+    """The case file: the bytes of its lines, each closed by a line feed."""
+    return "".join(line + "\n" for line in lines).encode("ascii")
+
+
+def whole_file(hull, rows):
+    """The case file: a hull line, row lines and the end frame that counts them."""
+    return file_of([hull, *rows, end_line(len(rows))])

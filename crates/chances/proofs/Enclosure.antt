@@ -12,23 +12,23 @@ use Rattle.records.specs.declared.Ends.{Ends}
 use Rattle.numbers.specs.Figures.{halvesOf}
 use Rattle.solas.specs.Span.{Touch, neither, one, both, touch, half, p, P}
 use Rattle.solas.specs.Penetration.{C, G1, G3, GAt, G, Q}
+use Rattle.solas.proofs.Quotients.{below-across}
+use Rattle.solas.proofs.Recast.{is-half}
 use Rattle.spans.specs.Rounded.{Between, Probable, Near}
 use Rattle.spans.specs.Span.{pEnds, PEnds}
 use Rattle.spans.proofs.Rounded.{Enclosed, between, ends-enclose, ends-near, ends-probable}
 use Rattle.spans.proofs.Enclosure.{p-enclosed, p-near, p-probable, P-enclosed, P-near, P-probable}
 use Rattle.chances.specs.Figures.{plus, minus}
 use Rattle.chances.specs.Penetration.{c, d, G1Ends, G3Ends, partEnds, GEndsAt, GEnds, QEnds}
-use Rattle.chances.proofs.Depth.{products, C-is, C-at-most-one, C-whole, G1-is, G1-proper, G3-is, G3-proper}
-use Rattle.chances.proofs.Figures.{crossed, enclosed-plus, enclosed-minus, enclosed-portion, enclosed-half, enclosed-mixed, near-plus, near-minus, near-portion, near-half, near-mixed, probable-minus, probable-portion, probable-half, probable-halves, probable-mixed, mixed-whole}
+use Rattle.chances.proofs.Depth.{products, C-over, C-at-most-one, C-whole, G1-is, G1-proper, G3-is, G3-proper}
+use Rattle.chances.proofs.Figures.{enclosed-plus, enclosed-minus, enclosed-portion, enclosed-half, enclosed-mixed, near-plus, near-minus, near-portion, near-half, near-mixed, probable-minus, probable-portion, probable-half, probable-halves, probable-mixed, mixed-whole}
 
 -- a figure that is wider is within
 wider : {w v : ℕ} {g : Ends} → w ≤ v → Near w g → Near v g
 wider h k = record { near = omega (arith, k .near) }
 
 half-not-above : {f : Fraction} {n d : ℕ} → 0 < d → Is f n 0 d → half f ≼ f
-half-not-above {n = n} {d = d} p h =
-    let o : Is (1 over 2) 1 0 2 = is-over 1 (omega arith) in
-    crossed (is-shifted n 0 (omega arith) (is-⊛ h o)) h (omega arith) p (omega arith)
+half-not-above p h = below-across (is-half h) h (omega arith) p (omega arith)
 
 module _ (B b : ℕ) (h : (1 ≤ B) × (B ≤ 6000) × (2 * b ≤ B)) where
   -- ---- G1 and G3
@@ -89,8 +89,8 @@ module _ (B b : ℕ) (h : (1 ≤ B) × (B ≤ 6000) × (2 * b ≤ B)) where
 
     G3-below : b * L ≤ 15 * B * x → G3 B b ≼ (x over L) ⊛ G1 B b
     G3-below l =
-        crossed (G3-is B b h) part-is (G3-proper B b h .positive) (mul-pos some (G1-proper B b h .positive))
-        (cross (5500 * b * B - 1089 * b * b) (1375 * b * b * B - 363 * b * b * b) thirds l)
+        below-across (G3-is B b h) part-is (G3-proper B b h .positive) (mul-pos some (G1-proper B b h .positive))
+        (omega (arith, cross (5500 * b * B - 1089 * b * b) (1375 * b * b * B - 363 * b * b * b) thirds l))
 
     half-below : b * L ≤ 15 * B * x → half (G3 B b) ≼ (x over L) ⊛ G1 B b
     half-below l = ≼-trans (half-not-above (G3-proper B b h .positive) (G3-is B b h)) (G3-below l)
@@ -159,7 +159,7 @@ module _ (L aft fwd : ℕ) (some : 1 ≤ L) (short : L ≤ 19800) (within : fwd 
 
   pub Q-enclosed : Enclosed (QEnds L B aft fwd b) (Q L B aft fwd b)
   unfolding QEnds Q
-  Q-enclosed = let q = C-at-most-one B b h in enclosed-mixed (q .0) (q .1) (C-is B b h) (P-enclosed L aft fwd some short within) G-enclosed
+  Q-enclosed = let q = C-at-most-one B b h in enclosed-mixed (q .0) (q .1) (C-over B b h) (P-enclosed L aft fwd some short within) G-enclosed
 
   pub Q-between : Between (QEnds L B aft fwd b) (Q L B aft fwd b)
   Q-between = between Q-enclosed

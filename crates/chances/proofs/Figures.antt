@@ -5,14 +5,14 @@ use native.Mathlib.Nat.{le-trans, mul-comm, mul-sub, mul-pos, mul-le-mul-left, m
 use native.Mathlib.Omega.{arith}
 use Rattle.laws.specs.Fraction.{Fraction, Is, _over_, whole, _≼_, _⊹_, _⊝_, _⊛_}
 use Rattle.laws.specs.Rounding.{ceil}
-use Rattle.laws.proofs.Fraction.{is-over, is-whole, is-widened, is-⊹, is-⊝, is-⊛, is-shifted, below, numerators-below}
+use Rattle.laws.proofs.Fraction.{is-over, is-widened, is-⊹, is-⊝, is-⊛, is-shifted, numerators-below}
 use Rattle.laws.proofs.Rounding.{ceil-least, ceil-lower, ceil-exact, floor-rises, floor-not-above-ceil, ends-apart}
 use Rattle.records.specs.declared.Ends.{Ends}
 use Rattle.numbers.specs.Figures.{Encloses, halvesOf, portionOf}
 use Rattle.numbers.proofs.Figures.{both, portion-encloses, portion-near, portion-ordered, portion-upper-at-most, halves-enclose, halves-near, halves-ordered, halves-upper-at-most}
 use Rattle.solas.specs.Span.{half}
+use Rattle.solas.proofs.Recast.{is-half, is-mixed}
 use Rattle.spans.specs.Rounded.{Probable, Near}
-use Rattle.spans.proofs.Plain.{as-plain}
 use Rattle.spans.proofs.Rounded.{Enclosed}
 use Rattle.chances.specs.Figures.{plus, minus}
 use Rattle.chances.specs.Penetration.{mixed}
@@ -24,10 +24,6 @@ module _ {f f′ : Fraction} {n n′ d d′ : ℕ} (h : Is f n 0 d) (k : Is f′
 
   right-over : Is f′ (d * n′) 0 (d′ * d)
   right-over = let e : d * d′ ≡ d′ * d = omega arith in rw e at (is-shifted (d * n′) 0 (omega arith) (is-widened d k))
-
-  -- compared by cross multiplication
-  pub crossed : 0 < d → 0 < d′ → n * d′ ≤ n′ * d → f ≼ f′
-  crossed p q l = below (mul-pos q p) left-over right-over (omega arith)
 
 -- ---- sums
 
@@ -103,15 +99,7 @@ probable-portion x L {g} p h k = record { ordered = portion-ordered x g p (k .or
 
 pub enclosed-half : {g : Ends} {f : Fraction} → Enclosed g f → Enclosed (halvesOf g) (half f)
 enclosed-half {g} h =
-    let e : h .d * 2 ≡ 2 * h .d = omega arith in
-    let o : Is (1 over 2) 1 0 2 = is-over 1 (omega arith) in
-    record {
-      n = h .n;
-      d = 2 * h .d;
-      some = omega (arith, h .some);
-      is = is-shifted (h .n) 0 (omega arith) (rw e at (is-⊛ (h .is) o));
-      held = halves-enclose g (h .held);
-    }
+    record { n = h .n; d = 2 * h .d; some = omega (arith, h .some); is = is-half (h .is); held = halves-enclose g (h .held) }
 
 pub near-half : {g : Ends} {w : ℕ} → Near w g → Near (w / 2 + 1) (halvesOf g)
 near-half {g} {w} h = record { near = halves-near g w (h .near) }
@@ -125,39 +113,29 @@ probable-halves h k = record { ordered = omega (arith, h .ordered, k .ordered); 
 
 -- ---- mixtures: c/d of the one, and the rest of the other
 
-mixed-low : (q d c r a b D E n m : ℕ) → q * d ≤ a * c + b * r → a * D ≤ n → b * E ≤ m → q * (D * E * d) ≤ n * c * E + m * r * D
+mixed-low : (q d c r a b D E n m : ℕ) → q * d ≤ a * c + b * r → a * D ≤ n → b * E ≤ m → q * (E * D * d) ≤ E * n * c + D * m * r
 mixed-low q d c r a b D E n m h k l = omega (arith, mul-le-mul-left (D * E) h, mul-le-mul-left (c * E) k, mul-le-mul-left (r * D) l)
 
-mixed-high : (q d c r a b D E n m : ℕ) → a * c + b * r ≤ q * d → n ≤ a * D → m ≤ b * E → n * c * E + m * r * D ≤ q * (D * E * d)
+mixed-high : (q d c r a b D E n m : ℕ) → a * c + b * r ≤ q * d → n ≤ a * D → m ≤ b * E → E * n * c + D * m * r ≤ q * (E * D * d)
 mixed-high q d c r a b D E n m h k l = omega (arith, mul-le-mul-left (D * E) h, mul-le-mul-left (c * E) k, mul-le-mul-left (r * D) l)
 
 module _ {c d : ℕ} (p : 0 < d) (l : c ≤ d) where
-  -- what C leaves of one
-  rest-is : {C : Fraction} → Is C c 0 d → Is (whole 1 ⊝ C) (d - c) 0 d
-  rest-is h = is-shifted (d - c) 0 (omega arith) (is-⊝ (is-whole 1 p) h)
-
   pub enclosed-mixed : {f g : Ends} {P C G : Fraction} → Is C c 0 d → Enclosed f P → Enclosed g G → Enclosed (mixed c d f g) (P ⊛ C ⊹ G ⊛ (whole 1 ⊝ C))
   unfolding mixed
   enclosed-mixed {f} {g} e h k =
       let D = h .d in
       let E = k .d in
-      let dn : 0 < D * E * d = mul-pos (mul-pos (h .some) (k .some)) p in
-      let left : D * d * E ≡ D * E * d = omega arith in
-      let right : E * d * D ≡ D * E * d = omega arith in
+      let r = d - c in
       record {
-        n = h .n * c * E + k .n * (d - c) * D;
-        d = D * E * d;
-        some = dn;
-        is = is-shifted (h .n * c * E + k .n * (d - c) * D) 0 (omega arith)
-            (is-⊹ (scaled E left (is-⊛ (h .is) e)) (scaled D right (is-⊛ (k .is) (rest-is e))));
+        n = E * h .n * c + D * k .n * r;
+        d = E * D * d;
+        some = mul-pos (mul-pos (k .some) (h .some)) p;
+        is = is-mixed (left-over (h .is) (k .is)) (right-over (h .is) (k .is)) e l;
         held = record {
-          low = omega (arith, mixed-low ((f .lower * c + g .lower * (d - c)) / d) d c (d - c) (f .lower) (g .lower) D E (10 ^ 9 * h .n) (10 ^ 9 * k .n) (div-mul-le-self (f .lower * c + g .lower * (d - c)) d) (h .held .low) (k .held .low));
-          high = omega (arith, mixed-high (ceil (f .upper * c + g .upper * (d - c)) d) d c (d - c) (f .upper) (g .upper) D E (10 ^ 9 * h .n) (10 ^ 9 * k .n) (ceil-lower (f .upper * c + g .upper * (d - c)) d p) (h .held .high) (k .held .high));
+          low = omega (arith, mixed-low ((f .lower * c + g .lower * r) / d) d c r (f .lower) (g .lower) D E (10 ^ 9 * h .n) (10 ^ 9 * k .n) (div-mul-le-self (f .lower * c + g .lower * r) d) (h .held .low) (k .held .low));
+          high = omega (arith, mixed-high (ceil (f .upper * c + g .upper * r) d) d c r (f .upper) (g .upper) D E (10 ^ 9 * h .n) (10 ^ 9 * k .n) (ceil-lower (f .upper * c + g .upper * r) d p) (h .held .high) (k .held .high));
         };
       }
-    where
-      scaled : {F : Fraction} {a b m n : ℕ} (j : ℕ) → m * j ≡ n → Is F a b m → Is F (j * a) (j * b) n
-      scaled {m = m} j q h = let z : j * m ≡ m * j = omega arith in rw (← q, ← z) (is-widened j h)
 
   pub near-mixed : {f g : Ends} {w : ℕ} → Near w f → Near w g → Near (w + 1) (mixed c d f g)
   unfolding mixed

@@ -1,4 +1,4 @@
--- A row's share lies between its ends, which are at most 32 apart, once no share is negative and none above one. Assumes nothing.
+-- A row's share lies between its ends, which are at most 32 apart; nothing is cut off, as no share is negative and none above one. Assumes nothing.
 use mathlib.Core.Path.{_≡_, refl}
 use Prim.Native.Nat.{ℕ, zero, suc, _+_, _-_, _*_, _^_, _≤_, _<_, min}
 use native.Mathlib.Nat.{le-refl, le-trans, min-le-right}
@@ -8,8 +8,8 @@ use Rattle.records.specs.declared.Ends.{Ends}
 use Rattle.solas.specs.Ship.{Ship, Sound}
 use Rattle.solas.specs.Share.{within, share, before, rowShare}
 use Rattle.solas.specs.Count.{added, taken, Group}
-use Rattle.solas.specs.Promises.{NoShareNegative, NoShareAboveOne}
 use Rattle.solas.proofs.Ship.{ends-within}
+use Rattle.solas.proofs.Promises.{no-share-negative, no-share-above-one}
 use Rattle.spans.specs.Rounded.{Between, Near}
 use Rattle.chances.specs.Penetration.{QEnds}
 use Rattle.chances.specs.Share.{withinEnds, low, high, sumsOf, rowOf, rowEnds}
@@ -103,16 +103,16 @@ shares-near s a n b′ b r =
     let bf = group-near s (r .sound) (r .narrow) a n b′ (r .group) (omega (arith, r .deep, r .rising)) in
     record { near = le-trans (min-le-right (10 ^ 9) (added (high s b) a n + taken (high s b′) a n - (taken (low s b) a n + added (low s b′) a n))) (omega arith) }
 
-module _ (positive : NoShareNegative) (proper : NoShareAboveOne) where
-  pub shares-enclosed : SharesEnclosed
-  unfolding rowEnds rowOf sumsOf
-  shares-enclosed s a n b′ b r =
-      held (row-bounds s (r .sound) (r .narrow) a n b′ b r) (positive s (r .sound) a n b′ b (r .group) (r .rising) (r .deep)) (proper s (r .sound) a n b′ b (r .group) (r .rising) (r .deep))
+pub shares-enclosed : SharesEnclosed
+unfolding rowEnds rowOf sumsOf
+shares-enclosed s a n b′ b r =
+    held (row-bounds s (r .sound) (r .narrow) a n b′ b r) (no-share-negative s (r .sound) a n b′ b (r .group) (r .rising) (r .deep))
+    (no-share-above-one s (r .sound) a n b′ b (r .group) (r .rising) (r .deep))
 
-  pub upper-not-cut : UpperNotCut
-  upper-not-cut s a n b′ b r = not-cut (row-bounds s (r .sound) (r .narrow) a n b′ b r) (positive s (r .sound) a n b′ b (r .group) (r .rising) (r .deep))
+pub upper-not-cut : UpperNotCut
+upper-not-cut s a n b′ b r = not-cut (row-bounds s (r .sound) (r .narrow) a n b′ b r) (no-share-negative s (r .sound) a n b′ b (r .group) (r .rising) (r .deep))
 
-  pub lower-at-most-one : LowerAtMostOne
-  unfolding rowEnds rowOf sumsOf
-  lower-at-most-one s a n b′ b r =
-      omega (arith, not-over (row-bounds s (r .sound) (r .narrow) a n b′ b r) (proper s (r .sound) a n b′ b (r .group) (r .rising) (r .deep)))
+pub lower-at-most-one : LowerAtMostOne
+unfolding rowEnds rowOf sumsOf
+lower-at-most-one s a n b′ b r =
+    omega (arith, not-over (row-bounds s (r .sound) (r .narrow) a n b′ b r) (no-share-above-one s (r .sound) a n b′ b (r .group) (r .rising) (r .deep)))

@@ -2,7 +2,7 @@ pub mod Bands
 mod Coefficient
 pub mod Enclosure
 pub mod Places
-pub mod Plain
+pub mod Powers
 pub mod Rounded
 pub mod Span
 pub mod Table

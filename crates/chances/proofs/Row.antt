@@ -12,7 +12,7 @@ use Rattle.solas.proofs.Ship.{ends-within}
 use Rattle.solas.proofs.Promises.{no-share-negative, no-share-above-one}
 use Rattle.spans.specs.Rounded.{Between, Near}
 use Rattle.chances.specs.Penetration.{QEnds}
-use Rattle.chances.specs.Share.{withinEnds, low, high, sumsOf, rowOf, rowEnds}
+use Rattle.chances.specs.Share.{withinEnds, low, high, sumsOf, lowest, highest, rowOf, rowEnds}
 use Rattle.chances.specs.Promises.{Row, SharesEnclosed, SharesNear, UpperNotCut, LowerAtMostOne}
 use Rattle.chances.proofs.Enclosure.{Q-between, Q-near}
 use Rattle.chances.proofs.Bounds.{Bounds, bounds-of, bounds-zero, bounds-as, bounds-⊹, bounds-⊝, not-cut, not-over, held}
@@ -97,14 +97,14 @@ module _ (s : Ship) (sound : Sound s) (narrow : s .B ≤ 6000) where
 -- ---- the row
 
 pub shares-near : SharesNear
-unfolding rowEnds rowOf sumsOf
+unfolding rowEnds rowOf lowest highest sumsOf
 shares-near s a n b′ b r =
     let at = group-near s (r .sound) (r .narrow) a n b (r .group) (r .deep) in
     let bf = group-near s (r .sound) (r .narrow) a n b′ (r .group) (omega (arith, r .deep, r .rising)) in
     record { near = le-trans (min-le-right (10 ^ 9) (added (high s b) a n + taken (high s b′) a n - (taken (low s b) a n + added (low s b′) a n))) (omega arith) }
 
 pub shares-enclosed : SharesEnclosed
-unfolding rowEnds rowOf sumsOf
+unfolding rowEnds rowOf lowest highest sumsOf
 shares-enclosed s a n b′ b r =
     held (row-bounds s (r .sound) (r .narrow) a n b′ b r) (no-share-negative s (r .sound) a n b′ b (r .group) (r .rising) (r .deep))
     (no-share-above-one s (r .sound) a n b′ b (r .group) (r .rising) (r .deep))
@@ -113,6 +113,6 @@ pub upper-not-cut : UpperNotCut
 upper-not-cut s a n b′ b r = not-cut (row-bounds s (r .sound) (r .narrow) a n b′ b r) (no-share-negative s (r .sound) a n b′ b (r .group) (r .rising) (r .deep))
 
 pub lower-at-most-one : LowerAtMostOne
-unfolding rowEnds rowOf sumsOf
+unfolding rowEnds rowOf lowest highest sumsOf
 lower-at-most-one s a n b′ b r =
     omega (arith, not-over (row-bounds s (r .sound) (r .narrow) a n b′ b r) (no-share-above-one s (r .sound) a n b′ b (r .group) (r .rising) (r .deep)))

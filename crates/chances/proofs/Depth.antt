@@ -4,15 +4,14 @@ use Prim.Native.Nat.{ℕ, _+_, _-_, _*_, _^_, _≤_, _<_}
 use native.Mathlib.Nat.{mul-le-mul, mul-le-mul-left, mul-le-mul-right, mul-pos}
 use native.Mathlib.Omega.{arith}
 use Rattle.laws.specs.Fraction.{Is, _less_over_}
-use Rattle.laws.proofs.Fraction.{is-less-over}
+use Rattle.laws.proofs.Fraction.{is-less-over, is-rewritten}
 use Rattle.records.specs.declared.Ends.{Ends}
 use Rattle.numbers.specs.Figures.{Proper, billionthsOf, halvesOf}
 use Rattle.numbers.proofs.Figures.{proper}
 use Rattle.solas.specs.Penetration.{C, G1, G3}
 use Rattle.chances.specs.Penetration.{c, d, G1Ends, G3Ends}
 use Rattle.chances.specs.Layer.{layerOf}
-use Rattle.solas.proofs.Quotients.{pow-two}
-use Rattle.solas.proofs.Recast.{is-rewritten}
+use Rattle.laws.proofs.Polynomial.{pow-two}
 use Rattle.solas.proofs.Depth.{C-is, c-at-most, c-one}
 use Rattle.spans.proofs.Powers.{cube}
 use Rattle.spans.proofs.Rounded.{ends-are}

@@ -11,7 +11,8 @@ use Rattle.records.specs.declared.Ends.{Ends}
 use Rattle.numbers.specs.Figures.{Encloses, halvesOf, portionOf}
 use Rattle.numbers.proofs.Figures.{both, portion-encloses, portion-near, portion-ordered, portion-upper-at-most, halves-enclose, halves-near, halves-ordered, halves-upper-at-most}
 use Rattle.solas.specs.Span.{half}
-use Rattle.solas.proofs.Recast.{is-half, is-mixed}
+use Rattle.solas.proofs.Within.{is-half}
+use Rattle.laws.proofs.FractionRing.{is-mixed}
 use Rattle.spans.specs.Rounded.{Probable, Near}
 use Rattle.spans.proofs.Rounded.{Enclosed}
 use Rattle.chances.specs.Figures.{plus, minus}
@@ -130,7 +131,7 @@ module _ {c d : ℕ} (p : 0 < d) (l : c ≤ d) where
         n = E * h .n * c + D * k .n * r;
         d = E * D * d;
         some = mul-pos (mul-pos (k .some) (h .some)) p;
-        is = is-mixed (left-over (h .is) (k .is)) (right-over (h .is) (k .is)) e l;
+        is = is-mixed p (left-over (h .is) (k .is)) (right-over (h .is) (k .is)) e l;
         held = record {
           low = omega (arith, mixed-low ((f .lower * c + g .lower * r) / d) d c r (f .lower) (g .lower) D E (10 ^ 9 * h .n) (10 ^ 9 * k .n) (div-mul-le-self (f .lower * c + g .lower * r) d) (h .held .low) (k .held .low));
           high = omega (arith, mixed-high (ceil (f .upper * c + g .upper * r) d) d c r (f .upper) (g .upper) D E (10 ^ 9 * h .n) (10 ^ 9 * k .n) (ceil-lower (f .upper * c + g .upper * r) d p) (h .held .high) (k .held .high));

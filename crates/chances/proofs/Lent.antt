@@ -16,7 +16,7 @@ use Rattle.chances.specs.Penetration.{c, d, GEnds, mixed, QEnds}
 use Rattle.chances.specs.Layer.{layerOf, Reached, Lent}
 use Rattle.spans.specs.Hull.{shipOf, Hulled}
 use Rattle.spans.specs.Table.{spanIn}
-use Rattle.solas.proofs.Quotients.{pow-two}
+use Rattle.laws.proofs.Polynomial.{pow-two}
 use Rattle.chances.proofs.Depth.{products, C-at-most-one}
 use Rattle.spans.proofs.Places.{place-below, place-within}
 use Rattle.spans.proofs.Table.{table-long, span-read}

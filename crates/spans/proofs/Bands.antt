@@ -11,11 +11,10 @@ use lib.IntN.{ℤ, pos}
 use lib.ListN.{getD}
 use lib.Signed.{mag}
 use Rattle.laws.specs.Fraction.{Fraction, _less_over_, Is}
-use Rattle.laws.proofs.Fraction.{is-less-over}
+use Rattle.laws.proofs.Fraction.{is-less-over, is-rewritten}
 use Rattle.laws.proofs.Table.{every, everyBelow, every-entry, every-number}
 use Rattle.solas.specs.Span.{p}
-use Rattle.solas.proofs.Quotients.{pow-two}
-use Rattle.solas.proofs.Recast.{is-rewritten}
+use Rattle.laws.proofs.Polynomial.{pow-two}
 use Rattle.spans.proofs.Powers.{cube}
 use Rattle.spans.specs.declared.Ratio.{Ratio}
 use Rattle.spans.specs.Bands.{bands, bandOf, above, entry, counted, valued, quotientOf, Small, Within, Ready, Chance}

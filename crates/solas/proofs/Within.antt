@@ -36,7 +36,7 @@ span-fits L aft fwd =
     either-way (eqb aft 0) (λ a. either-way (eqb fwd L) (λ f. rw (a, f) (omega (arith, eqb-true aft 0 a, eqb-true fwd L f))) (λ f. rw (a, f) tt))
     (λ a. either-way (eqb fwd L) (λ f. rw (a, f) tt) (λ f. rw (a, f) tt))
 
-is-half : {f : Fraction} {a b d : ℕ} → Is f a b d → Is (half f) a b (2 * d)
+pub is-half : {f : Fraction} {a b d : ℕ} → Is f a b d → Is (half f) a b (2 * d)
 is-half {d = d} h = is-written (is-⊛ h (is-over 1 (lit< tt))) (omega arith) (omega arith) (mul-comm d 2)
 
 -- x/L, over any scale

@@ -6,11 +6,10 @@ use native.Mathlib.Omega.{arith}
 use lib.Dec.{lit<}
 use Rattle.laws.specs.Fraction.{Fraction, whole, Is, _≈_, _≼_, _⊛_}
 use Rattle.laws.specs.Rounding.{ceil}
-use Rattle.laws.proofs.Fraction.{is-over, is-whole, ≈-refl, ≈-sym, ⊛-≈, ≼-of-≈, ≼-trans}
+use Rattle.laws.proofs.Fraction.{is-over, is-whole, ≈-refl, ≈-sym, ⊛-≈, ≼-of-≈, ≼-trans, below-across}
 use Rattle.laws.proofs.Roots.{powers-ordered, root-below, root-above}
 use Rattle.numbers.proofs.Root.{down-of-fraction, up-of-fraction}
 use Rattle.numbers.proofs.RootValue.{down-root, up-root}
-use Rattle.solas.proofs.Quotients.{below-across}
 use Rattle.survival.specs.Ratio.{ratioOf}
 use Rattle.survival.specs.Survival.{Factor, root, given, ends, Sensible, Bottom, Top, scaledOf, roundedOf}
 use Rattle.survival.specs.Exact.{tenThousandths, fourthPower, NotAbove, NotBelow}

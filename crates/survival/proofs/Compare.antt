@@ -6,9 +6,9 @@ use native.Mathlib.Nat.{mul-pos, mul-comm, mul-le-mul-right, mul-lt-mul-of-pos-r
 use native.Mathlib.Omega.{arith}
 use lib.Dec.{lit<}
 use Rattle.laws.specs.Fraction.{Fraction, den, _less_over_, _over_, whole, Is, _≼_, _≺_, _⊛_}
-use Rattle.laws.proofs.Fraction.{positive, is-over, is-whole, is-self, is-⊛, is-widened, numerators-below, numerators-strictly-below, ≼-of-≈, ≼-trans}
+use Rattle.laws.proofs.Fraction.{positive, is-over, is-whole, is-self, is-⊛, is-widened, numerators-below, numerators-strictly-below, ≼-of-≈, ≼-trans, is-written, below-across}
 use Rattle.laws.proofs.Polynomial.{_:*_, _:^_, _:=_, _⊢_, poly1}
-use Rattle.solas.proofs.Quotients.{is-written, below-across, ⊛-comm}
+use Rattle.laws.proofs.FractionRing.{⊛-comm}
 use Rattle.survival.specs.Ratio.{ratioOf}
 use Rattle.survival.specs.Exact.{fourthPower}
 

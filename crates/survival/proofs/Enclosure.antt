@@ -7,11 +7,10 @@ use native.Mathlib.Omega.{arith}
 use lib.Dec.{lit<}
 use Rattle.laws.specs.Fraction.{Fraction, den, _less_over_, _over_, whole, Is, _≈_, _≼_, _⊹_, _⊛_}
 use Rattle.laws.specs.Rounding.{ceil}
-use Rattle.laws.proofs.Fraction.{positive, is-over, is-self, is-nothing, is-⊹, is-⊛, same, ≼-of-≈, ≼-trans, ≈-sym, ⊹-≼}
+use Rattle.laws.proofs.Fraction.{positive, is-over, is-self, is-nothing, is-⊹, is-⊛, same, ≼-of-≈, ≼-trans, ≈-sym, ⊹-≼, is-written, below-across}
 use Rattle.laws.proofs.Rounding.{ceil-lower}
 use Rattle.records.specs.declared.Ends.{Ends}
 use Rattle.solas.specs.Index.{attained}
-use Rattle.solas.proofs.Quotients.{is-written, below-across}
 use Rattle.survival.specs.Ratio.{ratioOf}
 use Rattle.survival.specs.Survival.{ends}
 use Rattle.survival.specs.Index.{scale, addsOf, attainedOf}

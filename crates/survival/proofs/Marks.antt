@@ -8,7 +8,7 @@ use lib.Dec.{ltb, lit<}
 use borrow.Author.Tests.{lt-ltb, le-ltb, le-leb}
 use Rattle.laws.specs.Fraction.{_over_, whole, _≼_}
 use Rattle.solas.specs.Index.{R, partialMark}
-use Rattle.solas.proofs.Quotients.{split}
+use Rattle.laws.proofs.Choice.{split}
 use Rattle.survival.specs.Ratio.{ratioOf, Proper}
 use Rattle.survival.specs.Verdict.{reaches}
 use Rattle.survival.specs.declared.Ratio.{Ratio}

@@ -9,7 +9,7 @@ use borrow.Author.Tests.{le-leb, lt-leb}
 use Rattle.laws.specs.Fraction.{Fraction, den, _less_over_, _over_, whole, _⊛_}
 use Rattle.laws.proofs.Fraction.{positive}
 use Rattle.solas.specs.Survival.{k, s⁴}
-use Rattle.solas.proofs.Quotients.{split}
+use Rattle.laws.proofs.Choice.{split}
 use Rattle.survival.specs.Ratio.{ratioOf, Proper}
 use Rattle.survival.specs.declared.Ratio.{Ratio}
 

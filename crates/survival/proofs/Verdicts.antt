@@ -8,10 +8,9 @@ use lib.Dec.{leb, lit<}
 use lib.ListN.{getD}
 use borrow.Author.Tests.{leb-true, leb-false}
 use Rattle.laws.specs.Fraction.{Fraction, whole, Is, _≼_, _≺_}
-use Rattle.laws.proofs.Fraction.{is-over, ≼-trans}
+use Rattle.laws.proofs.Fraction.{is-over, ≼-trans, below-across, strictly-below-across}
 use Rattle.records.specs.declared.Ends.{Ends}
 use Rattle.records.specs.declared.Trio.{Trio}
-use Rattle.solas.proofs.Quotients.{below-across, strictly-below-across}
 use Rattle.survival.specs.Ratio.{ratioOf}
 use Rattle.survival.specs.Index.{attainedOf}
 use Rattle.survival.specs.Verdict.{reaches, allReach, verdictOf}

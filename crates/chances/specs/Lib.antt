@@ -1,0 +1,5 @@
+pub mod Figures
+pub mod Penetration
+pub mod Layer
+pub mod Share
+pub mod Promises

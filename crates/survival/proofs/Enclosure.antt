@@ -88,7 +88,7 @@ each-length P (x ∷ xs) (y ∷ ys) h = ap suc (each-length P xs ys (h .1))
 billionths-sum : (m n : ℕ) → billionths m ⊹ billionths n ≈ billionths (m + n)
 billionths-sum m n = let p : 0 < 10 ^ 9 = lit< tt in same p (is-⊹ (is-over m p) (is-over n p)) (is-over (m + n) p)
 
-billionths-none : whole 0 ≈ billionths 0
+pub billionths-none : whole 0 ≈ billionths 0
 billionths-none = let p : 0 < 10 ^ 9 = lit< tt in same p (is-nothing p) (is-over 0 p)
 
 pub no-more-than-upper : NoMoreThanUpper

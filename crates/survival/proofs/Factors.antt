@@ -1,15 +1,18 @@
 -- Ten-thousandths of a fourth root: the long division before the root, and what bottom and top are in the words of 01. Assumes nothing.
 use Prim.Native.Nat.{ℕ, _+_, _-_, _*_, _/_, _%_, _^_, _≤_, _<_}
-use mathlib.Core.Path.{_≡_, ap, sym, _∙_}
+use mathlib.Core.Path.{_≡_, refl, ap, sym, _∙_}
 use native.Mathlib.Nat.{div-add-mod', mod-lt, mul-add-div-right, div-le-of-le-mul, mul-le-mul-left, le-of-lt}
 use native.Mathlib.Omega.{arith}
+use borrow.Author.Tests.{eq-eqb, ne-eqb}
 use Rattle.laws.specs.Rounding.{ceil}
 use Rattle.laws.proofs.Rounding.{ceil-least}
 use Rattle.numbers.specs.Root.{RootDown, RootUp}
 use Rattle.numbers.proofs.RootValue.{down-value, up-value}
+use Rattle.records.specs.declared.Finding.{Finding}
 use Rattle.records.specs.declared.Survival.{Survival}
-use Rattle.survival.specs.Ratio.{Proper}
-use Rattle.survival.specs.Survival.{scaledOf, roundedOf}
+use Rattle.solas.specs.Survival.{s⁴}
+use Rattle.survival.specs.Ratio.{ratioOf, Proper}
+use Rattle.survival.specs.Survival.{factorOf, scaledOf, roundedOf, survivalOf}
 use Rattle.survival.specs.declared.Ratio.{Ratio}
 use Rattle.survival.specs.declared.finding.Multiple.{Multiple}
 
@@ -62,3 +65,12 @@ rounds {f} {m} {a} {b} p e low high =
     let d = scaled-down-fits p in
     let u = scaled-up-fits p in
     same-survival (down-value (omega arith) (rw e at low)) (up-value (omega arith) (rw e at high))
+
+-- ---- kind by kind
+pub as-given : (kind : ℕ) (f : Finding) → kind ≡ 3 → survivalOf kind f ≡ record { bottom = f .given; top = f .given }
+unfolding survivalOf factorOf
+as-given kind f e = rw (eq-eqb kind 3 e) refl
+
+pub as-found : (kind : ℕ) (f : Finding) → (kind ≡ 3 → ⊥) → survivalOf kind f ≡ roundedOf (ratioOf (s⁴ (f .lever) (f .range) (f .heel)))
+unfolding survivalOf factorOf
+as-found kind f n = rw (ne-eqb kind 3 n) refl

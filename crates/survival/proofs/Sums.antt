@@ -2,7 +2,7 @@
 use Prim.Native.Nat.{ℕ, zero, suc, _+_, _*_, _^_, _≤_}
 use mathlib.Core.List.{List, [], _∷_, _++_, map}
 use mathlib.Core.Path.{_≡_, refl, ap, ap₂}
-use native.Mathlib.Nat.{mul-le-mul, div-le-of-le-mul}
+use native.Mathlib.Nat.{le-trans, mul-le-mul, div-le-of-le-mul}
 use native.Mathlib.Omega.{arith}
 use lib.Dec.{lit<}
 use lib.ListN.{getD, List·getD-map}
@@ -87,3 +87,10 @@ plus-within {j} {k} {t} {u} h l =
 pub none-within : Within 0 (partials [])
 unfolding partials
 none-within = record { low = small (omega arith) (omega arith) (omega arith); high = small (omega arith) (omega arith) (omega arith) }
+
+pub within-wider : {j k : ℕ} {t : Trio} → j ≤ k → Within j t → Within k t
+within-wider h w =
+    record {
+      low = record { each = λ i. le-trans (w .low .each i) h };
+      high = record { each = λ i. le-trans (w .high .each i) h };
+    }

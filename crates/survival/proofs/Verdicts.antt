@@ -1,23 +1,27 @@
 -- The verdict is right: by its ends, and by every exact figure that the ends enclose. Assumes nothing.
-use Prim.Native.Nat.{ℕ, _*_, _^_}
+use Prim.Native.Nat.{ℕ, _*_, _^_, _<_}
 use mathlib.Core.Bool.{Bool, true, false, cond, not, _&&_}
-use mathlib.Core.List.{List}
+use mathlib.Core.List.{List, []}
 use mathlib.Core.Path.{_≡_, refl}
 use native.Mathlib.Omega.{arith}
 use lib.Dec.{leb, lit<}
 use lib.ListN.{getD}
 use borrow.Author.Tests.{leb-true, leb-false}
 use Rattle.laws.specs.Fraction.{Fraction, whole, Is, _≼_, _≺_}
-use Rattle.laws.proofs.Fraction.{is-over, ≼-trans, below-across, strictly-below-across}
+use Rattle.laws.specs.Rounding.{ceil}
+use Rattle.laws.proofs.Fraction.{is-over, ≈-sym, ≼-of-≈, ≼-trans, below-across, strictly-below-across}
 use Rattle.records.specs.declared.Ends.{Ends}
 use Rattle.records.specs.declared.Trio.{Trio}
+use Rattle.solas.specs.Index.{R, partialMark}
+use Rattle.solas.proofs.Required.{R-positive}
 use Rattle.survival.specs.Ratio.{ratioOf}
-use Rattle.survival.specs.Index.{attainedOf}
+use Rattle.survival.specs.Index.{partials, attainedOf}
 use Rattle.survival.specs.Verdict.{reaches, allReach, verdictOf}
 use Rattle.survival.specs.Exact.{billionths, partialsOf}
 use Rattle.survival.specs.Promises.{AllFour, OneOfFour, attained, atDeepest, atPartial, atLight, Meets, Fails, ByEnds, VerdictByEnds, MeetsIsRight, OneShort, FailsIsRight}
 use Rattle.survival.proofs.Compare.{across-below, across-strictly-below, ratio-positive, is-ratio, below-then-strictly}
-use Rattle.survival.proofs.Enclosure.{no-more-than-upper, no-less-than-lower, attained-no-more, attained-no-less}
+use Rattle.survival.proofs.Marks.{required-not-negative, mark-not-negative}
+use Rattle.survival.proofs.Enclosure.{billionths-none, no-more-than-upper, no-less-than-lower, attained-no-more, attained-no-less}
 
 -- a test that tells which of two facts holds, of which only one can
 data Tells (P Q : Type 0) : Bool → Type 0 where
@@ -108,3 +112,13 @@ fails-is-right rs h required mark p q e = fixed (verdict-by-ends (attainedOf (pa
     fixed (atDeepest f) = atDeepest (λ xs k. below-then-strictly (no-more-than-upper (rs .deepest) (h .0) xs k) f)
     fixed (atPartial f) = atPartial (λ xs k. below-then-strictly (no-more-than-upper (rs .partial) (h .1) xs k) f)
     fixed (atLight f) = atLight (λ xs k. below-then-strictly (no-more-than-upper (rs .light) (h .2) xs k) f)
+
+-- ---- with no rows every ship fails
+pub no-rows-fail : (L : ℕ) → 0 < L → verdictOf (attainedOf (partials [])) (partials []) (ratioOf (R L)) (ratioOf (partialMark L)) ≡ 2
+unfolding attainedOf partials ceil
+no-rows-fail L h =
+    verdict-by-ends (attainedOf (partials [])) (partials []) (R L) (partialMark L) (required-not-negative L) (mark-not-negative L) .two .1
+    (λ m. let never = below-then-strictly (m .attained) short in omega (arith, never .cross), attained short)
+  where
+    short : billionths 0 ≺ R L
+    short = below-then-strictly (≼-of-≈ (≈-sym billionths-none)) (R-positive h)

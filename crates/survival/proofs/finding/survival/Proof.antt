@@ -1,15 +1,15 @@
 -- `survival::finding::survival` meets its contract, kind by kind. Assumes nothing.
 use borrow.Author.Needs.{needs}
-use mathlib.Core.Path.{refl, ap, _∙_}
-use borrow.Author.Tests.{eq-eqb, ne-eqb}
-use Rattle.survival.specs.Survival.{factorOf, roundedOf, survivalOf}
+use mathlib.Core.Path.{ap, sym, _∙_}
+use native.Mathlib.Omega.{arith}
+use Rattle.survival.specs.Survival.{roundedOf}
+use Rattle.survival.proofs.Factors.{as-given, as-found}
 use Rattle.survival.proofs.Ratios.{fourth-proper}
 use Rattle.survival.proofs.finding.survival.Statement.{statement}
 use Rattle.survival.proofs.finding.survival.Tie as tie
 
 returns : tie.Need-returns
-unfolding survivalOf factorOf
-returns c = rw (eq-eqb _ _ (c .if1 .taken)) refl
+returns c = let a = c .before .args in sym (as-given (a .kind) (a .f) (omega arith))
 
 fourth-requires : tie.Need-fourth-requires
 fourth-requires c κs = search needs
@@ -18,9 +18,9 @@ rounded-requires : tie.Need-rounded-requires
 rounded-requires c κs = rw (c .fourth .ensures) (fourth-proper _ _ _)
 
 returns-2 : tie.Need-returns-2
-unfolding survivalOf factorOf
 returns-2 c =
-    rw (ne-eqb _ _ (c .before .before .if1 .left)) (c .rounded .ensures ∙ ap roundedOf (c .before .fourth .ensures))
+    let a = c .before .before .before .args in
+    c .rounded .ensures ∙ ap roundedOf (c .before .fourth .ensures) ∙ sym (as-found (a .kind) (a .f) (c .before .before .if1 .left))
 
 pub survival-spec : {M : Type 1} → statement M
 survival-spec = tie.close (tie.spec returns fourth-requires rounded-requires returns-2)

@@ -1,6 +1,6 @@
 -- Fractions in order: what the test tells, the lesser of two, what is above 0, and the one root that is not below it. Assumes nothing.
 use Prim.Native.Nat.{ℕ, _+_, _-_, _*_, _≤_, _<_, min}
-use mathlib.Core.Path.{_≡_, sym}
+use mathlib.Core.Path.{_≡_, refl, sym}
 use mathlib.Core.Bool.{true, false, cond}
 use native.Mathlib.Nat.{mul-pos, le-antisymm, le-dest, mul-lt-mul-of-pos-left, mul-lt-mul-of-pos-right}
 use native.Mathlib.Omega.{arith, by-contra}
@@ -26,11 +26,11 @@ is-chosen {a = a} {b} {d} m n h k = chosen (λ f. Is f a b d) m n h k
 -- ---- the lesser of two
 pub lesser-first : {f g : Fraction} → f ≼ g → lesser f g ≡ f
 unfolding lesser
-lesser-first h = rw (test-passes h)
+lesser-first h = rw (test-passes h) refl
 
 pub lesser-second : {f g : Fraction} → g ≺ f → lesser f g ≡ g
 unfolding lesser
-lesser-second h = rw (test-fails h)
+lesser-second h = rw (test-fails h) refl
 
 pub is-lesser : {f g : Fraction} {a c d : ℕ} → 0 < d → Is f a 0 d → Is g c 0 d → Is (lesser f g) (min a c) 0 d
 is-lesser {f} {g} {a} {c} p h k =

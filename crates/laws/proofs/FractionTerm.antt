@@ -24,18 +24,23 @@ pub record Term (ρ : List ℕ) (f : Fraction) : Type 0 where
 
 -- ---- what stands for itself
 
+-- known to be (a - b)/d
 abbrev pub constant : {ρ : List ℕ} {f : Fraction} {a b d : ℕ} → T (ltb 0 d) → Is f a b d → Term ρ f
 constant {a} {b} {d} p h = record { plus = C a; minus = C b; under = C d; positive = lit< p; is = h }
 
+-- written as n/d
 abbrev pub number : {ρ : List ℕ} (n d : ℕ) → T (ltb 0 d) → Term ρ (n over d)
 number n d p = constant p (is-over n (lit< p))
 
+-- known to be a quotient of polynomials
 abbrev pub ratio : {ρ : List ℕ} {f : Fraction} (a d : Expr) → 0 < value d ρ → Is f (value a ρ) 0 (value d ρ) → Term ρ f
 ratio a d p h = record { plus = a; minus = C 0; under = d; positive = p; is = h }
 
+-- the variable of place i, as a whole number
 abbrev pub variable : {ρ : List ℕ} (i : ℕ) → Term ρ (whole (place i ρ))
 variable {ρ} i = ratio (X i) (C 1) (lit< tt) (is-over (place i ρ) (lit< tt))
 
+-- written as a difference of polynomials over another
 abbrev pub polynomial : {ρ : List ℕ} (a b d : Expr) → 0 < value d ρ → Term ρ (value a ρ less value b ρ over value d ρ)
 polynomial {ρ} a b d p = record { plus = a; minus = b; under = d; positive = p; is = is-less-over (value a ρ) (value b ρ) p }
 

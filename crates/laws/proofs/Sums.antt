@@ -1,4 +1,4 @@
--- Sums over a list and over the numbers below n: order, addition, scaling, exchange, parts. Assumes nothing.
+-- Sums over a list, over the numbers below n and over intervals: order, addition, scaling, exchange, parts. Assumes nothing.
 use Prim.Native.Nat.{ℕ, zero, suc, _+_, _-_, _*_, _/_, _%_, _≤_, _<_, zero-le}
 use mathlib.Core.Path.{_≡_, refl, sym, _∙_, ap, ap₂}
 use mathlib.Core.List.{List, [], _∷_, _++_, map, List·Memᴰ, List·Memᴰ·head, List·Memᴰ·tail}

@@ -1,4 +1,5 @@
--- Document 01's inner p is the general law at (10L, 5L, 33), in each of its three bands. Assumes nothing.
+-- Document 01's inner p is, in each of its three bands, the general law whose damage lengths end at 10L with the knuckle at 5L, where a span of x
+-- is 33x. Assumes nothing.
 use Prim.Native.Nat.{ℕ, _+_, _-_, _*_, _^_, _≤_, _<_}
 use mathlib.Core.Path.{_≡_, refl}
 use mathlib.Core.Bool.{true}

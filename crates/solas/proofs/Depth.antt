@@ -1,4 +1,4 @@
--- Document 01's C is the general law's: it rises with the penetration, up to one at the half breadth, and so do its layers. Assumes nothing.
+-- Document 01's law and layers are what the general law asks for: C rises with the penetration, up to one at the half breadth. Assumes nothing.
 use Prim.Native.Nat.{ℕ, _+_, _-_, _*_, _^_, _≤_, _<_}
 use mathlib.Core.Path.{_≡_, refl}
 use mathlib.Core.Bool.{true}

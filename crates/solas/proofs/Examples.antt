@@ -17,7 +17,7 @@ abbrev short : Ship
 short = abutting 9900 1600 3 (0 ∷ 900 ∷ 1800 ∷ 9900 ∷ [])
 
 -- a second layer, from 1.6 m to the half breadth; a first one of two zones; a second one of three zones, of which two are short
-rows : (rowShare printed 1 1 160 800 ≈ 45035669 over 585937500) × (pi printed (whole 1) 160 800 1 1 ≈ 45035669 over 585937500)
+pub rows : (rowShare printed 1 1 160 800 ≈ 45035669 over 585937500) × (pi printed (whole 1) 160 800 1 1 ≈ 45035669 over 585937500)
     × (rowShare printed 1 2 0 160 ≈ 2259672299 over 116015625000) × (pi printed (whole 1) 0 160 1 2 ≈ 2259672299 over 116015625000)
     × (rowShare short 1 3 160 800 ≈ 2 over 225) × (pi short (whole 1) 160 800 1 3 ≈ 2 over 225)
 unfolding rowShare share within penetration.Q span.P penetration.G span.touch penetration.C penetration.G1 penetration.G3 span.p
@@ -25,18 +25,18 @@ unfolding rowShare share within penetration.Q span.P penetration.G span.touch pe
 rows = (record { cross = refl }, record { cross = refl }, record { cross = refl }, record { cross = refl }, record { cross = refl }, record { cross = refl })
 
 -- 7.801 m above a draught of 6 m
-height : (vAt 13801 6000 ≡ 733239) × (regulation.v (millimetres 13801) (millimetres 6000) ≈ 733239 over 916500)
+pub height : (vAt 13801 6000 ≡ 733239) × (regulation.v (millimetres 13801) (millimetres 6000) ≈ 733239 over 916500)
 unfolding vAt v regulation.v _≼?_ _⊹_ _⊝_ _⊛_ _⊘_ _less_over_
 height = (refl, record { cross = refl })
 
-middle-draught : (dp 6000 4000 ≡ 5200) × (regulation.dp (millimetres 6000) (millimetres 4000) ≈ millimetres 5200)
+pub middle-draught : (dp 6000 4000 ≡ 5200) × (regulation.dp (millimetres 6000) (millimetres 4000) ≈ millimetres 5200)
 unfolding dp regulation.dp _⊹_ _⊝_ _⊛_ _less_over_
 middle-draught = (refl, record { cross = refl })
 
-index : (attained (1 over 2) (1 over 4) (1 over 8) ≈ 13 over 40) × (regulation.A (1 over 2) (1 over 4) (1 over 8) ≈ 13 over 40)
+pub index : (attained (1 over 2) (1 over 4) (1 over 8) ≈ 13 over 40) × (regulation.A (1 over 2) (1 over 4) (1 over 8) ≈ 13 over 40)
 unfolding attained regulation.A _⊹_ _⊛_ _less_over_
 index = (record { cross = refl }, record { cross = refl })
 
-required : (R 15000 ≈ 87 over 151) × (regulation.R (centimetres 15000) ≈ 87 over 151)
+pub required : (R 15000 ≈ 87 over 151) × (regulation.R (centimetres 15000) ≈ 87 over 151)
 unfolding R regulation.R regulation.R₀ _≼?_ _⊹_ _⊝_ _⊛_ _⊘_ _less_over_
 required = (record { cross = refl }, record { cross = refl })

@@ -54,7 +54,7 @@ module _ {l : Law} (f : Falling l) (U T S : ℕ) (h : U ≤ T) (k : T ≤ S) (m 
 pub mass-one : {l : Law} → Falling l → l .W * mass l 0 (l .κ) + 3 * l .κ ^ 2 * l .W ^ 2 ≡ unit l
 unfolding mass
 mass-one {l} f =
-    rw (density-at-knuckle f, sub-zero (l .κ)) (plain (l .κ) (l .W) (fall l) (omega (arith, f .falls)))
+    rw (density-at-knuckle f, sub-zero (l .κ)) (omega (arith, plain (l .κ) (l .W) (fall l) (omega (arith, f .falls))))
   where
     plain : (κ W σ : ℕ) → σ + 2 * κ ≡ 11 * W → W * (6 * κ * κ ^ 2 + 3 * κ ^ 2 * σ) + 3 * κ ^ 2 * W ^ 2 ≡ 36 * W ^ 2 * κ ^ 2
     plain = poly3 (λ κ W σ. (C 3 :* κ :^ 2 :* W ⊲ σ :+ C 2 :* κ := C 11 :* W) ∷ [] ⊢ W :* (C 6 :* κ :* κ :^ 2 :+ C 3 :* κ :^ 2 :* σ) :+ C 3 :* κ :^ 2 :* W :^ 2 := C 36 :* W :^ 2 :* κ :^ 2) tt

@@ -11,17 +11,17 @@ use Rattle.solas.specs.Total.{overGroups, allShares, middleSpan, allWith
 abbrev small : Ship
 small = abutting 9900 1600 3 (0 ∷ 3000 ∷ 6000 ∷ 9900 ∷ [])
 
-spans : (within small 1 1 800 ≈ 80 over 297) × (within small 2 2 800 ≈ 70 over 297) × (within small 3 3 800 ≈ 107 over 297)
+pub spans : (within small 1 1 800 ≈ 80 over 297) × (within small 2 2 800 ≈ 70 over 297) × (within small 3 3 800 ≈ 107 over 297)
     × (within small 1 2 800 ≈ 170 over 297) × (within small 2 3 800 ≈ 197 over 297) × (within small 1 3 800 ≈ whole 1)
 unfolding within Q P G touch C G1 G3 p _⊹_ _⊝_ _⊛_ _less_over_
 spans = (record { cross = refl }, record { cross = refl }, record { cross = refl }, record { cross = refl }, record { cross = refl }, record { cross = refl })
 
-shares : (share small 1 1 800 ≈ 80 over 297) × (share small 2 1 800 ≈ 70 over 297) × (share small 3 1 800 ≈ 107 over 297)
+pub shares : (share small 1 1 800 ≈ 80 over 297) × (share small 2 1 800 ≈ 70 over 297) × (share small 3 1 800 ≈ 107 over 297)
     × (share small 1 2 800 ≈ 20 over 297) × (share small 2 2 800 ≈ 20 over 297) × (share small 1 3 800 ≈ whole 0)
 unfolding share within Q P G touch C G1 G3 p _⊹_ _⊝_ _⊛_ _less_over_
 shares = (record { cross = refl }, record { cross = refl }, record { cross = refl }, record { cross = refl }, record { cross = refl }, record { cross = refl })
 
-totals : (allShares small 800 ≈ whole 1) × (allWithoutMiddle small 800 ≈ 227 over 297) × (allWithZoneBack small 800 ≈ 447 over 297)
+pub totals : (allShares small 800 ≈ whole 1) × (allWithoutMiddle small 800 ≈ 227 over 297) × (allWithZoneBack small 800 ≈ 447 over 297)
 unfolding allShares allWithoutMiddle allWithZoneBack middleSpan firstOfPair overGroups upTo share within Q P G touch C G1 G3 p _⊹_ _⊝_ _⊛_ _less_over_
 totals = (record { cross = refl }, record { cross = refl }, record { cross = refl })
 

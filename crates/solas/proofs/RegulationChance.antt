@@ -5,7 +5,7 @@ use native.Mathlib.Nat.{mul-pos, one-le-pow}
 use native.Mathlib.Omega.{arith}
 use lib.Dec.{lit<}
 use Rattle.laws.specs.Polynomial.{X, C}
-use Rattle.laws.specs.Fraction.{Fraction, _less_over_, whole, Is, _≈_, _≺_, _⊹_, _⊝_, _⊛_, _⊘_}
+use Rattle.laws.specs.Fraction.{Fraction, den, _less_over_, whole, _≈_, _≺_, _⊹_, _⊝_, _⊛_, _⊘_}
 use Rattle.laws.proofs.Choice.{chosen}
 use Rattle.laws.proofs.Polynomial.{_:+_, _:*_, _:^_, _:≤_, _:<_, _⊲_, _⊢_, poly2}
 use Rattle.laws.proofs.Fraction.{positive, is-self, is-over, is-less-over, is-≈, is-shifted, ≈-refl, ≈-trans, ⊹-≈, ⊝-≈, ⊛-≈}
@@ -52,15 +52,12 @@ P-above L aft fwd p h = touched-above (touch L aft fwd) L (fwd - aft) p (omega a
 
 -- ---- p·r with no division
 
-no-division : {n d : ℕ} (f c g : Fraction) → 0 < n → 0 < d → Is f n 0 d → f ⊛ (whole 1 ⊝ (whole 1 ⊝ c) ⊛ (whole 1 ⊝ g ⊘ f)) ≈ f ⊛ c ⊹ g ⊛ (whole 1 ⊝ c)
-no-division {n} {d} f c g p q h =
-    let fᵗ : Term (parts (c ∷ g ∷ []) ++ n ∷ d ∷ []) f = ratio (X 6) (X 7) q h in
-    agree (fᵗ ⊛ᵗ (number 1 1 tt ⊝ᵗ (number 1 1 tt ⊝ᵗ first) ⊛ᵗ (number 1 1 tt ⊝ᵗ quotient second fᵗ (X 6) (X 7) p tt))) (fᵗ ⊛ᵗ first ⊹ᵗ second ⊛ᵗ (number 1 1 tt ⊝ᵗ first)) tt
-
 without-division : (f c g : Fraction) → whole 0 ≺ f → f ⊛ (whole 1 ⊝ (whole 1 ⊝ c) ⊛ (whole 1 ⊝ g ⊘ f)) ≈ f ⊛ c ⊹ g ⊛ (whole 1 ⊝ c)
 without-division f c g h =
     let l : f .down < f .up = numerator-above-0 (positive f) (is-self f) h in
-    no-division {n = f .up - f .down} f c g (omega arith) (positive f) (is-shifted (f .up - f .down) 0 (omega arith) (is-self f))
+    let fᵗ : Term (parts (c ∷ g ∷ []) ++ (f .up - f .down) ∷ den f ∷ []) f = ratio (X 6) (X 7) (positive f) (is-shifted (f .up - f .down) 0 (omega arith) (is-self f)) in
+    agree (fᵗ ⊛ᵗ (number 1 1 tt ⊝ᵗ (number 1 1 tt ⊝ᵗ first) ⊛ᵗ (number 1 1 tt ⊝ᵗ quotient second fᵗ (X 6) (X 7) (omega arith) tt)))
+    (fᵗ ⊛ᵗ first ⊹ᵗ second ⊛ᵗ (number 1 1 tt ⊝ᵗ first)) tt
 
 module _ {Ls : ℕ} {√ : Fraction} (u : UpTo198m Ls √) {x1 x2 : ℕ} (h : x1 < x2) where
   pub p-above : whole 0 ≺ p Ls √ x1 x2

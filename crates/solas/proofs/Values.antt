@@ -14,80 +14,80 @@ use Rattle.solas.specs.Index.{dp, draughts, R}
 abbrev pub printed : Ship
 printed = abutting 9900 1600 2 (0 ∷ 1500 ∷ 9900 ∷ [])
 
-p-1500 : p 9900 1500 ≈ 35 over 396
+pub p-1500 : p 9900 1500 ≈ 35 over 396
 unfolding p _less_over_
 p-1500 = record { cross = refl }
 
-p-3000 : p 9900 3000 ≈ 70 over 297
+pub p-3000 : p 9900 3000 ≈ 70 over 297
 unfolding p _less_over_
 p-3000 = record { cross = refl }
 
-share-1-1 : share printed 1 1 800 ≈ 95 over 792
+pub share-1-1 : share printed 1 1 800 ≈ 95 over 792
 unfolding share within Q P G touch C G1 G3 p _⊹_ _⊝_ _⊛_ _less_over_
 share-1-1 = record { cross = refl }
 
-share-1-2 : share printed 1 2 800 ≈ 155 over 2376
+pub share-1-2 : share printed 1 2 800 ≈ 155 over 2376
 unfolding share within Q P G touch C G1 G3 p _⊹_ _⊝_ _⊛_ _less_over_
 share-1-2 = record { cross = refl }
 
-share-2-1 : share printed 2 1 800 ≈ 22 over 27
+pub share-2-1 : share printed 2 1 800 ≈ 22 over 27
 unfolding share within Q P G touch C G1 G3 p _⊹_ _⊝_ _⊛_ _less_over_
 share-2-1 = record { cross = refl }
 
 -- penetration at B = 1,600
-C-160 : C 1600 160 ≈ 37 over 125
+pub C-160 : C 1600 160 ≈ 37 over 125
 unfolding C _less_over_
 C-160 = record { cross = refl }
 
-C-800 : C 1600 800 ≈ whole 1
+pub C-800 : C 1600 800 ≈ whole 1
 unfolding C _less_over_
 C-800 = record { cross = refl }
 
-G1-160 : G1 1600 160 ≈ 53911 over 750000
+pub G1-160 : G1 1600 160 ≈ 53911 over 750000
 unfolding G1 _less_over_
 G1-160 = record { cross = refl }
 
 -- height
-v-7800 : v 7800 ≡ 733200
+pub v-7800 : v 7800 ≡ 733200
 unfolding v
 v-7800 = refl
 
-v-7801 : v 7801 ≡ 733239
+pub v-7801 : v 7801 ≡ 733239
 unfolding v
 v-7801 = refl
 
 -- the required index
-R-8000 : R 8000 ≈ 13 over 33
+pub R-8000 : R 8000 ≈ 13 over 33
 unfolding R _less_over_
 R-8000 = record { cross = refl }
 
-R-10000 : R 10000 ≈ 31 over 63
+pub R-10000 : R 10000 ≈ 31 over 63
 unfolding R _less_over_
 R-10000 = record { cross = refl }
 
 -- survival, by its fourth power: of 5,000 ten-thousandths, of 7,071 to 7,072, of 1,000, and at the heel's limit
-s⁴-half : s⁴ 30 400 0 ≈ 1 over 16
+pub s⁴-half : s⁴ 30 400 0 ≈ 1 over 16
 unfolding s⁴ k _⊛_ _less_over_
 s⁴-half = record { cross = refl }
 
-s⁴-quarter : s⁴ 60 800 0 ≈ 1 over 4
+pub s⁴-quarter : s⁴ 60 800 0 ≈ 1 over 4
 unfolding s⁴ k _⊛_ _less_over_
 s⁴-quarter = record { cross = refl }
 
-s⁴-tenth : s⁴ 120 1600 2995 ≈ 1 over 10000
+pub s⁴-tenth : s⁴ 120 1600 2995 ≈ 1 over 10000
 unfolding s⁴ k _⊛_ _less_over_
 s⁴-tenth = record { cross = refl }
 
-s⁴-lost : s⁴ 120 1600 3000 ≈ whole 0
+pub s⁴-lost : s⁴ 120 1600 3000 ≈ whole 0
 unfolding s⁴ k _⊛_ _less_over_
 s⁴-lost = record { cross = refl }
 
 -- beside the table: a lever and a range above their caps, and half way between the heel's limits
-s⁴-capped : s⁴ 240 3200 2500 ≈ whole 1
+pub s⁴-capped : s⁴ 240 3200 2500 ≈ whole 1
 unfolding s⁴ k _⊛_ _less_over_
 s⁴-capped = record { cross = refl }
 
-s⁴-heeled : s⁴ 120 1600 2750 ≈ 1 over 4
+pub s⁴-heeled : s⁴ 120 1600 2750 ≈ 1 over 4
 unfolding s⁴ k _⊛_ _less_over_
 s⁴-heeled = record { cross = refl }
 

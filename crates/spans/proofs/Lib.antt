@@ -6,3 +6,4 @@ pub mod Powers
 pub mod Rounded
 pub mod Span
 pub mod Table
+mod Values

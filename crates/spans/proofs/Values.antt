@@ -1,0 +1,27 @@
+-- 01's worked spans, computed: p, and P at one end, which is rounded from the exact P and not from p's ends. Assumes nothing.
+use Prim.Native.Nat.{ℕ}
+use mathlib.Core.Path.{_≡_, refl}
+use Rattle.laws.specs.Fraction.{_less_over_, _⊹_, _⊛_}
+use Rattle.laws.specs.Rounding.{ceil}
+use Rattle.records.specs.declared.Ends.{Ends}
+use Rattle.numbers.specs.Figures.{billionthsOf}
+use Rattle.solas.specs.Span.{touch, p, P}
+use Rattle.spans.specs.Rounded.{endsOf}
+use Rattle.spans.specs.Span.{pEnds, PEnds}
+
+abbrev ends : ℕ → ℕ → Ends
+ends lower upper = record { lower = lower; upper = upper }
+
+-- 35/396 and 70/297
+inner : (pEnds 9900 1500 ≡ ends 88383838 88383839) × (pEnds 9900 3000 ≡ ends 235690235 235690236)
+unfolding pEnds endsOf billionthsOf ceil p _less_over_
+inner = (refl, refl)
+
+-- 95/792 at either end of the ship, and the whole ship
+chance :
+    (PEnds 9900 0 1500 ≡ ends 119949494 119949495)
+    × (PEnds 9900 8400 9900 ≡ ends 119949494 119949495)
+    × (PEnds 9900 1000 2500 ≡ ends 88383838 88383839)
+    × (PEnds 9900 0 9900 ≡ ends 1000000000 1000000000)
+unfolding PEnds endsOf billionthsOf ceil touch P p _⊹_ _⊛_ _less_over_
+chance = (refl, refl, refl, refl)

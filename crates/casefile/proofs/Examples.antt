@@ -1,0 +1,202 @@
+-- Document 01, "One file in full", read by the definition, and files beside it that are refused. Assumes nothing.
+use Prim.Native.Nat.{ℕ}
+use mathlib.Core.Path.{_≡_, refl}
+use mathlib.Core.Bool.{false}
+use mathlib.Core.List.{List, [], _∷_, _++_}
+use Rattle.laws.specs.Lists.{tabulate}
+use Rattle.laws.specs.Bytes.{bytes}
+use Rattle.records.specs.declared.Finding.{Finding}
+use Rattle.records.specs.declared.Hull.{Hull}
+use Rattle.frames.specs.Lines.{lines}
+use Rattle.frames.specs.Hex.{digitOf, pairOf, pairs, digitsOnly, proper, badlyWritten, digit, hex}
+use Rattle.frames.specs.Fields.{wordAt}
+use Rattle.casefile.specs.Record.{Row, Case}
+use Rattle.casefile.specs.Layout.{frameLength, placeOf, hullOf, headOf, findingOf, resultsOf, hullBytes, findingBytes, rowBytes, endBytes}
+use Rattle.casefile.specs.Limits.{between, sizesFit, risingTo, zonesFit, headFits, findingFits, findingsFit, rowFits}
+use Rattle.casefile.specs.Order.{atTop, closesGroup, sameGroup, sameLayer, earlierGroup, outOfOrder, leavesOpen, endsOpen}
+use Rattle.casefile.specs.Table.{firstHolds, wrongHullFrame, wrongFrame, wrongZones, hullChecks, rowChecks, endChecks, lineChecks}
+use Rattle.casefile.specs.Reading.{Reading, refused, accepted, start, readFrom, reading}
+use Rattle.casefile.specs.Encode.{lineOf, rowLines, encode}
+
+-- 0126ac064017700fa00205dc
+abbrev hullLine : List ℕ
+hullLine = 48 ∷ 49 ∷ 50 ∷ 54 ∷ 97 ∷ 99 ∷ 48 ∷ 54 ∷ 52 ∷ 48 ∷ 49 ∷ 55 ∷ 55 ∷ 48 ∷ 48 ∷ 102 ∷ 97 ∷ 48 ∷ 48 ∷ 50 ∷ 48 ∷ 53 ∷ 100 ∷ 99 ∷ 10 ∷ []
+
+-- 02010103204844001e01900000001e01900000001e01900000
+abbrev firstRow : List ℕ
+firstRow = 48 ∷ 50 ∷ 48 ∷ 49 ∷ 48 ∷ 49 ∷ 48 ∷ 51 ∷ 50 ∷ 48 ∷ 52 ∷ 56 ∷ 52 ∷ 52 ∷ 48 ∷ 48 ∷ 49 ∷ 101 ∷ 48 ∷ 49 ∷ 57 ∷ 48 ∷ 48 ∷ 48 ∷ 48 ∷ 48 ∷ 48 ∷ 48 ∷ 49 ∷ 101 ∷ 48 ∷ 49 ∷ 57 ∷ 48 ∷ 48 ∷ 48 ∷ 48 ∷ 48 ∷ 48 ∷ 48 ∷ 49 ∷ 101 ∷ 48 ∷ 49 ∷ 57 ∷ 48 ∷ 48 ∷ 48 ∷ 48 ∷ 48 ∷ 10 ∷ []
+
+-- 03010203204844000000000000
+abbrev secondRow : List ℕ
+secondRow = 48 ∷ 51 ∷ 48 ∷ 49 ∷ 48 ∷ 50 ∷ 48 ∷ 51 ∷ 50 ∷ 48 ∷ 52 ∷ 56 ∷ 52 ∷ 52 ∷ 48 ∷ 48 ∷ 48 ∷ 48 ∷ 48 ∷ 48 ∷ 48 ∷ 48 ∷ 48 ∷ 48 ∷ 48 ∷ 48 ∷ 10 ∷ []
+
+-- 03020103204844271027102710
+abbrev thirdRow : List ℕ
+thirdRow = 48 ∷ 51 ∷ 48 ∷ 50 ∷ 48 ∷ 49 ∷ 48 ∷ 51 ∷ 50 ∷ 48 ∷ 52 ∷ 56 ∷ 52 ∷ 52 ∷ 50 ∷ 55 ∷ 49 ∷ 48 ∷ 50 ∷ 55 ∷ 49 ∷ 48 ∷ 50 ∷ 55 ∷ 49 ∷ 48 ∷ 10 ∷ []
+
+-- 0f0003
+abbrev endLine : List ℕ
+endLine = 48 ∷ 102 ∷ 48 ∷ 48 ∷ 48 ∷ 51 ∷ 10 ∷ []
+
+abbrev printed : List ℕ
+printed = hullLine ++ firstRow ++ secondRow ++ thirdRow ++ endLine
+
+-- the definitions, open to computation
+read : List ℕ → Reading
+unfolding reading readFrom lines firstHolds hullChecks rowChecks endChecks lineChecks wrongHullFrame wrongFrame wrongZones between sizesFit risingTo zonesFit headFits findingFits findingsFit rowFits atTop closesGroup sameGroup sameLayer earlierGroup outOfOrder leavesOpen endsOpen frameLength placeOf hullOf headOf findingOf resultsOf digitOf pairOf pairs digitsOnly proper badlyWritten wordAt tabulate bytes hullBytes findingBytes rowBytes endBytes digit hex lineOf rowLines encode
+read f = reading f
+
+abbrev found : ℕ → ℕ → ℕ → Finding
+found g t e = record { lever = g; range = t; heel = e; given = 0 }
+
+abbrev survival : ℕ → Finding
+survival s = record { lever = 0; range = 0; heel = 0; given = s }
+
+abbrev row : ℕ → ℕ → ℕ → ℕ → ℕ → Finding → Row
+row kind a n b H r = record { head = record { kind = kind; first = a; count = n; depth = b; height = H }; results = r ∷ r ∷ r ∷ [] }
+
+-- 16 m broad, two zones
+abbrev hull : ℕ → ℕ → ℕ → ℕ → Hull
+hull Ls ds dl bulkhead = record {
+  length = Ls;
+  breadth = 1600;
+  deepest = ds;
+  light = dl;
+  zones = 2;
+  places = 0 ∷ bulkhead ∷ Ls ∷ 0 ∷ 0 ∷ 0 ∷ 0 ∷ 0 ∷ 0 ∷ 0 ∷ 0 ∷ 0 ∷ 0 ∷ 0 ∷ 0 ∷ 0 ∷ 0 ∷ 0 ∷ 0 ∷ 0 ∷ 0 ∷ [];
+}
+
+abbrev case : Hull → List Row → Case
+case h rs = record { hull = h; rows = rs }
+
+-- 99 m long, zones that meet at 15 m; three groups, each with one layer of one row
+abbrev printedHull : Hull
+printedHull = hull 9900 6000 4000 1500
+
+abbrev printedRows : List Row
+printedRows = row 2 1 1 800 18500 (found 30 400 0) ∷ row 3 1 2 800 18500 (survival 0) ∷ row 3 2 1 800 18500 (survival 10000) ∷ []
+
+printed-accepted : reading printed ≡ accepted (case printedHull printedRows)
+unfolding read
+printed-accepted = refl
+
+printed-encoded : encode (case printedHull printedRows) ≡ printed
+unfolding read
+printed-encoded = refl
+
+-- ---- 10: no end frame, and whatever follows it
+
+empty-input : reading [] ≡ refused 10 1
+unfolding read
+empty-input = refl
+
+no-end : reading (hullLine ++ firstRow) ≡ refused 10 3
+unfolding read
+no-end = refl
+
+one-line-feed-more : reading (printed ++ 10 ∷ []) ≡ refused 10 6
+unfolding read
+one-line-feed-more = refl
+
+one-byte-more : reading (printed ++ 90 ∷ []) ≡ refused 10 6
+unfolding read
+one-byte-more = refl
+
+-- ---- 2: written badly
+
+end-not-closed : reading (hullLine ++ 48 ∷ 102 ∷ 48 ∷ 48 ∷ 48 ∷ 48 ∷ []) ≡ refused 2 2
+unfolding read
+end-not-closed = refl
+
+empty-line : reading (hullLine ++ 10 ∷ endLine) ≡ refused 2 2
+unfolding read
+empty-line = refl
+
+odd-digits : reading (hullLine ++ 48 ∷ endLine) ≡ refused 2 2
+unfolding read
+odd-digits = refl
+
+upper-case : reading (hullLine ++ 48 ∷ 70 ∷ 48 ∷ 48 ∷ 48 ∷ 48 ∷ 10 ∷ []) ≡ refused 2 2
+unfolding read
+upper-case = refl
+
+-- ---- 3: kinds and lengths
+
+end-first : reading endLine ≡ refused 3 1
+unfolding read
+end-first = refl
+
+hull-again : reading (hullLine ++ hullLine) ≡ refused 3 2
+unfolding read
+hull-again = refl
+
+end-too-long : reading (hullLine ++ 48 ∷ 48 ∷ endLine) ≡ refused 3 2
+unfolding read
+end-too-long = refl
+
+-- ---- 4, 5: the hull
+
+too-short : reading (encode (case (hull 7999 6000 4000 1500) [])) ≡ refused 4 1
+unfolding read
+too-short = refl
+
+light-no-fifths : reading (encode (case (hull 9900 6000 4001 1500) [])) ≡ refused 4 1
+unfolding read
+light-no-fifths = refl
+
+bulkhead-at-the-bow : reading (encode (case (hull 9900 6000 4000 9900) [])) ≡ refused 5 1
+unfolding read
+bulkhead-at-the-bow = refl
+
+-- ---- 6 to 9: rows and the end
+
+abbrev rowsOf : List Row → Reading
+rowsOf rs = reading (encode (case printedHull rs))
+
+wrong-count : reading (hullLine ++ firstRow ++ endLine) ≡ refused 6 3
+unfolding read
+wrong-count = refl
+
+row-501 : firstHolds (rowChecks printedHull (record { rows = 500; last = start .last; ended = false }) (row 2 0 0 0 0 (found 0 0 0))) ≡ 6
+unfolding read
+row-501 = refl
+
+no-wrap : rowsOf (row 3 255 2 800 18500 (survival 0) ∷ []) ≡ refused 7 2
+unfolding read
+no-wrap = refl
+
+range-too-great : rowsOf (row 2 1 1 800 18500 (found 30 9001 0) ∷ []) ≡ refused 7 2
+unfolding read
+range-too-great = refl
+
+earlier-group : rowsOf (row 3 2 1 800 18500 (survival 0) ∷ row 3 1 2 800 18500 (survival 0) ∷ []) ≡ refused 8 3
+unfolding read
+earlier-group = refl
+
+earlier-group-open : rowsOf (row 3 2 1 800 18499 (survival 0) ∷ row 3 1 2 800 18500 (survival 0) ∷ []) ≡ refused 8 3
+unfolding read
+earlier-group-open = refl
+
+after-the-top : rowsOf (row 3 1 1 800 18500 (survival 0) ∷ row 3 1 1 800 18501 (survival 0) ∷ []) ≡ refused 8 3
+unfolding read
+after-the-top = refl
+
+layer-open : rowsOf (row 3 1 1 400 18499 (survival 0) ∷ row 3 1 1 800 18500 (survival 0) ∷ []) ≡ refused 9 3
+unfolding read
+layer-open = refl
+
+last-layer-inside : rowsOf (row 3 1 1 799 18500 (survival 0) ∷ row 3 1 2 800 18500 (survival 0) ∷ []) ≡ refused 9 3
+unfolding read
+last-layer-inside = refl
+
+end-open : rowsOf (row 3 1 1 800 18499 (survival 0) ∷ []) ≡ refused 9 3
+unfolding read
+end-open = refl
+
+layers : rowsOf (row 3 1 1 400 18500 (survival 0) ∷ row 3 1 1 800 9000 (survival 0) ∷ row 3 1 1 800 18500 (survival 0) ∷ []) ≡ accepted (case printedHull (row 3 1 1 400 18500 (survival 0) ∷ row 3 1 1 800 9000 (survival 0) ∷ row 3 1 1 800 18500 (survival 0) ∷ []))
+unfolding read
+layers = refl
+
+no-rows : rowsOf [] ≡ accepted (case printedHull [])
+unfolding read
+no-rows = refl

@@ -1,0 +1,17 @@
+pub mod Examples
+pub mod Checks
+pub mod Steps
+pub mod Limits
+pub mod Order
+pub mod Words
+pub mod RowLayout
+pub mod HullLayout
+pub mod Passing
+pub mod Chain
+pub mod Soundness
+pub mod Completeness
+pub mod Acceptance
+pub mod Turns
+pub mod EndFrames
+pub mod Refusal
+pub mod TableOrder

@@ -1,0 +1,146 @@
+-- The limits as orders between numbers: what a hull, a row's head and a result that fit are within. Assumes nothing.
+use Prim.Native.Nat.{ℕ, zero, suc, _+_, _-_, _/_, _%_, _≤_, _<_}
+use mathlib.Core.Path.{_≡_}
+use mathlib.Core.Bool.{Bool, true, _&&_}
+use mathlib.Core.List.{List, [], _∷_}
+use mathlib.Core.Logic.{⊎-elim}
+use native.Mathlib.Nat.{add-zero, add-suc, le-of-suc-le-suc, eq-or-lt-of-le}
+use native.Mathlib.Omega.{arith}
+use lib.Dec.{leb, ltb, eqb}
+use lib.ListN.{getD}
+use borrow.Author.Tests.{leb-true, eqb-true, ltb-true}
+use Rattle.records.specs.declared.Hull.{Hull}
+use Rattle.records.specs.declared.Finding.{Finding}
+use Rattle.records.specs.declared.RowHead.{RowHead}
+use Rattle.frames.proofs.Tests.{both}
+use Rattle.casefile.specs.Record.{Row}
+use Rattle.casefile.specs.Limits.{between, sizesFit, risingTo, zonesFit, headFits, findingFits, findingsFit, rowFits}
+use Rattle.casefile.specs.Valid.{Every}
+
+pub between-is : (low high x : ℕ) → between low high x ≡ true → (low ≤ x) × (x ≤ high)
+unfolding between
+between-is low high x e = let (l, h) = both (leb low x) (leb x high) e in (leb-true low x l, leb-true x high h)
+
+pub record Sizes (h : Hull) : Type 0 where
+  pub long : 8000 ≤ h .length
+  pub short : h .length ≤ 19800
+  pub even : h .breadth % 2 ≡ 0
+  pub broad : 1000 ≤ h .breadth
+  pub narrow : h .breadth ≤ 6000
+  pub deep : 1000 ≤ h .deepest
+  pub shallow : h .deepest ≤ 30000
+  pub laden : 500 ≤ h .light
+  pub lighter : h .light ≤ h .deepest
+  pub fifths : (h .deepest - h .light) % 5 ≡ 0
+
+pub sizes-are : (h : Hull) → sizesFit h ≡ true → Sizes h
+unfolding sizesFit
+sizes-are h e =
+    let (e1, dl) = both _ (between 500 (h .deepest) (h .light) && eqb ((h .deepest - h .light) % 5) 0) e in
+    let (e2, ds) = both _ (between 1000 30000 (h .deepest)) e1 in
+    let (ls, bb) = both (between 8000 19800 (h .length)) (eqb (h .breadth % 2) 0 && between 1000 6000 (h .breadth)) e2 in
+    let (b1, b2) = both (eqb (h .breadth % 2) 0) (between 1000 6000 (h .breadth)) bb in
+    let (d1, d2) = both (between 500 (h .deepest) (h .light)) (eqb ((h .deepest - h .light) % 5) 0) dl in
+    record {
+      long = between-is 8000 19800 (h .length) ls .0;
+      short = between-is 8000 19800 (h .length) ls .1;
+      even = eqb-true (h .breadth % 2) 0 b1;
+      broad = between-is 1000 6000 (h .breadth) b2 .0;
+      narrow = between-is 1000 6000 (h .breadth) b2 .1;
+      deep = between-is 1000 30000 (h .deepest) ds .0;
+      shallow = between-is 1000 30000 (h .deepest) ds .1;
+      laden = between-is 500 (h .deepest) (h .light) d1 .0;
+      lighter = between-is 500 (h .deepest) (h .light) d1 .1;
+      fifths = eqb-true ((h .deepest - h .light) % 5) 0 d2;
+    }
+
+pub record Zones (h : Hull) : Type 0 where
+  pub some : 1 ≤ h .zones
+  pub most : h .zones ≤ 20
+  pub stern : getD (h .places) 0 0 ≡ 0
+  pub bow : getD (h .places) (h .zones) 0 ≡ h .length
+  pub rising : risingTo (h .places) (h .zones) ≡ true
+
+pub zones-are : (h : Hull) → zonesFit h ≡ true → Zones h
+unfolding zonesFit
+zones-are h e =
+    let stern : Bool = eqb (getD (h .places) 0 0) 0 in
+    let bow : Bool = eqb (getD (h .places) (h .zones) 0) (h .length) in
+    let (m, r) = both (between 1 20 (h .zones)) (stern && bow && risingTo (h .places) (h .zones)) e in
+    let (ends, up) = both (stern && bow) (risingTo (h .places) (h .zones)) r in
+    let (s, b) = both stern bow ends in
+    record {
+      some = between-is 1 20 (h .zones) m .0;
+      most = between-is 1 20 (h .zones) m .1;
+      stern = eqb-true (getD (h .places) 0 0) 0 s;
+      bow = eqb-true (getD (h .places) (h .zones) 0) (h .length) b;
+      rising = up;
+    }
+
+-- each place is below the next
+pub rising-step : (places : List ℕ) (m k : ℕ) → risingTo places m ≡ true → k < m → getD places k 0 < getD places (suc k) 0
+unfolding risingTo
+rising-step places zero k e h = absurd (omega arith)
+rising-step places (suc m) k e h =
+    let (r, l) = both (risingTo places m) (ltb (getD places m 0) (getD places (suc m) 0)) e in
+    ⊎-elim
+    (λ (q : suc k ≡ suc m). let d : k ≡ m = omega arith in rw d (ltb-true (getD places m 0) (getD places (suc m) 0) l))
+    (λ (q : suc k < suc m). rising-step places m k r (le-of-suc-le-suc q))
+    (eq-or-lt-of-le h)
+
+-- and so none is above a later one
+pub rising-below : (places : List ℕ) (m k d : ℕ) → risingTo places m ≡ true → k + d ≤ m → getD places k 0 ≤ getD places (k + d) 0
+rising-below places m k zero e h = rw (add-zero k) (omega arith)
+rising-below places m k (suc d) e h =
+    rw (add-suc k d) (omega (arith, rising-below places m k d e (omega arith), rising-step places m (k + d) e (omega arith)))
+
+pub record Head (h : Hull) (r : RowHead) : Type 0 where
+  pub first : 1 ≤ r .first
+  pub count : 1 ≤ r .count
+  pub within : r .first + r .count ≤ h .zones + 1
+  pub shallowest : 1 ≤ r .depth
+  pub deepest : r .depth ≤ h .breadth / 2
+  pub lowest : 1 ≤ r .height
+  pub highest : r .height ≤ 60000
+
+pub head-is : (h : Hull) (r : RowHead) → headFits h r ≡ true → Head h r
+unfolding headFits
+head-is h r e =
+    let (e1, up) = both _ (between 1 60000 (r .height)) e in
+    let (e2, b) = both _ (between 1 (h .breadth / 2) (r .depth)) e1 in
+    let (e3, w) = both (leb 1 (r .first) && leb 1 (r .count)) (leb (r .first + r .count - 1) (h .zones)) e2 in
+    let (a, n) = both (leb 1 (r .first)) (leb 1 (r .count)) e3 in
+    record {
+      first = leb-true 1 (r .first) a;
+      count = leb-true 1 (r .count) n;
+      within = omega (arith, leb-true (r .first + r .count - 1) (h .zones) w);
+      shallowest = between-is 1 (h .breadth / 2) (r .depth) b .0;
+      deepest = between-is 1 (h .breadth / 2) (r .depth) b .1;
+      lowest = between-is 1 60000 (r .height) up .0;
+      highest = between-is 1 60000 (r .height) up .1;
+    }
+
+pub record Found (r : Finding) : Type 0 where
+  pub lever : r .lever ≤ 5000
+  pub range : r .range ≤ 9000
+  pub heel : r .heel ≤ 9000
+  pub given : r .given ≤ 10000
+
+pub finding-is : (r : Finding) → findingFits r ≡ true → Found r
+unfolding findingFits
+finding-is r e =
+    let (e1, s) = both _ (leb (r .given) 10000) e in
+    let (e2, k) = both _ (leb (r .heel) 9000) e1 in
+    let (g, t) = both (leb (r .lever) 5000) (leb (r .range) 9000) e2 in
+    record { lever = leb-true (r .lever) 5000 g; range = leb-true (r .range) 9000 t; heel = leb-true (r .heel) 9000 k; given = leb-true (r .given) 10000 s }
+
+pub findings-are : (rs : List Finding) → findingsFit rs ≡ true → Every Found rs
+unfolding findingsFit
+findings-are [] e = tt
+findings-are (r ∷ rs) e = let (x, xs) = both (findingFits r) (findingsFit rs) e in (finding-is r x, findings-are rs xs)
+
+pub row-is : (h : Hull) (r : Row) → rowFits h r ≡ true → Head h (r .head) × Every Found (r .results)
+unfolding rowFits
+row-is h r e =
+    let (x, xs) = both (headFits h (r .head)) (findingsFit (r .results)) e in
+    (head-is h (r .head) x, findings-are (r .results) xs)

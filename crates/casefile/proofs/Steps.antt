@@ -1,0 +1,132 @@
+-- The reading line by line: what each line's judging makes of the rest, in a form that a loop over the bytes can keep. Assumes nothing.
+use Prim.Native.Nat.{ℕ, suc, _+_, _≤_, _<_}
+use mathlib.Core.Path.{_≡_, refl, sym, _∙_}
+use mathlib.Core.Bool.{Bool, true, false, cond}
+use mathlib.Core.List.{List, [], _∷_}
+use native.Mathlib.Nat.{zero-add, add-zero}
+use native.Mathlib.Omega.{arith}
+use lib.Dec.{eqb}
+use lib.ListN.{length}
+use borrow.Author.Tests.{eq-eqb, ne-eqb, eqb-true, eqb-false, lt-ltb, le-ltb}
+use Rattle.records.specs.declared.Hull.{Hull}
+use Rattle.records.specs.declared.RowHead.{RowHead}
+use Rattle.frames.specs.Lines.{Line, lines}
+use Rattle.frames.specs.Hex.{pairs}
+use Rattle.casefile.specs.declared.Frame.{Frame}
+use Rattle.casefile.specs.declared.Progress.{Progress}
+use Rattle.casefile.specs.declared.Judgement.{Judgement}
+use Rattle.casefile.specs.Record.{Row}
+use Rattle.casefile.specs.Layout.{kindOf, isRow, rowOf, countOf}
+use Rattle.casefile.specs.Limits.{longestInput, mostRows}
+use Rattle.casefile.specs.Table.{firstHolds, lineChecks}
+use Rattle.casefile.specs.Reading.{Reading, refused, accepted, Stage, begin, inside, withRow, withEnd, checks, next, before, gathered, finished, readFrom, reading}
+use Rattle.casefile.specs.Answer.{frameOf, judged, noHull, judgementOf}
+use Rattle.casefile.proofs.Checks.{line-of-row}
+
+-- ---- the input as a whole
+
+pub too-long : (f : List ℕ) → longestInput < length f → reading f ≡ refused 1 0
+unfolding reading
+too-long f h = rw (lt-ltb longestInput (length f) h) refl
+
+pub not-too-long : (f : List ℕ) → length f ≤ longestInput → reading f ≡ readFrom begin 1 (lines f)
+unfolding reading
+not-too-long f h = rw (le-ltb longestInput (length f) h) refl
+
+-- ---- a line that passes, a line that is refused, and no line
+
+module _ (s : Stage) (n : ℕ) where
+  pub no-line : readFrom s n [] ≡ finished s n
+  unfolding readFrom
+  no-line = refl
+
+  pub line-passes : (l : Line) (ls : List Line) → firstHolds (checks s l) ≡ 0 → readFrom s n (l ∷ ls) ≡ gathered s l (readFrom (next s l) (n + 1) ls)
+  unfolding readFrom
+  line-passes l ls e = rw (eq-eqb (firstHolds (checks s l)) 0 e) refl
+
+  pub line-refused : (l : Line) (ls : List Line) (k : ℕ) → firstHolds (checks s l) ≡ k → (k ≡ 0 → ⊥) → readFrom s n (l ∷ ls) ≡ refused k n
+  unfolding readFrom
+  line-refused l ls k e h = rw (e, ne-eqb k 0 h) refl
+
+-- ---- a line after the hull, by its frame
+
+module _ (h : Hull) (p : Progress) (l : Line) where
+  abbrev bytes : List ℕ
+  bytes = pairs (l .text)
+
+  abbrev number : ℕ
+  number = firstHolds (lineChecks h p l)
+
+  wrong-case : (k : ℕ) (t u : Bool) → eqb number 0 ≡ t → cond t (cond u (Frame.Row (rowOf bytes .head)) (Frame.End (countOf bytes))) (Frame.Wrong number) ≡ Frame.Wrong k → (number ≡ k) × (k ≡ 0 → ⊥)
+  wrong-case k true true e g = let z : _≡_ {A = ℕ} 0 1 = cc in absurd (omega arith)
+  wrong-case k true false e g = let z : _≡_ {A = ℕ} 0 1 = cc in absurd (omega arith)
+  wrong-case k false u e g = let z : number ≡ k = cc in (z, λ w. eqb-false number 0 e (z ∙ w))
+
+  row-case : (r : RowHead) (t u : Bool) → eqb number 0 ≡ t → cond t (cond u (Frame.Row (rowOf bytes .head)) (Frame.End (countOf bytes))) (Frame.Wrong number) ≡ Frame.Row r → (number ≡ 0) × (u ≡ true) × (r ≡ rowOf bytes .head)
+  row-case r true true e g = let z : rowOf bytes .head ≡ r = cc in (eqb-true number 0 e, refl, sym z)
+  row-case r true false e g = let z : _≡_ {A = ℕ} 0 1 = cc in absurd (omega arith)
+  row-case r false u e g = let z : _≡_ {A = ℕ} 0 1 = cc in absurd (omega arith)
+
+  end-case : (c : ℕ) (t u : Bool) → eqb number 0 ≡ t → cond t (cond u (Frame.Row (rowOf bytes .head)) (Frame.End (countOf bytes))) (Frame.Wrong number) ≡ Frame.End c → (number ≡ 0) × (u ≡ false) × (c ≡ countOf bytes)
+  end-case c true true e g = let z : _≡_ {A = ℕ} 0 1 = cc in absurd (omega arith)
+  end-case c true false e g = let z : countOf bytes ≡ c = cc in (eqb-true number 0 e, refl, sym z)
+  end-case c false u e g = let z : _≡_ {A = ℕ} 0 1 = cc in absurd (omega arith)
+
+  pub judged-wrong : (k : ℕ) → judged h p l ≡ Frame.Wrong k → (number ≡ k) × (k ≡ 0 → ⊥)
+  unfolding judged frameOf
+  judged-wrong k e = wrong-case k (eqb number 0) (isRow (kindOf bytes)) refl e
+
+  pub judged-row : (r : RowHead) → judged h p l ≡ Frame.Row r → (number ≡ 0) × (isRow (kindOf bytes) ≡ true) × (r ≡ rowOf bytes .head)
+  unfolding judged frameOf
+  judged-row r e = row-case r (eqb number 0) (isRow (kindOf bytes)) refl e
+
+  pub judged-end : (c : ℕ) → judged h p l ≡ Frame.End c → (number ≡ 0) × (isRow (kindOf bytes) ≡ false) × (c ≡ countOf bytes)
+  unfolding judged frameOf
+  judged-end c e = end-case c (eqb number 0) (isRow (kindOf bytes)) refl e
+
+  pub row-passes-on : (n : ℕ) (ls : List Line) → number ≡ 0 → isRow (kindOf bytes) ≡ true →
+      readFrom (inside h p) n (l ∷ ls) ≡ before (rowOf bytes) (readFrom (inside h (withRow p (rowOf bytes))) (n + 1) ls)
+  row-passes-on n ls e k = line-passes (inside h p) n l ls e ∙ rw k refl
+
+  pub end-passes-on : (n : ℕ) (ls : List Line) → number ≡ 0 → isRow (kindOf bytes) ≡ false → readFrom (inside h p) n (l ∷ ls) ≡ readFrom (inside h (withEnd p)) (n + 1) ls
+  end-passes-on n ls e k = line-passes (inside h p) n l ls e ∙ rw k refl
+
+  pub wrong-stops : (n k : ℕ) (ls : List Line) → judged h p l ≡ Frame.Wrong k → readFrom (inside h p) n (l ∷ ls) ≡ refused k n
+  wrong-stops n k ls e = let (a, b) = judged-wrong k e in line-refused (inside h p) n l ls k a b
+
+  pub row-goes-on : (n : ℕ) (r : RowHead) (ls : List Line) → judged h p l ≡ Frame.Row r →
+      readFrom (inside h p) n (l ∷ ls) ≡ before (rowOf bytes) (readFrom (inside h (record { rows = p .rows + 1; last = r; ended = false })) (n + 1) ls)
+  row-goes-on n r ls e = let (a, b, c) = judged-row r e in rw c (row-passes-on n ls a b)
+
+  pub end-goes-on : (n c : ℕ) (ls : List Line) → judged h p l ≡ Frame.End c → readFrom (inside h p) n (l ∷ ls) ≡ readFrom (inside h (withEnd p)) (n + 1) ls
+  end-goes-on n c ls e = let (a, b, d) = judged-end c e in end-passes-on n ls a b
+
+  pub row-counts : (r : RowHead) → judged h p l ≡ Frame.Row r → p .rows < mostRows
+  row-counts r e =
+      let (a, b, c) = judged-row r e in
+      line-of-row h p l a b .1 .few
+
+-- ---- what is said of the whole by what is said of the rest, after k rows
+
+abbrev pub counted : ℕ → Reading → Judgement
+counted k (refused n l) = record { number = n; line = l; rows = 0; hull = noHull }
+counted k (accepted c) = record { number = 0; line = 0; rows = k + length (c .rows); hull = c .hull }
+
+pub counted-none : (s : Reading) → judgementOf s ≡ counted 0 s
+counted-none (refused n l) = refl
+counted-none (accepted c) = rw (zero-add (length (c .rows))) refl
+
+pub counted-row : (k : ℕ) (r : Row) (s : Reading) → counted k (before r s) ≡ counted (k + 1) s
+counted-row k r (refused n l) = refl
+counted-row k r (accepted c) =
+    let e : k + suc (length (c .rows)) ≡ k + 1 + length (c .rows) = omega arith in
+    rw e refl
+
+-- every line is judged
+pub counted-end : (h : Hull) (p : Progress) (n : ℕ) → p .ended ≡ true → counted (p .rows) (readFrom (inside h p) n []) ≡ record { number = 0; line = 0; rows = p .rows; hull = h }
+unfolding readFrom
+counted-end h p n e = rw (e, add-zero (p .rows)) refl
+
+pub counted-no-end : (h : Hull) (p : Progress) (n : ℕ) → p .ended ≡ false → readFrom (inside h p) n [] ≡ refused 10 n
+unfolding readFrom
+counted-no-end h p n e = rw e refl

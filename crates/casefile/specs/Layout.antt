@@ -1,0 +1,119 @@
+-- Document 01, "The case file": the frames' kinds, lengths and fields, from decoded bytes and back to them. Assumes nothing.
+use Prim.Native.Nat.{ℕ, _+_, _-_, _*_}
+use mathlib.Core.Bool.{Bool, cond, _||_}
+use mathlib.Core.List.{List, [], _∷_, _++_}
+use lib.ListN.{take, drop}
+use lib.Dec.{ltb, eqb}
+use Rattle.laws.specs.Lists.{tabulate}
+use Rattle.laws.specs.Bytes.{bytes}
+use Rattle.records.specs.declared.Hull.{Hull}
+use Rattle.records.specs.declared.Finding.{Finding}
+use Rattle.records.specs.declared.RowHead.{RowHead}
+use Rattle.frames.specs.Fields.{byteAt, wordAt}
+use Rattle.casefile.specs.Record.{Row}
+
+-- ---- kinds and lengths
+
+-- the first byte is the kind, the fields stand after it
+abbrev pub kindOf : List ℕ → ℕ
+kindOf bs = byteAt bs 0
+
+abbrev pub fieldsOf : List ℕ → List ℕ
+fieldsOf bs = drop 1 bs
+
+-- 01 hull, 02 and 03 row, 0f end
+abbrev pub isHull : ℕ → Bool
+isHull kind = eqb kind 1
+
+abbrev pub isRow : ℕ → Bool
+isRow kind = eqb kind 2 || eqb kind 3
+
+abbrev pub isEnd : ℕ → Bool
+isEnd kind = eqb kind 15
+
+-- the bytes of a frame after the hull: 25 of kind 02, 13 of kind 03, 3 of kind 0f
+unfoldable pub frameLength : ℕ → ℕ
+frameLength kind = cond (eqb kind 2) 25 (cond (eqb kind 3) 13 3)
+
+-- the bytes of a hull of m zones: 8 + 2m
+abbrev pub hullLength : ℕ → ℕ
+hullLength m = 8 + 2 * m
+
+-- a hull of one zone is the shortest
+abbrev pub shortestHull : ℕ
+shortestHull = 10
+
+-- the bytes of one draught's result: lever, range and heel, or a given survival
+abbrev pub setLength : ℕ → ℕ
+setLength kind = cond (eqb kind 2) 6 2
+
+-- ---- from the fields
+
+-- a place of the 21: 0, the inner bulkheads, Ls at the zone count, 0 after that
+unfoldable pub placeOf : (ℕ → ℕ) → ℕ → ℕ → ℕ → ℕ
+placeOf inner m L k = cond (eqb k 0) 0 (cond (ltb k m) (inner k) (cond (eqb k m) L 0))
+
+abbrev pub placesOf : (ℕ → ℕ) → ℕ → ℕ → List ℕ
+placesOf inner m L = tabulate (placeOf inner m L) 21
+
+-- 01: Ls, B, ds, dl (two bytes each), zone count m (one), m-1 inner bulkheads (two each)
+unfoldable pub hullOf : List ℕ → Hull
+hullOf f = record {
+  length = wordAt f 0;
+  breadth = wordAt f 2;
+  deepest = wordAt f 4;
+  light = wordAt f 6;
+  zones = byteAt f 8;
+  places = placesOf (λ k. wordAt f (7 + 2 * k)) (byteAt f 8) (wordAt f 0);
+}
+
+-- 02 and 03: a, n (one each), b, H (two each)
+unfoldable pub headOf : ℕ → List ℕ → RowHead
+headOf kind f = record { kind = kind; first = byteAt f 0; count = byteAt f 1; depth = wordAt f 2; height = wordAt f 4 }
+
+-- one draught's result, read from there on: lever, range, heel (two each) of kind 02, a given survival of kind 03
+unfoldable pub findingOf : ℕ → List ℕ → Finding
+findingOf kind f =
+    cond (eqb kind 2)
+    (record { lever = wordAt f 0; range = wordAt f 2; heel = wordAt f 4; given = 0 })
+    (record { lever = 0; range = 0; heel = 0; given = wordAt f 0 })
+
+-- the three draughts' results, after a, n, b and H
+unfoldable pub resultsOf : ℕ → List ℕ → List Finding
+resultsOf kind f =
+    findingOf kind (drop 6 f) ∷ findingOf kind (drop (6 + setLength kind) f) ∷ findingOf kind (drop (6 + 2 * setLength kind) f) ∷ []
+
+-- the row of a frame's bytes
+abbrev pub rowOf : List ℕ → Row
+rowOf bs = record { head = headOf (kindOf bs) (fieldsOf bs); results = resultsOf (kindOf bs) (fieldsOf bs) }
+
+-- 0f: row count (two)
+abbrev pub countOf : List ℕ → ℕ
+countOf bs = wordAt (fieldsOf bs) 0
+
+-- ---- and back
+
+abbrev pub words : List ℕ → List ℕ
+words [] = []
+words (n ∷ ns) = bytes 2 n ++ words ns
+
+-- the inner bulkheads: those between 0 and Ls
+abbrev pub innerOf : Hull → List ℕ
+innerOf h = take (h .zones - 1) (drop 1 (h .places))
+
+unfoldable pub hullBytes : Hull → List ℕ
+hullBytes h = 1 ∷ words (h .length ∷ h .breadth ∷ h .deepest ∷ h .light ∷ []) ++ h .zones ∷ words (innerOf h)
+
+unfoldable pub findingBytes : ℕ → Finding → List ℕ
+findingBytes kind r = cond (eqb kind 2) (words (r .lever ∷ r .range ∷ r .heel ∷ [])) (bytes 2 (r .given))
+
+abbrev pub resultsBytes : ℕ → List Finding → List ℕ
+resultsBytes kind [] = []
+resultsBytes kind (r ∷ rs) = findingBytes kind r ++ resultsBytes kind rs
+
+unfoldable pub rowBytes : Row → List ℕ
+rowBytes r =
+    r .head .kind ∷ r .head .first ∷ r .head .count ∷ words (r .head .depth ∷ r .head .height ∷ []) ++ resultsBytes (r .head .kind) (r .results)
+
+unfoldable pub endBytes : ℕ → List ℕ
+endBytes count = 15 ∷ bytes 2 count

@@ -1,0 +1,11 @@
+pub mod Record
+pub mod Layout
+pub mod Limits
+pub mod Order
+pub mod Table
+pub mod Reading
+pub mod Encode
+pub mod Valid
+pub mod Answer
+pub mod Acceptance
+pub mod Refusal

@@ -1,0 +1,58 @@
+-- Document 01, "The case file", "Limits", each once: of the input, of a hull (refusals 4 and 5) and of a row (refusal 7). Assumes nothing.
+use Prim.Native.Nat.{ℕ, zero, suc, _+_, _-_, _/_, _%_}
+use mathlib.Core.Bool.{Bool, true, _&&_}
+use mathlib.Core.List.{List, [], _∷_}
+use lib.ListN.{getD}
+use lib.Dec.{leb, ltb, eqb}
+use Rattle.records.specs.declared.Hull.{Hull}
+use Rattle.records.specs.declared.Finding.{Finding}
+use Rattle.records.specs.declared.RowHead.{RowHead}
+use Rattle.casefile.specs.Record.{Row}
+
+unfoldable pub between : ℕ → ℕ → ℕ → Bool
+between low high x = leb low x && leb x high
+
+-- input 32,768 bytes
+abbrev pub longestInput : ℕ
+longestInput = 32768
+
+-- rows 0 to 500
+abbrev pub mostRows : ℕ
+mostRows = 500
+
+-- Ls 8,000 to 19,800; B even, 1,000 to 6,000; ds 1,000 to 30,000; dl 500 to ds with ds - dl a multiple of 5
+unfoldable pub sizesFit : Hull → Bool
+sizesFit h =
+    between 8000 19800 (h .length)
+    && (eqb (h .breadth % 2) 0 && between 1000 6000 (h .breadth))
+    && between 1000 30000 (h .deepest)
+    && (between 500 (h .deepest) (h .light) && eqb ((h .deepest - h .light) % 5) 0)
+
+-- each of the places up to place k is above the one before
+unfoldable pub risingTo : List ℕ → ℕ → Bool
+risingTo places zero = true
+risingTo places (suc k) = risingTo places k && ltb (getD places k 0) (getD places (suc k) 0)
+
+-- zones 1 to 20; bulkheads rising, between 0 and Ls
+unfoldable pub zonesFit : Hull → Bool
+zonesFit h =
+    between 1 20 (h .zones)
+    && (eqb (getD (h .places) 0 0) 0 && eqb (getD (h .places) (h .zones) 0) (h .length) && risingTo (h .places) (h .zones))
+
+-- a and n at least 1 with a + n - 1 within the zones; b 1 to B/2; H 1 to 60,000
+unfoldable pub headFits : Hull → RowHead → Bool
+headFits h r =
+    leb 1 (r .first) && leb 1 (r .count) && leb (r .first + r .count - 1) (h .zones)
+    && between 1 (h .breadth / 2) (r .depth)
+    && between 1 60000 (r .height)
+
+-- lever 0 to 5,000; range and heel 0 to 9,000; given survival 0 to 10,000
+unfoldable pub findingFits : Finding → Bool
+findingFits r = leb (r .lever) 5000 && leb (r .range) 9000 && leb (r .heel) 9000 && leb (r .given) 10000
+
+unfoldable pub findingsFit : List Finding → Bool
+findingsFit [] = true
+findingsFit (r ∷ rs) = findingFits r && findingsFit rs
+
+unfoldable pub rowFits : Hull → Row → Bool
+rowFits h r = headFits h (r .head) && findingsFit (r .results)

@@ -1,0 +1,14 @@
+-- A case as an accepted file gives it: a hull and its rows. Assumes nothing.
+use mathlib.Core.List.{List}
+use Rattle.records.specs.declared.Hull.{Hull}
+use Rattle.records.specs.declared.Finding.{Finding}
+use Rattle.records.specs.declared.RowHead.{RowHead}
+
+-- a row's head, and its result at each of the three draughts
+pub record Row : Type 0 where
+  pub head : RowHead
+  pub results : List Finding
+
+pub record Case : Type 0 where
+  pub hull : Hull
+  pub rows : List Row

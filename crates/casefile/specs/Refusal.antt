@@ -1,0 +1,95 @@
+-- What is promised of refusals: which number and line a file gets, that it gets one answer only, and the order of the table. Assumes nothing.
+use Prim.Native.Nat.{ℕ, _+_, _-_, _≤_, _<_}
+use mathlib.Core.Path.{_≡_}
+use mathlib.Core.Bool.{true, false}
+use mathlib.Core.List.{List, [], _∷_, map, List·Memᴰ}
+use mathlib.Core.Logic.{_↔_, _⊎_}
+use lib.ListN.{length, getD, take}
+use Rattle.records.specs.declared.Hull.{Hull}
+use Rattle.frames.specs.Lines.{Line, lines}
+use Rattle.frames.specs.Hex.{pairs}
+use Rattle.casefile.specs.declared.Progress.{Progress}
+use Rattle.casefile.specs.Record.{Case}
+use Rattle.casefile.specs.Layout.{kindOf, isRow, isEnd}
+use Rattle.casefile.specs.Limits.{longestInput}
+use Rattle.casefile.specs.Table.{Check, firstHolds, hullChecks, lineChecks}
+use Rattle.casefile.specs.Reading.{refused, accepted, Stage, begin, checks, next, reading}
+
+-- ---- lines by their numbers, from 1 on
+
+abbrev pub lineAt : List Line → ℕ → Line
+lineAt ls i = getD ls (i - 1) (record { text = []; closed = false })
+
+-- what the lines say where they pass, from a stage on
+unfoldable pub after : Stage → List Line → Stage
+after s [] = s
+after s (l ∷ ls) = after (next s l) ls
+
+-- the first check that holds at line i, 0 where it passes: by what the lines before it say
+unfoldable pub numberAt : List Line → ℕ → ℕ
+numberAt ls i = firstHolds (checks (after begin (take (i - 1) ls)) (lineAt ls i))
+
+abbrev pub PassBefore : List Line → ℕ → Type 0
+PassBefore ls n = (i : ℕ) → 1 ≤ i → i < n → numberAt ls i ≡ 0
+
+abbrev pub IsEndFrame : Line → Type 0
+IsEndFrame l = isEnd (kindOf (pairs (l .text))) ≡ true
+
+-- ---- the three ways to be refused
+
+pub record TooLong (f : List ℕ) (k l : ℕ) : Type 0 where
+  pub long : longestInput < length f
+  pub number : k ≡ 1
+  pub line : l ≡ 0
+
+-- the lines before line l pass, and k is the first check that holds there
+pub record AtLine (f : List ℕ) (k l : ℕ) : Type 0 where
+  pub short : length f ≤ longestInput
+  pub from : 1 ≤ l
+  pub to : l ≤ length (lines f)
+  pub before : PassBefore (lines f) l
+  pub number : numberAt (lines f) l ≡ k
+  pub some : k ≡ 0 → ⊥
+
+-- every line passes, and none is an end frame
+pub record NoEnd (f : List ℕ) (k l : ℕ) : Type 0 where
+  pub short : length f ≤ longestInput
+  pub before : PassBefore (lines f) l
+  pub none : (i : ℕ) → 1 ≤ i → i < l → IsEndFrame (lineAt (lines f) i) → ⊥
+  pub number : k ≡ 10
+  pub line : l ≡ length (lines f) + 1
+
+abbrev pub Refusal : List ℕ → ℕ → ℕ → Type 0
+Refusal f k l = TooLong f k l ⊎ (AtLine f k l ⊎ NoEnd f k l)
+
+abbrev pub Refusals : Type 0
+Refusals = (f : List ℕ) (k l : ℕ) → (reading f ≡ refused k l) ↔ Refusal f k l
+
+-- ---- one answer
+
+abbrev pub Answered : Type 0
+Answered = (f : List ℕ) → ((c : Case) × (reading f ≡ accepted c)) ⊎ ((k : ℕ) × (l : ℕ) × Refusal f k l)
+
+abbrev pub OneRefusal : Type 0
+OneRefusal = (f : List ℕ) (k l k′ l′ : ℕ) → Refusal f k l → Refusal f k′ l′ → (k ≡ k′) × (l ≡ l′)
+
+abbrev pub NotBoth : Type 0
+NotBoth = (f : List ℕ) (c : Case) (k l : ℕ) → reading f ≡ accepted c → Refusal f k l → ⊥
+
+-- ---- the table
+
+-- the numbers of the table, in its order; 11 is of the sheet
+abbrev pub numbers : List ℕ
+numbers = 1 ∷ 10 ∷ 2 ∷ 3 ∷ 4 ∷ 5 ∷ 6 ∷ 7 ∷ 8 ∷ 9 ∷ []
+
+abbrev pub OfTheTable : Type 0
+OfTheTable = (f : List ℕ) (k l : ℕ) → reading f ≡ refused k l → List·Memᴰ k numbers
+
+abbrev pub numbersOf : List Check → List ℕ
+numbersOf cs = map (λ c. c .number) cs
+
+-- each kind of line is judged by the table's order
+pub record InTurn : Type 0 where
+  pub hull : (l : Line) → numbersOf (hullChecks l) ≡ 2 ∷ 3 ∷ 4 ∷ 5 ∷ []
+  pub row : (h : Hull) (p : Progress) (l : Line) → isRow (kindOf (pairs (l .text))) ≡ true → numbersOf (lineChecks h p l) ≡ 10 ∷ 2 ∷ 3 ∷ 6 ∷ 7 ∷ 8 ∷ 9 ∷ []
+  pub end : (h : Hull) (p : Progress) (l : Line) → isRow (kindOf (pairs (l .text))) ≡ false → numbersOf (lineChecks h p l) ≡ 10 ∷ 2 ∷ 3 ∷ 6 ∷ 9 ∷ []

@@ -1,0 +1,66 @@
+-- Document 01, "The case file", the table of refusals as data: for each kind of line its checks in the table's order. Assumes nothing.
+use Prim.Native.Nat.{ℕ}
+use mathlib.Core.Bool.{Bool, cond, not, _||_}
+use mathlib.Core.List.{List, [], _∷_}
+use lib.ListN.{length}
+use lib.Dec.{leb, ltb, eqb}
+use Rattle.records.specs.declared.Hull.{Hull}
+use Rattle.frames.specs.Lines.{Line}
+use Rattle.frames.specs.Hex.{pairs, badlyWritten}
+use Rattle.casefile.specs.declared.Progress.{Progress}
+use Rattle.casefile.specs.Record.{Row}
+use Rattle.casefile.specs.Layout.{kindOf, fieldsOf, isHull, isRow, isEnd, frameLength, hullLength, shortestHull, hullOf, rowOf, countOf}
+use Rattle.casefile.specs.Limits.{mostRows, sizesFit, zonesFit, rowFits}
+use Rattle.casefile.specs.Order.{outOfOrder, leavesOpen, endsOpen}
+
+-- a refusal's number, and whether it is to be given
+pub record Check : Type 0 where
+  pub number : ℕ
+  pub holds : Bool
+
+infix 5 _when_
+abbrev pub _when_ : ℕ → Bool → Check
+k when b = record { number = k; holds = b }
+
+-- the number of the first check that holds, 0 where none does
+unfoldable pub firstHolds : List Check → ℕ
+firstHolds [] = 0
+firstHolds (c ∷ cs) = cond (c .holds) (c .number) (firstHolds cs)
+
+-- line 1, by its bytes: not kind 01, or under 10 bytes
+unfoldable pub wrongHullFrame : List ℕ → Bool
+wrongHullFrame bs = not (isHull (kindOf bs)) || ltb (length bs) shortestHull
+
+-- a later line, by its bytes: not 02, 03, 0f, or wrong length
+unfoldable pub wrongFrame : List ℕ → Bool
+wrongFrame bs = not (isRow (kindOf bs) || isEnd (kindOf bs)) || not (eqb (length bs) (frameLength (kindOf bs)))
+
+-- zone count, hull length or bulkheads wrong
+unfoldable pub wrongZones : List ℕ → Hull → Bool
+wrongZones bs h = not (zonesFit h) || not (eqb (length bs) (hullLength (h .zones)))
+
+-- line 1
+unfoldable pub hullChecks : Line → List Check
+hullChecks l =
+    let bs = pairs (l .text) in
+    let h = hullOf (fieldsOf bs) in
+    (2 when badlyWritten l) ∷ (3 when wrongHullFrame bs) ∷ (4 when not (sizesFit h)) ∷ (5 when wrongZones bs h) ∷ []
+
+-- a row after the hull h and the rows before it
+unfoldable pub rowChecks : Hull → Progress → Row → List Check
+rowChecks h p r =
+    (6 when leb mostRows (p .rows))
+    ∷ (7 when not (rowFits h r))
+    ∷ (8 when outOfOrder h (p .last) (r .head))
+    ∷ (9 when leavesOpen h (p .last) (r .head))
+    ∷ []
+
+-- the end frame, with the count that it gives
+unfoldable pub endChecks : Hull → Progress → ℕ → List Check
+endChecks h p count = (6 when not (eqb count (p .rows))) ∷ (9 when endsOpen h (p .last)) ∷ []
+
+-- a later line
+unfoldable pub lineChecks : Hull → Progress → Line → List Check
+lineChecks h p l =
+    let bs = pairs (l .text) in
+    (10 when p .ended) ∷ (2 when badlyWritten l) ∷ (3 when wrongFrame bs) ∷ cond (isRow (kindOf bs)) (rowChecks h p (rowOf bs)) (endChecks h p (countOf bs))

@@ -1,0 +1,77 @@
+-- Document 01, "The case file": which cases keep its limits and its order, said of records alone. Assumes nothing.
+use Prim.Native.Nat.{ℕ, _+_, _/_, _≤_, _<_}
+use mathlib.Core.Path.{_≡_}
+use mathlib.Core.Logic.{_⊎_}
+use mathlib.Core.List.{List, [], _∷_}
+use lib.ListN.{length, getD}
+use lib.Dec.{T}
+use Rattle.laws.specs.Sums.{last, Linked}
+use Rattle.records.specs.declared.Hull.{Hull}
+use Rattle.records.specs.declared.Finding.{Finding}
+use Rattle.records.specs.declared.RowHead.{RowHead}
+use Rattle.casefile.specs.Record.{Row, Case}
+use Rattle.casefile.specs.Layout.{placesOf}
+use Rattle.casefile.specs.Limits.{mostRows, sizesFit, zonesFit, rowFits}
+
+abbrev pub Every : {A : Type 0} → (A → Type 0) → List A → Type 0
+Every P [] = Unit {0}
+Every P (x ∷ xs) = P x × Every P xs
+
+-- ---- the hull
+
+-- the 21 places are 0, the inner bulkheads, Ls at the zone count, 0 after that
+abbrev pub Placed : Hull → Type 0
+Placed h = h .places ≡ placesOf (λ k. getD (h .places) k 0) (h .zones) (h .length)
+
+pub record ValidHull (h : Hull) : Type 0 where
+  pub sizes : T (sizesFit h)
+  pub zones : T (zonesFit h)
+  pub places : Placed h
+
+-- ---- a row
+
+-- kind 02 has lever, range and heel, kind 03 a given survival; what a kind does not have is 0
+pub data Formed (kind : ℕ) (r : Finding) : Type 0 where
+  found : kind ≡ 2 → r .given ≡ 0 → Formed kind r
+  given : kind ≡ 3 → r .lever ≡ 0 → r .range ≡ 0 → r .heel ≡ 0 → Formed kind r
+
+pub record ValidRow (h : Hull) (r : Row) : Type 0 where
+  pub limits : T (rowFits h r)
+  pub three : length (r .results) ≡ 3
+  pub formed : Every (Formed (r .head .kind)) (r .results)
+
+-- ---- the order
+
+abbrev pub SameGroup : RowHead → RowHead → Type 0
+SameGroup r s = (s .first ≡ r .first) × (s .count ≡ r .count)
+
+-- groups by a, then n
+abbrev pub LaterGroup : RowHead → RowHead → Type 0
+LaterGroup r s = (r .first < s .first) ⊎ ((s .first ≡ r .first) × (r .count < s .count))
+
+-- at or above ds + 12,500
+abbrev pub AtTop : Hull → RowHead → Type 0
+AtTop h r = h .deepest + 12500 ≤ r .height
+
+abbrev pub ClosesGroup : Hull → RowHead → Type 0
+ClosesGroup h r = (r .depth ≡ h .breadth / 2) × AtTop h r
+
+-- how row s may follow row r: higher in its layer, which r leaves open; in the next layer, after the top of its own; in a later group, after
+-- the top of the layer at B/2
+pub data Follows (h : Hull) (r s : RowHead) : Type 0 where
+  higher : SameGroup r s → s .depth ≡ r .depth → r .height < s .height → r .height < h .deepest + 12500 → Follows h r s
+  deeper : SameGroup r s → r .depth < s .depth → AtTop h r → Follows h r s
+  later : LaterGroup r s → ClosesGroup h r → Follows h r s
+
+-- each row may follow the one before it, and the last closes its group
+abbrev pub Ordered : Hull → List Row → Type 0
+Ordered h [] = Unit {0}
+Ordered h (r ∷ rs) = Linked (λ (x : Row) (y : Row). Follows h (x .head) (y .head)) r rs × ClosesGroup h (last r rs .head)
+
+-- ---- the case
+
+pub record Valid (c : Case) : Type 0 where
+  pub hull : ValidHull (c .hull)
+  pub few : length (c .rows) ≤ mostRows
+  pub rows : Every (ValidRow (c .hull)) (c .rows)
+  pub order : Ordered (c .hull) (c .rows)

@@ -1,0 +1,34 @@
+// The case file: from bytes to a case, or to a refusal's number and line.
+use records::Finding;
+use records::Hull;
+use records::RowHead;
+
+// What a line after the hull is: a row's head, the end's count, or a refusal's number.
+pub enum Frame {
+    Row(RowHead),
+    End(u64),
+    Wrong(u64),
+}
+
+// What is known after some lines: how many rows they held, the head of the last (kind 0: none yet), and whether the end was read.
+pub struct Progress {
+    pub rows: u64,
+    pub last: RowHead,
+    pub ended: bool,
+}
+
+// What a file's reading says: at a refusal its number and line, and zeros; else the row count and the hull.
+pub struct Judgement {
+    pub number: u64,
+    pub line: u64,
+    pub rows: u64,
+    pub hull: Hull,
+}
+
+// The row at a place of a file and the place after it, or zeros where no row stands there.
+pub struct RowPlace {
+    pub found: bool,
+    pub next: usize,
+    pub head: RowHead,
+    pub results: [Finding; 3],
+}

@@ -1,0 +1,6 @@
+pub mod Tests
+pub mod Lines
+pub mod Hex
+pub mod Pairs
+pub mod Decode
+pub mod Fields

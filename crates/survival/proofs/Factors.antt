@@ -1,0 +1,72 @@
+-- Ten-thousandths of a fourth root: the long division before the root, and what bottom and top are in the words of 01. Assumes nothing.
+use Prim.Native.Nat.{ℕ, _+_, _-_, _*_, _/_, _%_, _^_, _≤_, _<_}
+use mathlib.Core.Path.{_≡_, refl, ap, sym, _∙_}
+use native.Mathlib.Nat.{div-add-mod', mod-lt, mul-add-div-right, div-le-of-le-mul, mul-le-mul-left, le-of-lt}
+use native.Mathlib.Omega.{arith}
+use Rattle.laws.specs.Rounding.{ceil}
+use Rattle.laws.proofs.Rounding.{ceil-least}
+use Rattle.numbers.specs.Root.{RootDown, RootUp}
+use Rattle.numbers.proofs.Root.{down-at-most, up-at-most}
+use Rattle.numbers.proofs.RootValue.{down-root, up-root, down-value, up-value}
+use Rattle.records.specs.declared.Survival.{Survival}
+use Rattle.survival.specs.Ratio.{ratioOf, Proper}
+use Rattle.survival.specs.Survival.{scaledOf, roundedOf}
+use Rattle.survival.specs.declared.Ratio.{Ratio}
+use Rattle.survival.specs.declared.finding.Multiple.{Multiple}
+
+-- ---- s² times n/d in two steps of the long division
+module _ (s n : ℕ) {d : ℕ} (hd : 0 < d) where
+  twice : s * (s * n / d) * d + s * (s * n % d) ≡ s * s * n
+  twice = omega (arith, ap (λ z. s * z) (div-add-mod' (s * n) d))
+
+  pub two-steps-down : s * (s * n / d) + s * (s * n % d) / d ≡ s * s * n / d
+  two-steps-down = sym (mul-add-div-right hd (s * (s * n / d)) (s * (s * n % d))) ∙ ap (λ z. z / d) twice
+
+  pub two-steps-up : s * (s * n / d) + ceil (s * (s * n % d)) d ≡ ceil (s * s * n) d
+  unfolding ceil
+  two-steps-up =
+      sym (mul-add-div-right hd (s * (s * n / d)) (s * (s * n % d) + (d - 1))) ∙ ap (λ z. z / d) (omega (arith, twice))
+
+-- ---- s times n/d is at most s where n/d is at most one
+module _ (s : ℕ) {n d : ℕ} (hd : 0 < d) (h : n ≤ d) where
+  pub times-down : s * n / d ≤ s
+  times-down = div-le-of-le-mul d (omega (arith, mul-le-mul-left s h))
+
+  pub times-up : ceil (s * n) d ≤ s
+  times-up = ceil-least (s * n) d s hd .1 (mul-le-mul-left s h)
+
+  -- the rest, taken s times
+  pub rest-down : s * (s * n % d) / d ≤ s
+  rest-down = div-le-of-le-mul d (omega (arith, mul-le-mul-left s (le-of-lt (mod-lt (s * n) hd))))
+
+  pub rest-up : ceil (s * (s * n % d)) d ≤ s
+  rest-up = ceil-least (s * (s * n % d)) d s hd .1 (mul-le-mul-left s (le-of-lt (mod-lt (s * n) hd)))
+
+pub same-multiple : {a b c d : ℕ} → a ≡ c → b ≡ d → _≡_ {A = Multiple} (record { down = a; up = b }) (record { down = c; up = d })
+same-multiple p q = cc
+
+pub scaled-down-fits : {f : Ratio} → Proper (10 ^ 8) f → scaledOf f .down ≤ 10 ^ 16
+unfolding scaledOf
+scaled-down-fits p = times-down (10 ^ 16) (p .positive) (p .at-most-one)
+
+pub scaled-up-fits : {f : Ratio} → Proper (10 ^ 8) f → scaledOf f .up ≤ 10 ^ 16
+unfolding scaledOf
+scaled-up-fits p = times-up (10 ^ 16) (p .positive) (p .at-most-one)
+
+pub same-survival : {a b c d : ℕ} → a ≡ c → b ≡ d → _≡_ {A = Survival} (record { bottom = a; top = b }) (record { bottom = c; top = d })
+same-survival p q = cc
+
+pub rounds : {f : Ratio} {m : Multiple} {a b : ℕ} → Proper (10 ^ 8) f → m ≡ scaledOf f → RootDown (m .down) a → RootUp (m .up) b
+    → _≡_ {A = Survival} (record { bottom = a; top = b }) (roundedOf f)
+unfolding roundedOf
+rounds {f} {m} {a} {b} p e low high =
+    let d = scaled-down-fits p in
+    let u = scaled-up-fits p in
+    same-survival (down-value (omega arith) (rw e at low)) (up-value (omega arith) (rw e at high))
+
+pub rounded-at-most : {f : Ratio} → Proper (10 ^ 8) f → (roundedOf f .bottom ≤ 10 ^ 4) × (roundedOf f .top ≤ 10 ^ 4)
+unfolding roundedOf
+rounded-at-most {f} p =
+    let d = scaled-down-fits p in
+    let u = scaled-up-fits p in
+    (down-at-most (10 ^ 4) d (down-root (scaledOf f .down) (omega arith)), up-at-most (10 ^ 4) u (up-root (scaledOf f .up) (omega arith)))

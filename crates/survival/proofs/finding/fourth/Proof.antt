@@ -1,0 +1,48 @@
+-- `survival::finding::fourth` meets its contract: no product wraps, and s⁴ is the three factors' product. Assumes nothing.
+use borrow.Author.Needs.{needs}
+use mathlib.Core.Path.{_≡_, sym}
+use Prim.Native.Nat.{ℕ, _*_, _≤_, min}
+use native.Mathlib.Nat.{mul-le-mul, min-le-right}
+use native.Mathlib.Omega.{arith}
+use Rattle.solas.specs.Survival.{k}
+use Rattle.survival.specs.Ratio.{ratioOf}
+use Rattle.survival.specs.declared.Ratio.{Ratio}
+use Rattle.survival.proofs.Ratios.{k-bounds, fourth-ratio}
+use Rattle.survival.proofs.finding.fourth.Statement.{statement}
+use Rattle.survival.proofs.finding.fourth.Tie as tie
+
+lesser-requires : tie.Need-lesser-requires
+lesser-requires c κs = search needs
+
+lesser-requires-2 : tie.Need-lesser-requires-2
+lesser-requires-2 c κs = search needs
+
+heel-factor-requires : tie.Need-heel-factor-requires
+heel-factor-requires c κs = search needs
+
+capped : (g t : ℕ) {a b : ℕ} → a ≡ min g 120 → b ≡ min t 1600 → a * b ≤ 192000
+capped g t p q = rw (p, q) (mul-le-mul (min-le-right g 120) (min-le-right t 1600))
+
+heeled : (e : ℕ) {r : Ratio} → r ≡ ratioOf (k e) → (r .num ≤ 250000) × (r .den ≤ 250000)
+heeled e h = let b = k-bounds e in rw h (omega arith)
+
+mul-t5 : tie.Need-mul-t5
+mul-t5 c = omega (arith, capped _ _ (c .before .before .lesser .ensures) (c .before .lesser2 .ensures))
+
+mul-t6 : tie.Need-mul-t6
+mul-t6 c =
+    let s = c .before in omega (arith, mul-le-mul (capped _ _ (s .before .before .lesser .ensures) (s .before .lesser2 .ensures)) (heeled _ (s .heel-factor .ensures) .0))
+
+mul-t7 : tie.Need-mul-t7
+mul-t7 c = omega (arith, heeled _ (c .before .before .heel-factor .ensures) .1)
+
+returns : tie.Need-returns
+returns c =
+    let s = c .before .before in
+    let p = s .before .before .before .args .f in
+    rw (s .before .before .lesser .ensures, s .before .lesser2 .ensures, s .heel-factor .ensures) (sym (fourth-ratio (p .lever) (p .range) (p .heel)))
+
+pub fourth-spec : {M : Type 1} → statement M
+fourth-spec =
+    tie.close
+    (tie.spec lesser-requires lesser-requires-2 heel-factor-requires mul-t5 mul-t6 mul-t7 returns)

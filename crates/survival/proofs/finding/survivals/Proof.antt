@@ -1,0 +1,39 @@
+-- `survival::finding::survivals` meets its contract, draught by draught. Assumes nothing.
+use borrow.Author.Needs.{needs}
+use Rattle.survival.specs.Survival.{survivalsOf}
+use Rattle.survival.proofs.finding.survivals.Statement.{statement}
+use Rattle.survival.proofs.finding.survivals.Tie as tie
+
+array-copy-out-deepest : tie.Need-array-copy-out-deepest
+array-copy-out-deepest c = search needs
+
+array-copy-out-partial : tie.Need-array-copy-out-partial
+array-copy-out-partial c = search needs
+
+array-copy-out-light : tie.Need-array-copy-out-light
+array-copy-out-light c = search needs
+
+survival-requires : tie.Need-survival-requires
+survival-requires c κs = search needs
+
+survival-requires-2 : tie.Need-survival-requires-2
+survival-requires-2 c κs = search needs
+
+survival-requires-3 : tie.Need-survival-requires-3
+survival-requires-3 c κs = search needs
+
+returns : tie.Need-returns
+unfolding survivalsOf
+returns c = cc
+
+pub survivals-spec : {M : Type 1} → statement M
+survivals-spec =
+    tie.close
+    (tie.spec
+    array-copy-out-deepest
+    array-copy-out-partial
+    array-copy-out-light
+    survival-requires
+    survival-requires-2
+    survival-requires-3
+    returns)

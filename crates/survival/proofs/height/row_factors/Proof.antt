@@ -1,0 +1,39 @@
+-- `survival::height::row_factors` meets its contract, draught by draught. Assumes nothing.
+use borrow.Author.Needs.{needs}
+use Rattle.survival.specs.Height.{rowVs}
+use Rattle.survival.proofs.height.row_factors.Statement.{statement}
+use Rattle.survival.proofs.height.row_factors.Tie as tie
+
+array-read-row-factor : tie.Need-array-read-row-factor
+array-read-row-factor c = search needs
+
+row-factor-requires : tie.Need-row-factor-requires
+row-factor-requires c κs = search needs
+
+array-read-row-factor-2 : tie.Need-array-read-row-factor-2
+array-read-row-factor-2 c = search needs
+
+row-factor-requires-2 : tie.Need-row-factor-requires-2
+row-factor-requires-2 c κs = search needs
+
+array-read-row-factor-3 : tie.Need-array-read-row-factor-3
+array-read-row-factor-3 c = search needs
+
+row-factor-requires-3 : tie.Need-row-factor-requires-3
+row-factor-requires-3 c κs = search needs
+
+returns : tie.Need-returns
+unfolding rowVs
+returns c = cc
+
+pub row-factors-spec : {M : Type 1} → statement M
+row-factors-spec =
+    tie.close
+    (tie.spec
+    array-read-row-factor
+    row-factor-requires
+    array-read-row-factor-2
+    row-factor-requires-2
+    array-read-row-factor-3
+    row-factor-requires-3
+    returns)

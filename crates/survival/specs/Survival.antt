@@ -1,0 +1,60 @@
+-- Document 01, "Height and survival": what a survival is exactly, and its bottom and top in ten-thousandths. Assumes nothing.
+use Prim.Native.Nat.{ℕ, _*_, _/_, _^_, _≤_}
+use mathlib.Core.Bool.{cond}
+use mathlib.Core.List.{List, [], _∷_}
+use lib.Dec.{eqb}
+use lib.ListN.{getD}
+use Rattle.laws.specs.Fraction.{Fraction, whole, _≼_, _⊛_}
+use Rattle.laws.specs.Rounding.{ceil}
+use Rattle.numbers.specs.Root.{rootDown, rootUp}
+use Rattle.records.specs.declared.Finding.{Finding}
+use Rattle.records.specs.declared.Survival.{Survival}
+use Rattle.solas.specs.Survival.{s⁴}
+use Rattle.survival.specs.Ratio.{ratioOf}
+use Rattle.survival.specs.declared.Ratio.{Ratio}
+use Rattle.survival.specs.declared.finding.Multiple.{Multiple}
+
+-- the fourth root of a fraction, or so many ten-thousandths
+pub data Factor : Type 0 where
+  root : Fraction → Factor
+  given : ℕ → Factor
+
+-- a row of kind 3 has given survival, any other that of its finding
+unfoldable pub factorOf : ℕ → Finding → Factor
+factorOf kind f = cond (eqb kind 3) (given (f .given)) (root (s⁴ (f .lever) (f .range) (f .heel)))
+
+unfoldable pub scaledOf : Ratio → Multiple
+scaledOf f = record { down = 10 ^ 16 * f .num / f .den; up = ceil (10 ^ 16 * f .num) (f .den) }
+
+unfoldable pub roundedOf : Ratio → Survival
+roundedOf f = record { bottom = rootDown (scaledOf f .down); top = rootUp (scaledOf f .up) }
+
+-- "A row with given survival has bottom = top"
+abbrev pub ends : Factor → Survival
+ends (root f) = roundedOf (ratioOf f)
+ends (given n) = record { bottom = n; top = n }
+
+unfoldable pub survivalOf : ℕ → Finding → Survival
+survivalOf kind f = ends (factorOf kind f)
+
+-- from 0 to 1
+abbrev pub Sensible : Factor → Type 0
+Sensible (root f) = (whole 0 ≼ f) × (f ≼ whole 1)
+Sensible (given n) = n ≤ 10 ^ 4
+
+-- "the greatest whole s with s⁴ not above 10¹⁶ times that"
+pub record Bottom (f : Fraction) (s : ℕ) : Type 0 where
+  pub within : whole (s ^ 4) ≼ whole (10 ^ 16) ⊛ f
+  pub greatest : (t : ℕ) → whole (t ^ 4) ≼ whole (10 ^ 16) ⊛ f → t ≤ s
+
+-- "the least not below"
+pub record Top (f : Fraction) (s : ℕ) : Type 0 where
+  pub reaches : whole (10 ^ 16) ⊛ f ≼ whole (s ^ 4)
+  pub least : (t : ℕ) → whole (10 ^ 16) ⊛ f ≼ whole (t ^ 4) → s ≤ t
+
+abbrev pub nothing : Finding
+nothing = record { lever = 0; range = 0; heel = 0; given = 0 }
+
+-- deepest, partial, light
+unfoldable pub survivalsOf : ℕ → List Finding → List Survival
+survivalsOf kind fs = survivalOf kind (getD fs 0 nothing) ∷ survivalOf kind (getD fs 1 nothing) ∷ survivalOf kind (getD fs 2 nothing) ∷ []

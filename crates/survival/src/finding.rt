@@ -1,0 +1,107 @@
+// The survival of a row's results: s⁴ as one fraction, and from it the bottom and the top in ten-thousandths.
+use crate::Ratio;
+use numbers::ceiling;
+use numbers::root_down;
+use numbers::root_up;
+use records::Finding;
+use records::Survival;
+ghost use mathlib.Core.Path.{_≡_};
+ghost use Prim.Native.Nat.{_^_, min};
+ghost use Rattle.solas.specs.Survival.{k, s⁴};
+ghost use Rattle.survival.specs.Ratio.{Proper, ratioOf};
+ghost use Rattle.survival.specs.Survival.{scaledOf, roundedOf, survivalOf, survivalsOf};
+
+// 10¹⁶ in two steps of the long division.
+const STEP: u64 = 100_000_000;
+
+// 10¹⁶ times a fraction, rounded down and up.
+struct Multiple {
+    down: u64,
+    up: u64,
+}
+
+fn lesser(a: u64, b: u64) -> u64
+    ensures { λ r. ⌜ r ≡ min a b ⌝ }
+{
+    if a <= b { a } else { b }
+}
+
+// k of a heel in hundredths of a degree.
+fn heel_factor(heel: u64) -> Ratio
+    ensures { λ r. ⌜ r ≡ ratioOf (k heel) ⌝ }
+{
+    if heel <= 2_500 {
+        return Ratio { num: 1, den: 1 };
+    }
+    if heel >= 3_000 {
+        return Ratio { num: 0, den: 1 };
+    }
+    let left = 3_000 - heel;
+    Ratio {
+        num: left * left,
+        den: 250_000,
+    }
+}
+
+// s⁴ of what was found: the lever capped at 120 mm, the range at 16 degrees.
+fn fourth(f: Finding) -> Ratio
+    ensures { λ r. ⌜ r ≡ ratioOf (s⁴ (f .lever) (f .range) (f .heel)) ⌝ }
+{
+    let lever = lesser(f.lever, 120);
+    let range = lesser(f.range, 1_600);
+    let heel = heel_factor(f.heel);
+    Ratio {
+        num: lever * range * heel.num,
+        den: 192_000 * heel.den,
+    }
+}
+
+fn scaled(f: Ratio) -> Multiple
+    requires { ⌜ Proper (10 ^ 8) f ⌝ }
+    ensures { λ r. ⌜ r ≡ scaledOf f ⌝ }
+{
+    let d = f.den;
+    let first = STEP * f.num;
+    let whole = STEP * (first / d);
+    let rest = STEP * (first % d);
+    Multiple {
+        down: whole + rest / d,
+        up: whole + ceiling(rest, d),
+    }
+}
+
+// The fourth root of a fraction in ten-thousandths: the greatest not above it, the least not below.
+fn rounded(f: Ratio) -> Survival
+    requires { ⌜ Proper (10 ^ 8) f ⌝ }
+    ensures { λ r. ⌜ r ≡ roundedOf f ⌝ }
+{
+    let s = scaled(f);
+    let bottom = root_down(s.down);
+    let top = root_up(s.up);
+    Survival { bottom, top }
+}
+
+// The survival of a row of kind 2 from what was found, of kind 3 as it is given.
+pub fn survival(kind: u64, f: Finding) -> Survival
+    ensures { λ r. ⌜ r ≡ survivalOf kind f ⌝ }
+{
+    if kind == 3 {
+        let s = f.given;
+        return Survival { bottom: s, top: s };
+    }
+    rounded(fourth(f))
+}
+
+// The survivals of a row's three results.
+pub fn survivals(kind: u64, fs: [Finding; 3]) -> [Survival; 3]
+    ensures { λ r. ⌜ r ≡ survivalsOf kind fs ⌝ }
+{
+    let deepest = fs[0];
+    let partial = fs[1];
+    let light = fs[2];
+    [
+        survival(kind, deepest),
+        survival(kind, partial),
+        survival(kind, light),
+    ]
+}

@@ -1,0 +1,67 @@
+-- Rows worked out by the independent program, computed from the definitions. Assumes nothing.
+use Prim.Native.Nat.{ℕ, _+_}
+use mathlib.Core.Path.{_≡_, refl}
+use mathlib.Core.Bool.{Bool, _&&_}
+use mathlib.Core.List.{List, [], _∷_}
+use lib.Dec.{T, eqb}
+use Rattle.laws.specs.Fraction.{_less_over_, _⊹_, _⊛_}
+use Rattle.laws.specs.Rounding.{ceil}
+use Rattle.laws.proofs.Table.{every}
+use Rattle.numbers.specs.Figures.{billionthsOf, portionOf, halvesOf}
+use Rattle.solas.specs.Span.{touch, p, P}
+use Rattle.solas.specs.Penetration.{G1, G3}
+use Rattle.solas.specs.Ship.{Ship, abutting}
+use Rattle.solas.specs.Count.{added, taken}
+use Rattle.chances.specs.Rounded.{endsOf, plus, minus}
+use Rattle.chances.specs.Span.{pEnds, PEnds}
+use Rattle.chances.specs.Penetration.{G1Ends, G3Ends, partEnds, GEnds, c, d, mixed, QEnds}
+use Rattle.chances.specs.Share.{withinEnds, rowEnds}
+
+-- the group (a, n), its layer from b′ to b, and the ends of its share
+data Row : Type 0 where
+  row : ℕ → ℕ → ℕ → ℕ → ℕ → ℕ → Row
+
+abbrev right : Ship → Row → Bool
+right s (row a n b′ b lower upper) = eqb (rowEnds s a n b′ b .lower) lower && eqb (rowEnds s a n b′ b .upper) upper
+
+-- "One file in full": two zones that meet at 1,500, each row down to B/2
+abbrev printed : Ship
+printed = abutting 9900 1600 2 (0 ∷ 1500 ∷ 9900 ∷ [])
+
+in-full :
+    T (every (right printed)
+    (row 1 1 0 800 0x072648b6 0x072648b7 ∷ row 1 2 0 800 0x03e36aea 0x03e36aec ∷ row 2 1 0 800 0x3091165e 0x3091165f ∷ []))
+unfolding rowEnds withinEnds added taken QEnds mixed c d PEnds GEnds pEnds partEnds G1Ends G3Ends minus plus endsOf billionthsOf portionOf halvesOf ceil touch P p G1 G3 _⊹_ _⊛_ _less_over_
+in-full = tt
+
+-- five zones; the first row's ends lie as far apart as any
+abbrev five : Ship
+five = abutting 10621 3966 5 (0 ∷ 1371 ∷ 3256 ∷ 4258 ∷ 4766 ∷ 10621 ∷ [])
+
+long-spans :
+    T (every (right five)
+    (row 2 3 48 122 446409 446441
+    ∷ row 1 1 0 48 4883408 4883412
+    ∷ row 1 2 48 122 3583191 3583213
+    ∷ row 1 5 122 1983 0 10
+    ∷ row 4 2 48 122 2123038 2123056
+    ∷ []))
+unfolding rowEnds withinEnds added taken QEnds mixed c d PEnds GEnds pEnds partEnds G1Ends G3Ends minus plus endsOf billionthsOf portionOf halvesOf ceil touch P p G1 G3 _⊹_ _⊛_ _less_over_
+long-spans = tt
+
+-- short zones at both ends and behind them, so that each form of G has its turn
+abbrev four : Ship
+four = abutting 9900 1600 4 (0 ∷ 200 ∷ 500 ∷ 9650 ∷ 9900 ∷ [])
+
+short-spans :
+    T (every (right four)
+    (row 1 1 0 800 11178451 11178452
+    ∷ row 1 1 100 700 7921418 7921423
+    ∷ row 1 2 400 720 4445476 4445488
+    ∷ row 1 4 300 700 0 9
+    ∷ row 2 2 10 790 24941969 24941985
+    ∷ row 2 3 0 500 0 5
+    ∷ row 4 1 200 750 7552264 7552269
+    ∷ []))
+unfolding rowEnds withinEnds added taken QEnds mixed c d PEnds GEnds pEnds partEnds G1Ends G3Ends minus plus endsOf billionthsOf portionOf halvesOf ceil touch P p G1 G3 _⊹_ _⊛_ _less_over_
+short-spans = tt

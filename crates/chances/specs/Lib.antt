@@ -1,0 +1,7 @@
+pub mod Rounded
+pub mod Bands
+pub mod Span
+pub mod Penetration
+pub mod Share
+pub mod Hull
+pub mod Table

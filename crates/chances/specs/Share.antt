@@ -1,0 +1,26 @@
+-- 01, "Shares", in billionths: the ends of a row's share, from those of up to eight Q. Assumes nothing.
+use Prim.Native.Nat.{ℕ, zero, suc, _+_, _-_, _^_, min}
+use Rattle.records.specs.declared.Ends.{Ends}
+use Rattle.solas.specs.Ship.{Ship}
+use Rattle.solas.specs.Count.{added, taken}
+use Rattle.chances.specs.Penetration.{QEnds}
+
+-- Q of the zones from a to e, both taken in; "b = 0 gives 0"
+unfoldable pub withinEnds : Ship → ℕ → ℕ → ℕ → Ends
+withinEnds s zero a e = record { lower = 0; upper = 0 }
+withinEnds s (suc b) a e = QEnds (s .L) (s .B) (s .aft a) (s .fwd e) (suc b)
+
+abbrev pub low : Ship → ℕ → ℕ → ℕ → ℕ
+low s b a e = withinEnds s b a e .lower
+
+abbrev pub high : Ship → ℕ → ℕ → ℕ → ℕ
+high s b a e = withinEnds s b a e .upper
+
+-- the row of the group of n zones from zone a, in the layer from b′ to b: "every added Q low and every subtracted Q high, and is then, once, held
+-- to be not below 0; the upper the other way, not above 10⁹"
+unfoldable pub rowEnds : Ship → ℕ → ℕ → ℕ → ℕ → Ends
+rowEnds s a n b′ b =
+    record {
+      lower = added (low s b) a n + taken (low s b′) a n - (taken (high s b) a n + added (high s b′) a n);
+      upper = min (10 ^ 9) (added (high s b) a n + taken (high s b′) a n - (taken (low s b) a n + added (low s b′) a n));
+    }

@@ -1,0 +1,1 @@
+// The service: any input in, the answer and the sheet out.

@@ -1,3 +1,6 @@
+pub mod CodeJudging
+pub mod CodeLimits
+pub mod CodeReaders
 pub mod Examples
 pub mod Checks
 pub mod Steps

@@ -9,3 +9,4 @@ pub mod Valid
 pub mod Answer
 pub mod Acceptance
 pub mod Refusal
+pub mod Judging

@@ -3,6 +3,11 @@ use records::Finding;
 use records::Hull;
 use records::RowHead;
 
+pub mod follows; // the order of rows
+pub mod judging; // a line by the table of refusals
+mod readers; // records from fields
+pub mod within; // the limits of a hull and of a row
+
 // What a line after the hull is: a row's head, the end's count, or a refusal's number.
 pub enum Frame {
     Row(RowHead),

@@ -1,3 +1,4 @@
+pub mod CodeDecoding
 pub mod Tests
 pub mod Lines
 pub mod Hex

@@ -1,7 +1,112 @@
 // The case file's lines: cut at line feeds, written in hexadecimal, fields read from a place on.
+ghost use mathlib.Core.Path.{_≡_};
+ghost use Prim.Native.Nat.{_+_, _<_};
+ghost use lib.ListN.{drop, set};
+ghost use lib.Seq.{sets};
+ghost use Rattle.frames.specs.Lines.{lineLength};
+ghost use Rattle.frames.specs.Hex.{digitOf, pairOf, pairs};
+ghost use Rattle.frames.specs.Decoding.{writtenOf};
+ghost use Rattle.frames.specs.Fields.{byteAt, wordAt};
 
 // What a byte is in a line of digits: the value of a digit, or no digit.
 pub enum Digit {
     Value(u8),
     Bad,
+}
+
+// What a line's text is: as many bytes as it has pairs of digits, or badly written.
+pub enum Written {
+    Bytes(usize),
+    Badly,
+}
+
+// Where the line that starts at a place ends: at its line feed, or where the input ends.
+pub fn line_end(input: &[u8], at: usize) -> usize
+    ensures { λ r. ⌜ r ≡ at + lineLength (drop at (now (input .entry))) ⌝ }
+{
+    let mut i = at;
+    while i < input.len() {
+        if input[i] == b'\n' {
+            return i;
+        }
+        i = i + 1;
+    }
+    i
+}
+
+pub fn digit_of(b: u8) -> Digit
+    ensures { λ r. ⌜ r ≡ digitOf b ⌝ }
+{
+    match b {
+        b'0'..=b'9' => Digit::Value(b - 48),
+        b'a'..=b'f' => Digit::Value(b - 87),
+        _ => Digit::Bad,
+    }
+}
+
+// The byte that two digits write, the high one first.
+pub fn pair_of(high: u8, low: u8) -> Digit
+    ensures { λ r. ⌜ r ≡ pairOf high low ⌝ }
+{
+    let Digit::Value(h) = digit_of(high) else {
+        return Digit::Bad;
+    };
+    let Digit::Value(l) = digit_of(low) else {
+        return Digit::Bad;
+    };
+    Digit::Value(h * 16 + l)
+}
+
+// A store that a short buffer does not take.
+fn put(out: &mut [u8], i: usize, b: u8)
+    ensures { λ r. ⌜ now (out .exit) ≡ set (now (out .entry)) i b ⌝ }
+{
+    if i < out.len() {
+        out[i] = b;
+    }
+}
+
+// Judges all of a line's text, and writes its bytes to the front of the buffer, as many as go in.
+pub fn decode_text(text: &[u8], out: &mut [u8]) -> Written
+    ensures result { λ r. ⌜ r ≡ writtenOf (now (text .entry)) ⌝ }
+    ensures buffer { λ r. ⌜ now (out .exit) ≡ sets (now (out .entry)) 0 (pairs (now (text .entry))) ⌝ }
+{
+    let n = text.len() / 2;
+    let mut i: usize = 0;
+    while i < n {
+        let Digit::Value(b) = pair_of(text[i * 2], text[i * 2 + 1]) else {
+            return Written::Badly;
+        };
+        put(out, i, b);
+        i = i + 1;
+    }
+    if n == 0 {
+        return Written::Badly;
+    }
+    if text.len() % 2 != 0 {
+        return Written::Badly;
+    }
+    Written::Bytes(n)
+}
+
+// A byte of a part of a line, 0 past its end.
+pub fn byte_at(f: &[u8], at: usize) -> u64
+    ensures value { λ r. ⌜ r ≡ byteAt (now (f .entry)) at ⌝ }
+    ensures small { λ r. ⌜ r < 256 ⌝ }
+{
+    if at < f.len() {
+        return f[at] as u64;
+    }
+    0
+}
+
+// Two bytes of a part of a line, the high one first.
+pub fn word_at(f: &[u8], at: usize) -> u64
+    ensures value { λ r. ⌜ r ≡ wordAt (now (f .entry)) at ⌝ }
+    ensures small { λ r. ⌜ r < 65536 ⌝ }
+{
+    if f.len() <= at {
+        return 0;
+    }
+    byte_at(f, at) * 256 + byte_at(f, at + 1)
 }

@@ -1,0 +1,123 @@
+-- What the loop over a line's pairs of digits keeps: the bytes of the pairs that are left go on behind those that are stored. Assumes nothing.
+use Prim.Native.Nat.{ℕ, zero, suc, _+_, _*_, _/_, _≤_, _<_}
+use mathlib.Core.Path.{_≡_, refl, sym, _∙_, ap}
+use mathlib.Core.Bool.{Bool, true, false, cond, _&&_}
+use mathlib.Core.List.{List, [], _∷_}
+use native.Mathlib.Numerals.{add-one}
+use native.Mathlib.Omega.{arith}
+use lib.Dec.{ltb}
+use lib.ListN.{length, getD, take, drop, set, replicate, length-set, getD-replicate}
+use lib.Seq.{sets, sets-eq, take-at}
+use borrow.Author.Tests.{lt-ltb, eq-eqb, ne-eqb}
+use Rattle.frames.specs.declared.Digit.the-variants.{Value, Bad}
+use Rattle.frames.specs.declared.Written.the-variants.{Bytes, Badly}
+use Rattle.frames.specs.Hex.{digitOf, pairOf, pairs, proper}
+use Rattle.frames.specs.Decoding.{writtenOf}
+use Rattle.frames.proofs.Pairs.{length-pairs, pairs-some}
+use Rattle.frames.proofs.Decode.{pairs-go-on, proper-by-count}
+
+-- ---- a pair by its digits
+
+module _ (a b : ℕ) where
+  pub high-bad : digitOf a ≡ Bad → Bad ≡ pairOf a b
+  unfolding pairOf
+  high-bad e = rw e refl
+
+  pub low-bad : (h : ℕ) → digitOf a ≡ Value h → digitOf b ≡ Bad → Bad ≡ pairOf a b
+  unfolding pairOf
+  low-bad h e f = rw (e, f) refl
+
+  pub pair-value : (h l : ℕ) → digitOf a ≡ Value h → digitOf b ≡ Value l → Value (h * 16 + l) ≡ pairOf a b
+  unfolding pairOf
+  pair-value h l e f = rw (e, f) refl
+
+pub too-few : (text : List ℕ) → length text < 2 → Badly ≡ writtenOf text
+unfolding writtenOf proper
+too-few [] h = refl
+too-few (a ∷ []) h = refl
+too-few (a ∷ b ∷ text) h = absurd (omega arith)
+
+-- ---- i pairs are read, and their bytes stand at the front of out, which came as was
+
+pub record Decoding (text was out : List ℕ) (i : ℕ) : Type 0 where
+  pub long : length out ≡ length was
+  pub count : length (pairs text) ≡ i + length (pairs (drop (i * 2) text))
+  pub same : sets was 0 (pairs text) ≡ sets out i (pairs (drop (i * 2) text))
+
+pub none-read : (text was : List ℕ) → Decoding text was was 0
+none-read text was = record { long = refl; count = omega arith; same = refl }
+
+module _ (text was out : List ℕ) (i : ℕ) (p : Decoding text was out i) where
+  pub pair-read : (b : ℕ) → i * 2 + 2 ≤ length text → pairOf (getD text (i * 2) 0) (getD text (i * 2 + 1) 0) ≡ Value b → Decoding text was (set out i b) (i + 1)
+  pair-read b h e =
+      let k : (i + 1) * 2 ≡ i * 2 + 2 = omega arith in
+      let next = pairs-go-on text (i * 2) h b e in
+      record {
+        long = length-set out i b ∙ p .long;
+        count = rw k (omega (arith, p .count, ap length next));
+        same = p .same ∙ rw (k, add-one, next) refl;
+      }
+
+  -- no pair is left
+  module _ (e : pairs (drop (i * 2) text) ≡ []) where
+    all-counted : length (pairs text) ≡ i
+    all-counted = omega (arith, p .count, ap length e)
+
+    pub stored : out ≡ sets was 0 (pairs text)
+    stored = sym (p .same ∙ rw e refl)
+
+    pub not-all : (i * 2 ≡ length text → ⊥) → Badly ≡ writtenOf text
+    unfolding writtenOf
+    not-all f = rw (proper-by-count text, all-counted, ne-eqb (i * 2) (length text) f) (neither (ltb 0 (length text)))
+      where
+        neither : (t : _) → Badly ≡ cond (t && false) (Bytes (length text / 2)) Badly
+        neither true = refl
+        neither false = refl
+
+    pub all : i * 2 ≡ length text → 0 < i → Bytes (length text / 2) ≡ writtenOf text
+    unfolding writtenOf
+    all f h = rw (proper-by-count text, all-counted, eq-eqb (i * 2) (length text) f, lt-ltb 0 (length text) (omega arith)) refl
+
+-- ---- what a caller has of the answer and of the buffer
+
+module _ (text : List ℕ) where
+  bytes-case : (t : Bool) (n : ℕ) → proper text ≡ t → cond t (Bytes (length text / 2)) Badly ≡ Bytes n → (proper text ≡ true) × (n ≡ length (pairs text))
+  bytes-case true n e f = let k : length text / 2 ≡ n = cc in (e, omega (arith, length-pairs text e))
+  bytes-case false n e f = let z : _≡_ {A = ℕ} 0 1 = cc in absurd (omega arith)
+
+  pub well-written : (n : ℕ) → writtenOf text ≡ Bytes n → (proper text ≡ true) × (n ≡ length (pairs text))
+  unfolding writtenOf
+  well-written n e = bytes-case (proper text) n refl e
+
+  badly-case : (t : Bool) → cond t (Bytes (length text / 2)) Badly ≡ Badly → t ≡ false
+  badly-case true f = let z : _≡_ {A = ℕ} 0 1 = cc in absurd (omega arith)
+  badly-case false f = refl
+
+  pub badly-written : writtenOf text ≡ Badly → proper text ≡ false
+  unfolding writtenOf
+  badly-written e = badly-case (proper text) e
+
+-- a buffer that is long enough has the bytes at its front
+module _ (text was out : List ℕ) (n : ℕ) (w : writtenOf text ≡ Bytes n) (e : out ≡ sets was 0 (pairs text)) (h : n ≤ length was) where
+  pub front-decoded : take n out ≡ pairs text
+  front-decoded =
+      let count : n ≡ length (pairs text) = well-written text n w .1 in
+      rw (e, sets-eq (pairs text) was 0 (omega arith)) (take-at (pairs text) (drop (0 + length (pairs text)) was) n (sym count))
+
+  pub front-long : n ≡ length (take n out)
+  front-long = well-written text n w .1 ∙ sym (ap length front-decoded)
+
+pub some-bytes : (text : List ℕ) (n : ℕ) → writtenOf text ≡ Bytes n → 0 < n
+some-bytes text n w = let (e, k) = well-written text n w in omega (arith, pairs-some text e)
+
+sets-beyond : (w : ℕ) (was bs : List ℕ) (i : ℕ) → sets (w ∷ was) (suc i) bs ≡ w ∷ sets was i bs
+sets-beyond w was [] i = refl
+sets-beyond w was (b ∷ bs) i = sets-beyond w (set was i b) bs (suc i)
+
+-- a buffer of zeros has each of the bytes that goes in, and 0 past the last
+pub byte-stored : (n k : ℕ) (bs : List ℕ) → k < n → getD (sets (replicate n 0) 0 bs) k 0 ≡ getD bs k 0
+byte-stored zero k bs h = absurd (omega arith)
+byte-stored (suc n) zero [] h = refl
+byte-stored (suc n) (suc k) [] h = getD-replicate n k 0 0 (omega arith)
+byte-stored (suc n) zero (b ∷ bs) h = rw (sets-beyond b (replicate n 0) bs 0) refl
+byte-stored (suc n) (suc k) (b ∷ bs) h = rw (sets-beyond b (replicate n 0) bs 0) (byte-stored n k bs (omega arith))

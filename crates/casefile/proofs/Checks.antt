@@ -1,5 +1,5 @@
 -- A line passes where no check of its list holds: what that tells of each line. Assumes nothing.
-use Prim.Native.Nat.{ℕ, suc, _<_}
+use Prim.Native.Nat.{ℕ, _<_}
 use mathlib.Core.Path.{_≡_, refl, _∙_}
 use mathlib.Core.Bool.{Bool, true, false, cond}
 use mathlib.Core.List.{List, [], _∷_}
@@ -57,17 +57,14 @@ pub record LinePasses (p : Progress) (l : Line) : Type 0 where
   pub written : badlyWritten l ≡ false
   pub frame : wrongFrame (pairs (l .text)) ≡ false
 
-nonzero : (k : ℕ) → suc k ≡ 0 → ⊥
-nonzero k e = omega arith
-
 module _ (l : Line) where
   pub hull-passes : firstHolds (hullChecks l) ≡ 0 → HullPasses l
   unfolding hullChecks
   hull-passes e =
-      let (w, e1) = first-fails 2 _ _ (nonzero 1) e in
-      let (f, e2) = first-fails 3 _ _ (nonzero 2) e1 in
-      let (s, e3) = first-fails 4 _ _ (nonzero 3) e2 in
-      let (z, e4) = first-fails 5 _ _ (nonzero 4) e3 in
+      let (w, e1) = first-fails _ _ _ (λ z. omega arith) e in
+      let (f, e2) = first-fails _ _ _ (λ z. omega arith) e1 in
+      let (s, e3) = first-fails _ _ _ (λ z. omega arith) e2 in
+      let (z, e4) = first-fails _ _ _ (λ z. omega arith) e3 in
       record { written = w; frame = f; sizes = not-false _ s; zones = z }
 
   pub hull-passed : HullPasses l → firstHolds (hullChecks l) ≡ 0
@@ -78,10 +75,10 @@ module _ (h : Hull) (p : Progress) where
   pub row-passes : (r : Row) → firstHolds (rowChecks h p r) ≡ 0 → RowPasses h p r
   unfolding rowChecks
   row-passes r e =
-      let (n, e1) = first-fails 6 _ _ (nonzero 5) e in
-      let (f, e2) = first-fails 7 _ _ (nonzero 6) e1 in
-      let (o, e3) = first-fails 8 _ _ (nonzero 7) e2 in
-      let (c, e4) = first-fails 9 _ _ (nonzero 8) e3 in
+      let (n, e1) = first-fails _ _ _ (λ z. omega arith) e in
+      let (f, e2) = first-fails _ _ _ (λ z. omega arith) e1 in
+      let (o, e3) = first-fails _ _ _ (λ z. omega arith) e2 in
+      let (c, e4) = first-fails _ _ _ (λ z. omega arith) e3 in
       record { few = leb-false mostRows (p .rows) n; fits = not-false _ f; order = o; closed = c }
 
   pub row-passed : (r : Row) → RowPasses h p r → firstHolds (rowChecks h p r) ≡ 0
@@ -91,8 +88,8 @@ module _ (h : Hull) (p : Progress) where
   pub end-passes : (count : ℕ) → firstHolds (endChecks h p count) ≡ 0 → EndPasses h p count
   unfolding endChecks
   end-passes count e =
-      let (c, e1) = first-fails 6 _ _ (nonzero 5) e in
-      let (o, e2) = first-fails 9 _ _ (nonzero 8) e1 in
+      let (c, e1) = first-fails _ _ _ (λ z. omega arith) e in
+      let (o, e2) = first-fails _ _ _ (λ z. omega arith) e1 in
       record { counts = eqb-true count (p .rows) (not-false _ c); closed = o }
 
   pub end-passed : (count : ℕ) → EndPasses h p count → firstHolds (endChecks h p count) ≡ 0
@@ -106,9 +103,9 @@ module _ (h : Hull) (p : Progress) where
     pub passes-first : firstHolds (lineChecks h p l) ≡ 0 → LinePasses p l × (firstHolds own ≡ 0)
     unfolding lineChecks
     passes-first e =
-        let (g, e1) = first-fails 10 _ _ (nonzero 9) e in
-        let (w, e2) = first-fails 2 _ _ (nonzero 1) e1 in
-        let (f, e3) = first-fails 3 _ _ (nonzero 2) e2 in
+        let (g, e1) = first-fails _ _ _ (λ z. omega arith) e in
+        let (w, e2) = first-fails _ _ _ (λ z. omega arith) e1 in
+        let (f, e3) = first-fails _ _ _ (λ z. omega arith) e2 in
         (record { going = g; written = w; frame = f }, e3)
 
     passed-first : LinePasses p l → firstHolds (lineChecks h p l) ≡ firstHolds own

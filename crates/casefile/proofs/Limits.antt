@@ -108,12 +108,12 @@ unfolding headFits
 head-is h r e =
     let (e1, up) = both _ (between 1 60000 (r .height)) e in
     let (e2, b) = both _ (between 1 (h .breadth / 2) (r .depth)) e1 in
-    let (e3, w) = both (leb 1 (r .first) && leb 1 (r .count)) (leb (r .first + r .count - 1) (h .zones)) e2 in
+    let (e3, w) = both _ (leb _ (h .zones)) e2 in
     let (a, n) = both (leb 1 (r .first)) (leb 1 (r .count)) e3 in
     record {
       first = leb-true 1 (r .first) a;
       count = leb-true 1 (r .count) n;
-      within = omega (arith, leb-true (r .first + r .count - 1) (h .zones) w);
+      within = omega (arith, leb-true _ (h .zones) w);
       shallowest = between-is 1 (h .breadth / 2) (r .depth) b .0;
       deepest = between-is 1 (h .breadth / 2) (r .depth) b .1;
       lowest = between-is 1 60000 (r .height) up .0;

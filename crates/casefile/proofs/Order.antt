@@ -11,26 +11,26 @@ use Rattle.records.specs.declared.Hull.{Hull}
 use Rattle.records.specs.declared.RowHead.{RowHead}
 use Rattle.frames.proofs.Tests.{both, neither}
 use Rattle.casefile.specs.Order.{atTop, closesGroup, isSome, sameGroup, sameLayer, earlierGroup, outOfOrder, leavesOpen, endsOpen}
-use Rattle.casefile.specs.Valid.{SameGroup, LaterGroup, AtTop, ClosesGroup, Follows, higher, deeper, later}
+use Rattle.casefile.specs.Valid.{SameGroup, LaterGroup, AtTop, BelowTop, ClosesGroup, Follows, higher, deeper, later}
 
 -- ---- the top and the last layer
 
 module _ (h : Hull) (r : RowHead) where
   at-top : atTop h r ≡ true → AtTop h r
   unfolding atTop
-  at-top e = leb-true (h .deepest + 12500) (r .height) e
+  at-top e = leb-true _ _ e
 
-  below-top : atTop h r ≡ false → r .height < h .deepest + 12500
+  below-top : atTop h r ≡ false → BelowTop h r
   unfolding atTop
-  below-top e = leb-false (h .deepest + 12500) (r .height) e
+  below-top e = leb-false _ _ e
 
   is-top : AtTop h r → atTop h r ≡ true
   unfolding atTop
-  is-top t = le-leb (h .deepest + 12500) (r .height) t
+  is-top t = le-leb _ _ t
 
-  no-top : r .height < h .deepest + 12500 → atTop h r ≡ false
+  no-top : BelowTop h r → atTop h r ≡ false
   unfolding atTop
-  no-top t = lt-leb (h .deepest + 12500) (r .height) t
+  no-top t = lt-leb _ _ t
 
   pub closes : closesGroup h r ≡ true → ClosesGroup h r
   unfolding closesGroup

@@ -1,13 +1,16 @@
 -- Document 01, "The case file", "Order": a row against the row before it (kind 0: there is none), refusals 8 and 9. Assumes nothing.
-use Prim.Native.Nat.{_+_, _/_}
+use Prim.Native.Nat.{ℕ, _+_, _/_}
 use mathlib.Core.Bool.{Bool, not, _&&_, _||_}
 use lib.Dec.{leb, ltb, eqb}
 use Rattle.records.specs.declared.Hull.{Hull}
 use Rattle.records.specs.declared.RowHead.{RowHead}
 
--- the first row at or above ds + 12,500 is the top of its layer, and closes it
+-- a layer ends with the first row at or above ds + 12,500 (the top)
+abbrev pub top : Hull → ℕ
+top h = h .deepest + 12500
+
 unfoldable pub atTop : Hull → RowHead → Bool
-atTop h r = leb (h .deepest + 12500) (r .height)
+atTop h r = leb (top h) (r .height)
 
 -- the last layer is at B/2
 unfoldable pub closesGroup : Hull → RowHead → Bool

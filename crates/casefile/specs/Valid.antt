@@ -1,5 +1,5 @@
 -- Document 01, "The case file": which cases keep its limits and its order, said of records alone. Assumes nothing.
-use Prim.Native.Nat.{ℕ, _+_, _/_, _≤_, _<_}
+use Prim.Native.Nat.{ℕ, _/_, _≤_, _<_}
 use mathlib.Core.Path.{_≡_}
 use mathlib.Core.Logic.{_⊎_}
 use mathlib.Core.List.{List, [], _∷_}
@@ -12,6 +12,7 @@ use Rattle.records.specs.declared.RowHead.{RowHead}
 use Rattle.casefile.specs.Record.{Row, Case}
 use Rattle.casefile.specs.Layout.{placesOf}
 use Rattle.casefile.specs.Limits.{mostRows, sizesFit, zonesFit, rowFits}
+use Rattle.casefile.specs.Order.{top}
 
 abbrev pub Every : {A : Type 0} → (A → Type 0) → List A → Type 0
 Every P [] = Unit {0}
@@ -49,9 +50,11 @@ SameGroup r s = (s .first ≡ r .first) × (s .count ≡ r .count)
 abbrev pub LaterGroup : RowHead → RowHead → Type 0
 LaterGroup r s = (r .first < s .first) ⊎ ((s .first ≡ r .first) × (r .count < s .count))
 
--- at or above ds + 12,500
 abbrev pub AtTop : Hull → RowHead → Type 0
-AtTop h r = h .deepest + 12500 ≤ r .height
+AtTop h r = top h ≤ r .height
+
+abbrev pub BelowTop : Hull → RowHead → Type 0
+BelowTop h r = r .height < top h
 
 abbrev pub ClosesGroup : Hull → RowHead → Type 0
 ClosesGroup h r = (r .depth ≡ h .breadth / 2) × AtTop h r
@@ -59,7 +62,7 @@ ClosesGroup h r = (r .depth ≡ h .breadth / 2) × AtTop h r
 -- how row s may follow row r: higher in its layer, which r leaves open; in the next layer, after the top of its own; in a later group, after
 -- the top of the layer at B/2
 pub data Follows (h : Hull) (r s : RowHead) : Type 0 where
-  higher : SameGroup r s → s .depth ≡ r .depth → r .height < s .height → r .height < h .deepest + 12500 → Follows h r s
+  higher : SameGroup r s → s .depth ≡ r .depth → r .height < s .height → BelowTop h r → Follows h r s
   deeper : SameGroup r s → r .depth < s .depth → AtTop h r → Follows h r s
   later : LaterGroup r s → ClosesGroup h r → Follows h r s
 

@@ -5,3 +5,4 @@ pub mod Hex
 pub mod Pairs
 pub mod Decode
 pub mod Fields
+pub mod Examples

@@ -1,0 +1,62 @@
+-- Lines, digits and fields, computed: every byte as a digit, a line of document 01's printed file, and lines with and without a line feed. Assumes nothing.
+use Prim.Native.Nat.{ℕ}
+use mathlib.Core.Path.{_≡_, refl}
+use mathlib.Core.Bool.{Bool, true, false, cond, _||_}
+use mathlib.Core.List.{List, [], _∷_}
+use lib.Dec.{T, eqb}
+use lib.ListN.{getD}
+use Rattle.laws.proofs.Table.{everyBelow}
+use Rattle.frames.specs.Lines.{Line, lines}
+use Rattle.frames.specs.Hex.{digitOf, refusalOf, valueOf, pairOf, pairs, digitsOnly, proper, badlyWritten, digit, hex}
+use Rattle.frames.specs.Fields.{wordAt}
+
+-- 0123456789abcdef
+abbrev digits : List ℕ
+digits = 48 ∷ 49 ∷ 50 ∷ 51 ∷ 52 ∷ 53 ∷ 54 ∷ 55 ∷ 56 ∷ 57 ∷ 97 ∷ 98 ∷ 99 ∷ 100 ∷ 101 ∷ 102 ∷ []
+
+abbrev has : ℕ → List ℕ → Bool
+has b [] = false
+has b (x ∷ xs) = eqb b x || has b xs
+
+-- a byte among the digits has its place for a value, and any other is refused
+abbrev read-right : ℕ → Bool
+read-right b = cond (has b digits) (eqb (getD digits (valueOf (digitOf b)) 0) b) (eqb (refusalOf (digitOf b)) 2)
+
+every-byte : T (everyBelow read-right 256)
+unfolding digitOf
+every-byte = tt
+
+-- 0f0003
+abbrev endLine : List ℕ
+endLine = 48 ∷ 102 ∷ 48 ∷ 48 ∷ 48 ∷ 51 ∷ []
+
+end-bytes : pairs endLine ≡ 15 ∷ 0 ∷ 3 ∷ []
+unfolding pairs pairOf digitOf
+end-bytes = refl
+
+end-digits : hex (15 ∷ 0 ∷ 3 ∷ []) ≡ endLine
+unfolding hex digit
+end-digits = refl
+
+count-high-first : wordAt (15 ∷ 1 ∷ 3 ∷ []) 1 ≡ 259
+unfolding wordAt
+count-high-first = refl
+
+abbrev line : List ℕ → Bool → Line
+line s c = record { text = s; closed = c }
+
+two-and-a-rest : lines (97 ∷ 10 ∷ 10 ∷ 98 ∷ []) ≡ line (97 ∷ []) true ∷ line [] true ∷ line (98 ∷ []) false ∷ []
+unfolding lines
+two-and-a-rest = refl
+
+badly : badlyWritten (line [] true) ≡ true
+unfolding badlyWritten proper
+badly = refl
+
+not-closed : badlyWritten (line endLine false) ≡ true
+unfolding badlyWritten proper digitsOnly digitOf
+not-closed = refl
+
+well : badlyWritten (line endLine true) ≡ false
+unfolding badlyWritten proper digitsOnly digitOf
+well = refl

@@ -2,7 +2,7 @@
 use Prim.Native.Nat.{ℕ, _+_, _-_, _*_, _^_, _≤_, _<_}
 use mathlib.Core.List.{[]}
 use mathlib.Core.Path.{_≡_, refl, ap}
-use native.Mathlib.Nat.{mul-pos, mul-comm, mul-le-mul-right}
+use native.Mathlib.Nat.{mul-pos, mul-comm, mul-le-mul-right, mul-lt-mul-of-pos-right, lt-of-mul-lt-mul-right}
 use native.Mathlib.Omega.{arith}
 use lib.Dec.{lit<}
 use Rattle.laws.specs.Fraction.{Fraction, den, _less_over_, _over_, whole, Is, _≼_, _≺_, _⊛_}
@@ -68,3 +68,10 @@ pub ⊛-rises : {f g : Fraction} (n : ℕ) {d : ℕ} → 0 < d → f ≼ g → f
 
 pub times-rises : {f g : Fraction} (k : ℕ) → f ≼ g → whole k ⊛ f ≼ whole k ⊛ g
 times-rises {f} {g} k l = ≼-trans (≼-of-≈ (⊛-comm (whole k) f)) (≼-trans (⊛-rises k (lit< tt) l) (≼-of-≈ (⊛-comm g (whole k))))
+
+pub below-then-strictly : {f g h : Fraction} → f ≼ g → g ≺ h → f ≺ h
+below-then-strictly {f} {g} {h} p q =
+    record {
+      cross = lt-of-mul-lt-mul-right (den g)
+          (omega (arith, mul-le-mul-right (den h) (p .cross), mul-lt-mul-of-pos-right {k = den f} (q .cross) (positive f)));
+    }

@@ -6,8 +6,7 @@ use native.Mathlib.Omega.{arith}
 use Rattle.laws.specs.Rounding.{ceil}
 use Rattle.laws.proofs.Rounding.{ceil-least}
 use Rattle.numbers.specs.Root.{RootDown, RootUp}
-use Rattle.numbers.proofs.Root.{down-at-most, up-at-most}
-use Rattle.numbers.proofs.RootValue.{down-root, up-root, down-value, up-value}
+use Rattle.numbers.proofs.RootValue.{down-value, up-value}
 use Rattle.records.specs.declared.Survival.{Survival}
 use Rattle.survival.specs.Ratio.{ratioOf, Proper}
 use Rattle.survival.specs.Survival.{scaledOf, roundedOf}
@@ -63,10 +62,3 @@ rounds {f} {m} {a} {b} p e low high =
     let d = scaled-down-fits p in
     let u = scaled-up-fits p in
     same-survival (down-value (omega arith) (rw e at low)) (up-value (omega arith) (rw e at high))
-
-pub rounded-at-most : {f : Ratio} → Proper (10 ^ 8) f → (roundedOf f .bottom ≤ 10 ^ 4) × (roundedOf f .top ≤ 10 ^ 4)
-unfolding roundedOf
-rounded-at-most {f} p =
-    let d = scaled-down-fits p in
-    let u = scaled-up-fits p in
-    (down-at-most (10 ^ 4) d (down-root (scaledOf f .down) (omega arith)), up-at-most (10 ^ 4) u (up-root (scaledOf f .up) (omega arith)))

@@ -5,3 +5,7 @@ pub mod Marks
 pub mod Compare
 pub mod Bounds
 pub mod Enclosure
+pub mod Width
+pub mod Verdicts
+pub mod Sums
+pub mod Values

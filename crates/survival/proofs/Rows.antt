@@ -3,6 +3,7 @@ use Prim.Native.Nat.{ℕ, zero, suc, _+_, _*_, _^_, _≤_, _<_}
 use mathlib.Core.Bool.{Bool, true, false, cond}
 use mathlib.Core.List.{List, [], _∷_}
 use mathlib.Core.Path.{_≡_, refl}
+use native.Mathlib.Nat.{le-trans}
 use native.Mathlib.Omega.{arith}
 use lib.Dec.{eqb}
 use lib.ListN.{getD}
@@ -13,11 +14,11 @@ use Rattle.records.specs.declared.Trio.{Trio}
 use Rattle.solas.specs.Height.{rowV}
 use Rattle.solas.specs.Survival.{s⁴}
 use Rattle.solas.proofs.Height.{row-at-most}
+use Rattle.solas.proofs.Survival.{s⁴-not-negative, s⁴-at-most-one}
 use Rattle.survival.specs.Height.{rowVs}
-use Rattle.survival.specs.Survival.{Factor, root, given, ends, factorOf, survivalOf, survivalsOf, nothing}
+use Rattle.survival.specs.Survival.{root, given, ends, Sensible, factorOf, factorsOf, survivalsOf, nothing}
 use Rattle.survival.specs.Index.{Weights, RowWeights, Given, trio, lost}
-use Rattle.survival.proofs.Ratios.{fourth-proper}
-use Rattle.survival.proofs.Factors.{rounded-at-most}
+use Rattle.survival.proofs.Bounds.{ends-ordered, ends-at-most}
 
 -- ---- trios with the same ends are the same
 pub both : {a b c d : List ℕ} → a ≡ c → b ≡ d → _≡_ {A = Trio} (record { lower = a; upper = b }) (record { lower = c; upper = d })
@@ -27,25 +28,23 @@ pub three : {a b c a′ b′ c′ : Ends} → a ≡ a′ → b ≡ b′ → c �
 three p q r = rw (p, q, r) refl
 
 -- ---- v and survival are at most one
-survival-at-most : (kind : ℕ) (f : Finding) → f .given ≤ 10 ^ 4 → (survivalOf kind f .bottom ≤ 10 ^ 4) × (survivalOf kind f .top ≤ 10 ^ 4)
-unfolding survivalOf factorOf
-survival-at-most kind f h = chosen (eqb kind 3)
+pub found-sensible : (kind : ℕ) (f : Finding) → f .given ≤ 10 ^ 4 → Sensible (factorOf kind f)
+unfolding factorOf
+found-sensible kind f h = chosen (eqb kind 3)
   where
-    found : Factor
-    found = root (s⁴ (f .lever) (f .range) (f .heel))
-
-    chosen : (b : Bool) → (ends (cond b (given (f .given)) found) .bottom ≤ 10 ^ 4) × (ends (cond b (given (f .given)) found) .top ≤ 10 ^ 4)
-    chosen true = (h, h)
-    chosen false = rounded-at-most (fourth-proper (f .lever) (f .range) (f .heel))
+    chosen : (b : Bool) → Sensible (cond b (given (f .given)) (root (s⁴ (f .lever) (f .range) (f .heel))))
+    chosen true = h
+    chosen false = (s⁴-not-negative (f .lever) (f .range) (f .heel), s⁴-at-most-one (f .lever) (f .range) (f .heel))
 
 pub row-weights : (H′ H : ℕ) (ds : List ℕ) (kind : ℕ) {fs : List Finding} → Given fs → RowWeights (rowVs H′ H ds) (survivalsOf kind fs)
-unfolding rowVs survivalsOf
+unfolding rowVs survivalsOf factorsOf
 row-weights H′ H ds kind {fs} h = record { each = each }
   where
-    at : (i : ℕ) → Weights (rowV H′ H (getD ds i 0)) (survivalOf kind (getD fs i nothing))
+    at : (i : ℕ) → Weights (rowV H′ H (getD ds i 0)) (ends (factorOf kind (getD fs i nothing)))
     at i =
-        let s = survival-at-most kind (getD fs i nothing) (h .each i) in
-        record { height = row-at-most H′ H (getD ds i 0); bottom = s .0; top = s .1 }
+        let s = factorOf kind (getD fs i nothing) in
+        let p = found-sensible kind (getD fs i nothing) (h .each i) in
+        record { height = row-at-most H′ H (getD ds i 0); bottom = le-trans (ends-ordered s p) (ends-at-most s p); top = ends-at-most s p }
 
     each : (i : ℕ) → Weights (getD (rowVs H′ H ds) i 0) (getD (survivalsOf kind fs) i lost)
     each zero = at 0

@@ -1,13 +1,14 @@
 -- What the ends are held to: rows at one draught with their exact share and survival, and the sums over every list of survivals. Assumes nothing.
 use Prim.Native.Nat.{ℕ, _+_, _^_, _≤_}
-use mathlib.Core.List.{List, [], _∷_}
+use mathlib.Core.List.{List, [], _∷_, map}
+use lib.ListN.{getD}
 use Rattle.laws.specs.Fraction.{Fraction, _over_, whole, _≼_, _⊹_, _⊛_}
 use Rattle.laws.specs.Sums.{sumOf}
 use Rattle.records.specs.declared.Ends.{Ends}
 use Rattle.records.specs.declared.Trio.{Trio}
 use Rattle.solas.specs.Index.{attained}
 use Rattle.survival.specs.Survival.{Factor, root, given, ends, Sensible}
-use Rattle.survival.specs.Index.{addsOf, trio}
+use Rattle.survival.specs.Index.{addsOf, trio, rowAdds}
 
 abbrev pub billionths : ℕ → Fraction
 billionths n = n over 10 ^ 9
@@ -101,3 +102,19 @@ partialsOf rs = trio (partialEnds (rs .deepest)) (partialEnds (rs .partial)) (pa
 -- A "with its own weights"
 abbrev pub exactA : Thrice (List RowAt) → Thrice (List Fraction) → Fraction
 exactA rs xs = attained (weightedSum (rs .deepest) (xs .deepest)) (weightedSum (rs .partial) (xs .partial)) (weightedSum (rs .light) (xs .light))
+
+-- a row with its v and its survival at each, and what it adds
+pub record Row : Type 0 where
+  pub share : Fraction
+  pub shareEnds : Ends
+  pub vs : List ℕ
+  pub factors : List Factor
+
+abbrev pub rowAt : ℕ → Row → RowAt
+rowAt i r = record { share = r .share; shareEnds = r .shareEnds; v = getD (r .vs) i 0; factor = getD (r .factors) i (given 0) }
+
+abbrev pub rowsAt : List Row → Thrice (List RowAt)
+rowsAt rs = record { deepest = map (rowAt 0) rs; partial = map (rowAt 1) rs; light = map (rowAt 2) rs }
+
+abbrev pub rowTrio : Row → Trio
+rowTrio r = rowAdds (r .shareEnds) (r .vs) (map ends (r .factors))

@@ -1,7 +1,7 @@
 -- Document 01, "Height and survival": what a survival is exactly, and its bottom and top in ten-thousandths. Assumes nothing.
 use Prim.Native.Nat.{ℕ, _*_, _/_, _^_, _≤_}
 use mathlib.Core.Bool.{cond}
-use mathlib.Core.List.{List, [], _∷_}
+use mathlib.Core.List.{List, [], _∷_, map}
 use lib.Dec.{eqb}
 use lib.ListN.{getD}
 use Rattle.laws.specs.Fraction.{Fraction, whole, _≼_, _⊛_}
@@ -56,5 +56,8 @@ abbrev pub nothing : Finding
 nothing = record { lever = 0; range = 0; heel = 0; given = 0 }
 
 -- deepest, partial, light
+unfoldable pub factorsOf : ℕ → List Finding → List Factor
+factorsOf kind fs = factorOf kind (getD fs 0 nothing) ∷ factorOf kind (getD fs 1 nothing) ∷ factorOf kind (getD fs 2 nothing) ∷ []
+
 unfoldable pub survivalsOf : ℕ → List Finding → List Survival
-survivalsOf kind fs = survivalOf kind (getD fs 0 nothing) ∷ survivalOf kind (getD fs 1 nothing) ∷ survivalOf kind (getD fs 2 nothing) ∷ []
+survivalsOf kind fs = map ends (factorsOf kind fs)

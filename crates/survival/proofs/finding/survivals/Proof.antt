@@ -1,6 +1,6 @@
 -- `survival::finding::survivals` meets its contract, draught by draught. Assumes nothing.
 use borrow.Author.Needs.{needs}
-use Rattle.survival.specs.Survival.{survivalsOf}
+use Rattle.survival.specs.Survival.{factorsOf, survivalOf, survivalsOf}
 use Rattle.survival.proofs.finding.survivals.Statement.{statement}
 use Rattle.survival.proofs.finding.survivals.Tie as tie
 
@@ -23,7 +23,7 @@ survival-requires-3 : tie.Need-survival-requires-3
 survival-requires-3 c κs = search needs
 
 returns : tie.Need-returns
-unfolding survivalsOf
+unfolding survivalsOf factorsOf survivalOf
 returns c = cc
 
 pub survivals-spec : {M : Type 1} → statement M

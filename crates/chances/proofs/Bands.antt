@@ -5,16 +5,17 @@ use mathlib.Core.List.{List, [], _∷_}
 use Prim.Native.Nat.{ℕ, zero, suc, _+_, _-_, _*_, _^_, _≤_, _<_}
 use native.Mathlib.Nat.{mul-le-mul, mul-le-mul-left, mul-pos, le-of-lt}
 use native.Mathlib.Omega.{arith}
-use borrow.Author.Tests.{leb-true, leb-false}
+use borrow.Author.Tests.{leb-true, leb-false, eqb-true, eqb-false}
 use lib.Dec.{T, leb, leb→le, eqb}
 use lib.IntN.{ℤ, pos}
 use lib.ListN.{getD}
 use lib.Signed.{mag}
 use Rattle.laws.specs.Fraction.{Fraction, _less_over_, Is}
-use Rattle.laws.proofs.Fraction.{is-less-over, is-shifted}
-use Rattle.laws.proofs.Polynomial.{_:*_, _:^_, _:=_, _⊢_, poly1}
+use Rattle.laws.proofs.Fraction.{is-less-over}
 use Rattle.laws.proofs.Table.{every, everyBelow, every-entry, every-number}
 use Rattle.solas.specs.Span.{p}
+use Rattle.chances.proofs.Plain.{square, cube, as-plain}
+use Rattle.chances.specs.declared.Ratio.{Ratio}
 use Rattle.chances.specs.Bands.{bands, bandOf, above, entry, counted, valued, quotientOf, Small, Within, Ready, Chance}
 
 -- ---- the table, tested entry by entry
@@ -71,12 +72,6 @@ module _ (L x : ℕ) (hL : L ≤ 19800) (hx : x ≤ 19800) where
 
 -- ---- band by band
 
-square : (x : ℕ) → x ^ 2 ≡ x * x
-square = poly1 (λ x. [] ⊢ x :^ 2 := x :* x) tt
-
-cube : (x : ℕ) → x ^ 3 ≡ x * x * x
-cube = poly1 (λ x. [] ⊢ x :^ 3 := x :* x :* x) tt
-
 -- p as 01 prints it
 abbrev shortest : ℕ → ℕ → Fraction
 shortest L x = (550 * x ^ 2 * L) less (1089 * x ^ 3) over (100 * L ^ 3)
@@ -86,10 +81,6 @@ middle L x = (19800 * x * L ^ 2 + 32670 * x ^ 2 * L) less (1000 * L ^ 3 + 35937 
 
 abbrev longest : ℕ → ℕ → Fraction
 longest L x = (297 * x) less (20 * L) over (297 * L)
-
--- (a - b)/d is n/e
-as-plain : {f : Fraction} {a b d : ℕ} (n e : ℕ) → a ≡ n + b → d ≡ e → Is f a b d → Is f n 0 e
-as-plain n e p q h = rw (← q) (is-shifted n 0 (omega arith) h)
 
 -- the row k at the numbers w, on that scale, is f
 pub record Band (L k : ℕ) (w : List ℕ) (scale : ℕ) (f : Fraction) : Type 0 where
@@ -188,3 +179,11 @@ module _ (L x : ℕ) (some : 1 ≤ L) (short : L ≤ 19800) (hx : x ≤ L) where
       chosen true v d e = (λ z. absurd (omega arith), λ z. first (leb-true _ _ d))
       chosen false true d e = (λ z. absurd (omega arith), λ z. second (leb-false _ _ d) (leb-true _ _ e))
       chosen false false d e = (λ z. third (leb-false _ _ e), λ z. absurd (z refl))
+
+  -- so there is a ratio that p is
+  pub ratio-of : (r : Ratio) × Chance (p L x) L r
+  ratio-of = chosen (eqb (bandOf L x) 2) refl
+    where
+      chosen : (u : Bool) → eqb (bandOf L x) 2 ≡ u → (r : Ratio) × Chance (p L x) L r
+      chosen true e = (quotientOf (row (bandOf L x)) (firsts L x) 1 L, in-band (bandOf L x) refl .0 (eqb-true _ _ e) .chance)
+      chosen false e = (quotientOf (row (bandOf L x)) (powers L x) (L * L) L, in-band (bandOf L x) refl .1 (eqb-false _ _ e) .chance)

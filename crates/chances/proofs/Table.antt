@@ -60,7 +60,7 @@ four-filled g n xs k {a} {b} {c} {d} h p q r s f =
     rw (← e4) (one-filled g n (set (set (set xs k a) (k + 1) b) (k + 2) c) (k + 3) d (omega arith) s (rw e3 at f3))
 
 -- the four places of one span
-place-of-span : (h : Hull) (k j : ℕ) → k % 4 ≡ 0 → j < 4 → numberAt h (k + j) ≡ numberOf (spanAt h (k / 80) (k / 4 % 20)) j
+pub place-of-span : (h : Hull) (k j : ℕ) → k % 4 ≡ 0 → j < 4 → numberAt h (k + j) ≡ numberOf (spanAt h (k / 80) (k / 4 % 20)) j
 unfolding numberAt
 place-of-span h k j e l =
     let a : (k + j) / 80 ≡ k / 80 = omega arith in

@@ -1,5 +1,6 @@
 -- The span table: p's and P's ends of every span of zones, four numbers a span. Assumes nothing.
-use Prim.Native.Nat.{ℕ, zero, suc, _+_, _-_, _*_, _/_, _%_}
+use Prim.Native.Nat.{ℕ, zero, suc, _+_, _-_, _*_, _/_, _%_, _≤_}
+use mathlib.Core.Path.{_≡_}
 use mathlib.Core.Bool.{_&&_, cond}
 use mathlib.Core.List.{List}
 use lib.Dec.{leb, ltb}
@@ -7,6 +8,9 @@ use lib.ListN.{getD}
 use Rattle.laws.specs.Lists.{tabulate}
 use Rattle.records.specs.declared.Hull.{Hull}
 use Rattle.chances.specs.declared.SpanEnds.{SpanEnds}
+use Rattle.chances.specs.declared.Layer.{Layer}
+use Rattle.chances.specs.Hull.{Hulled}
+use Rattle.chances.specs.Layer.{layerOf}
 use Rattle.chances.specs.Span.{spanEnds}
 
 -- the zones from i to j, counted from 0, of the m zones of a hull; 0 where there is no such span
@@ -29,6 +33,17 @@ numberAt h k = numberOf (spanAt h (k / 80) (k / 4 % 20)) (k % 4)
 unfoldable pub tableOf : Hull → List ℕ
 tableOf h = tabulate (numberAt h) 1600
 
--- where the numbers of the zones from i to j begin
-abbrev pub placeOf : ℕ → ℕ → ℕ
-placeOf i j = 80 * i + 4 * j
+-- the four numbers from place k on
+unfoldable pub spanFrom : List ℕ → ℕ → SpanEnds
+spanFrom t k =
+    record {
+      inner = record { lower = getD t k 0; upper = getD t (k + 1) 0 };
+      chance = record { lower = getD t (k + 2) 0; upper = getD t (k + 3) 0 };
+    }
+
+-- the span table of a hull, and a layer of it down to at most half of its breadth
+pub record Lent (t : List ℕ) (h : Hull) (y : Layer) : Type 0 where
+  pub hull : Hulled h
+  pub table : t ≡ tableOf h
+  pub deep : 2 * y .depth ≤ h .breadth
+  pub layer : y ≡ layerOf (h .breadth) (y .depth)

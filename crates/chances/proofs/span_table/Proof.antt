@@ -25,43 +25,43 @@ zone-span-requires : tie.Need-zone-span-requires Inv-loop μ-loop
 zone-span-requires c κs = c .before .before .before .pre
 
 mul-t : tie.Need-mul-t Inv-loop μ-loop
-mul-t c = search needs
+mul-t c = omega arith
 
 array-write-t : tie.Need-array-write-t Inv-loop μ-loop
-array-write-t c = search needs
+array-write-t c = omega arith
 
 add-t : tie.Need-add-t Inv-loop μ-loop
-add-t c = search needs
+add-t c = omega arith
 
 mul-t-2 : tie.Need-mul-t-2 Inv-loop μ-loop
-mul-t-2 c = search needs
+mul-t-2 c = omega arith
 
 array-write-t-2 : tie.Need-array-write-t-2 Inv-loop μ-loop
-array-write-t-2 c = search needs
+array-write-t-2 c = omega arith
 
 add-t-2 : tie.Need-add-t-2 Inv-loop μ-loop
-add-t-2 c = search needs
+add-t-2 c = omega arith
 
 mul-t-3 : tie.Need-mul-t-3 Inv-loop μ-loop
-mul-t-3 c = search needs
+mul-t-3 c = omega arith
 
 array-write-t-3 : tie.Need-array-write-t-3 Inv-loop μ-loop
-array-write-t-3 c = search needs
+array-write-t-3 c = omega arith
 
 add-t-3 : tie.Need-add-t-3 Inv-loop μ-loop
-add-t-3 c = search needs
+add-t-3 c = omega arith
 
 mul-t-4 : tie.Need-mul-t-4 Inv-loop μ-loop
-mul-t-4 c = search needs
+mul-t-4 c = omega arith
 
 array-write-t-4 : tie.Need-array-write-t-4 Inv-loop μ-loop
-array-write-t-4 c = search needs
+array-write-t-4 c = omega arith
 
 add-k : tie.Need-add-k Inv-loop μ-loop
-add-k c = search needs
+add-k c = omega arith
 
 loop-less : tie.Need-loop-less Inv-loop μ-loop
-loop-less c = search needs
+loop-less c = omega arith
 
 loop-again : tie.Need-loop-again Inv-loop μ-loop
 loop-again c =

@@ -1,0 +1,27 @@
+-- `chances::group_sums` meets its contract, by the number of zones. Assumes nothing.
+use borrow.Author.Needs.{needs}
+use Rattle.chances.proofs.group_sums.Statement.{statement}
+use Rattle.chances.proofs.group_sums.Tie as tie
+
+one-zone-requires : tie.Need-one-zone-requires
+one-zone-requires c κs = search needs
+
+returns : tie.Need-returns
+returns c = rw (c .before .if1 .taken) (c .one-zone .ensures)
+
+two-zones-requires : tie.Need-two-zones-requires
+two-zones-requires c κs = search needs
+
+returns-2 : tie.Need-returns-2
+returns-2 c = rw (c .before .if2 .taken) (c .two-zones .ensures)
+
+more-zones-requires : tie.Need-more-zones-requires
+more-zones-requires c κs = search needs
+
+returns-3 : tie.Need-returns-3
+returns-3 c = search needs
+
+pub group-sums-spec : {M : Type 1} → statement M
+group-sums-spec =
+    tie.close
+    (tie.spec one-zone-requires returns two-zones-requires returns-2 more-zones-requires returns-3)

@@ -1,0 +1,7 @@
+pub mod Splice
+pub mod Text
+pub mod Frames
+pub mod Shares
+pub mod Whole
+pub mod Examples
+pub mod ReadBack

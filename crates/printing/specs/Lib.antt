@@ -1,0 +1,4 @@
+pub mod Printed
+pub mod Splice
+pub mod Written
+pub mod ReadBack

@@ -1,0 +1,74 @@
+-- What a printed answer tells, and how it is read back from the text by document 01's frames. Assumes nothing.
+use Prim.Native.Nat.{ℕ, zero, suc, _*_, _<_}
+use mathlib.Core.Path.{_≡_}
+use mathlib.Core.Bool.{cond}
+use mathlib.Core.List.{List, [], _∷_, _++_, map}
+use lib.Dec.{eqb}
+use lib.ListN.{length, getD, take, drop}
+use Rattle.laws.specs.Bytes.{number}
+use Rattle.records.specs.declared.Answer.{Answer}
+use Rattle.frames.specs.Lines.{Line, lines}
+use Rattle.frames.specs.Hex.{pairs}
+use Rattle.printing.specs.Printed.{printed}
+
+-- a refusal's number and line; or a verdict, the ends of A, As, Ap, Al and those of the shares, lower before upper
+pub data Told : Type 0 where
+  refusal : ℕ → ℕ → Told
+  figures : ℕ → List ℕ → List ℕ → Told
+
+-- the ends of A, As, Ap, Al
+unfoldable pub endsOf : Answer → List ℕ
+endsOf a =
+    a .attained .lower ∷ a .attained .upper
+    ∷ getD (a .partials .lower) 0 0 ∷ getD (a .partials .upper) 0 0
+    ∷ getD (a .partials .lower) 1 0 ∷ getD (a .partials .upper) 1 0
+    ∷ getD (a .partials .lower) 2 0 ∷ getD (a .partials .upper) 2 0 ∷ []
+
+unfoldable pub toldBy : Answer → List ℕ → Told
+toldBy a shares = cond (eqb (a .number) 0) (figures (a .verdict) (endsOf a) shares) (refusal (a .number) (a .line))
+
+-- ---- from the text
+
+-- so many numbers, of four bytes each
+unfoldable pub fours : ℕ → List ℕ → List ℕ
+fours zero bs = []
+fours (suc n) bs = number (take 4 bs) ∷ fours n (drop 4 bs)
+
+-- the shares' ends, from the frames 82
+unfoldable pub sharesIn : List (List ℕ) → List ℕ
+sharesIn [] = []
+sharesIn (frame ∷ frames) = fours 2 (drop 1 frame) ++ sharesIn frames
+
+-- a frame 8f, or a frame 81 and frames 82 after it; no frame tells nothing
+unfoldable pub toldIn : List (List ℕ) → Told
+toldIn [] = refusal 0 0
+toldIn (frame ∷ frames) =
+    cond (eqb (getD frame 0 0) 143)
+    (refusal (number (take 1 (drop 1 frame))) (number (take 2 (drop 2 frame))))
+    (figures (number (take 1 (drop 1 frame))) (fours 8 (drop 2 frame)) (sharesIn frames))
+
+-- the bytes that each line's digits write
+abbrev pub frameIn : Line → List ℕ
+frameIn l = pairs (l .text)
+
+unfoldable pub readBack : List ℕ → Told
+readBack text = toldIn (map frameIn (lines text))
+
+-- ---- the promise
+
+-- each is written whole by four bytes
+abbrev pub Short : List ℕ → Type 0
+Short ns = (i : ℕ) → getD ns i 0 < 4294967296
+
+-- number and verdict fit one byte, the line two, each end four; and there are two numbers a row
+pub record Printable (a : Answer) (shares : List ℕ) : Type 0 where
+  pub number-fits : a .number < 256
+  pub line-fits : a .line < 65536
+  pub verdict-fits : a .verdict < 256
+  pub ends-fit : Short (endsOf a)
+  pub shares-fit : Short shares
+  pub two-a-row : length shares ≡ 2 * a .rows
+
+-- what is printed can be read back
+abbrev pub ReadsBack : Type 0
+ReadsBack = (a : Answer) (shares : List ℕ) → Printable a shares → readBack (printed a shares) ≡ toldBy a shares

@@ -1,0 +1,171 @@
+// The printed answer, written into a lent buffer: digits, then fields, then lines, then the whole.
+ghost use mathlib.Core.Path.{_≡_};
+ghost use mathlib.Core.List.{[], _∷_};
+ghost use Prim.Native.Nat.{_+_, _*_, _^_, _≤_, _<_};
+ghost use lib.ListN.{length, take};
+ghost use Rattle.laws.specs.Bytes.{bytes};
+ghost use Rattle.frames.specs.Hex.{digit, hex};
+ghost use Rattle.printing.specs.Splice.{splice};
+ghost use Rattle.printing.specs.Printed.{refusalFrame, endsField, partialField, partialsField, figuresFrame, shareFrame, lineOf, shareLines, printedLength};
+ghost use Rattle.printing.specs.Written.{textOf, lengthOf, writtenOf};
+use records::Answer;
+use records::Trio;
+
+// The digit of a number below 16.
+fn digit_of(n: u64) -> u8
+    requires { ⌜ n < 16 ⌝ }
+    ensures { λ r. ⌜ r ≡ digit n ⌝ }
+{
+    if n < 10 { 48 + n as u8 } else { 87 + n as u8 }
+}
+
+// The low byte of n, as two digits.
+fn put_byte(n: u64, out: &mut [u8], at: usize)
+    requires { ⌜ at + 2 ≤ length (now out) ⌝ }
+    ensures { λ _. ⌜ now (out .exit) ≡ splice at (hex (bytes 1 n)) (now (out .entry)) ⌝ }
+{
+    out[at] = digit_of(n / 16 % 16);
+    out[at + 1] = digit_of(n % 16);
+}
+
+// The two low bytes of n.
+fn put_two(n: u64, out: &mut [u8], at: usize)
+    requires { ⌜ at + 4 ≤ length (now out) ⌝ }
+    ensures { λ _. ⌜ now (out .exit) ≡ splice at (hex (bytes 2 n)) (now (out .entry)) ⌝ }
+{
+    put_byte(n / 256, out, at);
+    put_byte(n, out, at + 2);
+}
+
+// The four low bytes of n.
+fn put_four(n: u64, out: &mut [u8], at: usize)
+    requires { ⌜ at + 8 ≤ length (now out) ⌝ }
+    ensures { λ _. ⌜ now (out .exit) ≡ splice at (hex (bytes 4 n)) (now (out .entry)) ⌝ }
+{
+    put_two(n / 65536, out, at);
+    put_two(n, out, at + 4);
+}
+
+// A figure's ends.
+fn put_ends(lower: u64, upper: u64, out: &mut [u8], at: usize)
+    requires { ⌜ at + 16 ≤ length (now out) ⌝ }
+    ensures { λ _. ⌜ now (out .exit) ≡ splice at (hex (endsField lower upper)) (now (out .entry)) ⌝ }
+{
+    put_four(lower, out, at);
+    put_four(upper, out, at + 8);
+}
+
+// The ends of the partial index at draught j.
+fn put_partial(t: Trio, j: usize, out: &mut [u8], at: usize)
+    requires { ⌜ (j < 3) × (at + 16 ≤ length (now out)) ⌝ }
+    ensures { λ _. ⌜ now (out .exit) ≡ splice at (hex (partialField t j)) (now (out .entry)) ⌝ }
+{
+    let lower = t.lower;
+    let upper = t.upper;
+    put_ends(lower[j], upper[j], out, at);
+}
+
+// The ends of the partial indices.
+fn put_partials(t: Trio, out: &mut [u8], at: usize)
+    requires { ⌜ at + 48 ≤ length (now out) ⌝ }
+    ensures { λ _. ⌜ now (out .exit) ≡ splice at (hex (partialsField t)) (now (out .entry)) ⌝ }
+{
+    put_partial(t, 0, out, at);
+    put_partial(t, 1, out, at + 16);
+    put_partial(t, 2, out, at + 32);
+}
+
+// A line feed.
+fn put_feed(out: &mut [u8], at: usize)
+    requires { ⌜ at + 1 ≤ length (now out) ⌝ }
+    ensures { λ _. ⌜ now (out .exit) ≡ splice at (10 ∷ []) (now (out .entry)) ⌝ }
+{
+    out[at] = 10;
+}
+
+// A refusal's line, in front.
+fn put_refusal(number: u64, line: u64, out: &mut [u8])
+    requires { ⌜ 9 ≤ length (now out) ⌝ }
+    ensures { λ _. ⌜ now (out .exit) ≡ splice 0 (lineOf (refusalFrame number line)) (now (out .entry)) ⌝ }
+{
+    put_byte(143, out, 0);
+    put_byte(number, out, 2);
+    put_two(line, out, 4);
+    put_feed(out, 8);
+}
+
+// The line of the verdict and the indices, in front.
+fn put_figures(a: Answer, out: &mut [u8])
+    requires { ⌜ 69 ≤ length (now out) ⌝ }
+    ensures { λ _. ⌜ now (out .exit) ≡ splice 0 (lineOf (figuresFrame a)) (now (out .entry)) ⌝ }
+{
+    put_byte(129, out, 0);
+    put_byte(a.verdict, out, 2);
+    put_ends(a.attained.lower, a.attained.upper, out, 4);
+    put_partials(a.partials, out, 20);
+    put_feed(out, 68);
+}
+
+// The line of a row's share.
+fn put_share(lower: u64, upper: u64, out: &mut [u8], at: usize)
+    requires { ⌜ at + 19 ≤ length (now out) ⌝ }
+    ensures { λ _. ⌜ now (out .exit) ≡ splice at (lineOf (shareFrame lower upper)) (now (out .entry)) ⌝ }
+{
+    put_byte(130, out, at);
+    put_ends(lower, upper, out, at + 2);
+    put_feed(out, at + 18);
+}
+
+// A line for each of the rows whose ends stand in front of the sheet.
+fn put_shares(rows: usize, sheet: &[u64], out: &mut [u8], at: usize)
+    requires { ⌜ (2 * rows ≤ length (now sheet)) × (at + 19 * rows ≤ length (now out)) ⌝ }
+    ensures { λ _. ⌜ now (out .exit) ≡ splice at (shareLines (take (2 * rows) (now (sheet .entry)))) (now (out .entry)) ⌝ }
+{
+    let mut i: usize = 0;
+    while i < rows {
+        let k = 2 * i;
+        put_share(sheet[k], sheet[k + 1], out, at + 19 * i);
+        i += 1;
+    }
+}
+
+// How many bytes the printed answer has.
+fn text_length(a: Answer) -> usize
+    requires { ⌜ 69 + 19 * a .rows < 2 ^ 64 ⌝ }
+    ensures { λ r. ⌜ r ≡ printedLength a ⌝ }
+{
+    if a.number == 0 {
+        69 + 19 * (a.rows as usize)
+    } else {
+        9
+    }
+}
+
+// The printed answer, in front of a buffer with room for it.
+fn put_answer(a: Answer, sheet: &[u64], out: &mut [u8])
+    requires { ⌜ (2 * a .rows ≤ length (now sheet)) × (printedLength a ≤ length (now out)) ⌝ }
+    ensures { λ _. ⌜ now (out .exit) ≡ splice 0 (textOf a (now (sheet .entry))) (now (out .entry)) ⌝ }
+{
+    if a.number == 0 {
+        put_figures(a, out);
+        put_shares(a.rows as usize, sheet, out, 69);
+    } else {
+        put_refusal(a.number, a.line, out);
+    }
+}
+
+// Writes the printed answer, with the shares from the front of the sheet, and returns its length; or leaves the buffer as it is and
+// returns 0, where the sheet has too few numbers or the buffer too little room.
+pub fn write_answer(a: Answer, sheet: &[u64], out: &mut [u8]) -> usize
+    ensures { λ r. ⌜ (r ≡ lengthOf a (now (sheet .entry)) (now (out .entry))) × (now (out .exit) ≡ writtenOf a (now (sheet .entry)) (now (out .entry))) ⌝ }
+{
+    if ((sheet.len() / 2) as u64) < a.rows {
+        return 0;
+    }
+    let n = text_length(a);
+    if out.len() < n {
+        return 0;
+    }
+    put_answer(a, sheet, out);
+    n
+}

@@ -1,3 +1,5 @@
+pub mod CodeRunning
+pub mod CodeOpening
 pub mod CodeJudging
 pub mod CodeLimits
 pub mod CodeReaders

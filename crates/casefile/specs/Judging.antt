@@ -1,6 +1,6 @@
 -- What the parts of a line's judging answer, each from the checks that are its own. Assumes nothing.
-use Prim.Native.Nat.{ℕ}
-use mathlib.Core.Bool.{cond, not, _||_}
+use Prim.Native.Nat.{ℕ, _+_}
+use mathlib.Core.Bool.{false, cond, not, _||_}
 use mathlib.Core.List.{List, [], _∷_}
 use lib.Dec.{eqb}
 use Rattle.records.specs.declared.Hull.{Hull}
@@ -9,11 +9,12 @@ use Rattle.frames.specs.Hex.{pairs}
 use Rattle.casefile.specs.declared.Frame.{Frame}
 use Rattle.casefile.specs.declared.Progress.{Progress}
 use Rattle.casefile.specs.declared.Judgement.{Judgement}
+use Rattle.casefile.specs.declared.Step.{Step}
 use Rattle.casefile.specs.Record.{Row}
 use Rattle.casefile.specs.Layout.{kindOf, fieldsOf, isRow, hullLength, hullOf, rowOf, countOf}
 use Rattle.casefile.specs.Limits.{sizesFit, zonesFit}
 use Rattle.casefile.specs.Table.{_when_, firstHolds, wrongFrame, hullChecks, rowChecks, endChecks}
-use Rattle.casefile.specs.Reading.{refused}
+use Rattle.casefile.specs.Reading.{refused, withEnd}
 use Rattle.casefile.specs.Answer.{judgementOf}
 
 -- ---- a line after the hull
@@ -43,8 +44,24 @@ hullNumber h n = firstHolds ((4 when not (sizesFit h)) ∷ (5 when (not (zonesFi
 abbrev pub hullGiven : Hull → Judgement
 hullGiven h = record { number = 0; line = 0; rows = 0; hull = h }
 
+abbrev pub unlessRefused : ℕ → Hull → Judgement
+unlessRefused k h = cond (eqb k 0) (hullGiven h) (judgementOf (refused k 1))
+
+unfoldable pub hullJudged : Hull → ℕ → Judgement
+hullJudged h n = unlessRefused (hullNumber h n) h
+
 unfoldable pub firstJudged : Line → Judgement
-firstJudged l =
-    let k = firstHolds (hullChecks l) in
-    let given = hullGiven (hullOf (fieldsOf (pairs (l .text)))) in
-    cond (eqb k 0) given (judgementOf (refused k 1))
+firstJudged l = unlessRefused (firstHolds (hullChecks l)) (hullOf (fieldsOf (pairs (l .text))))
+
+-- ---- the lines in turn
+
+-- what is known after a line's frame, or the refusal with the line n
+abbrev pub stepped : Frame → Progress → ℕ → Step
+stepped (Frame.Row r) p n = Step.Next (record { rows = p .rows + 1; last = r; ended = false })
+stepped (Frame.End count) p n = Step.Next (withEnd p)
+stepped (Frame.Wrong k) p n = Step.Refused k n
+
+-- what the last step says of the file: the number and line of a refusal, or the row count, and the hull h
+abbrev pub judgementAt : Hull → Step → Judgement
+judgementAt h (Step.Next p) = record { number = 0; line = 0; rows = p .rows; hull = h }
+judgementAt h (Step.Refused k n) = judgementOf (refused k n)

@@ -5,7 +5,9 @@ use records::RowHead;
 
 pub mod follows; // the order of rows
 pub mod judging; // a line by the table of refusals
+pub mod opening; // line 1
 mod readers; // records from fields
+pub mod running; // the lines in turn
 pub mod within; // the limits of a hull and of a row
 
 // What a line after the hull is: a row's head, the end's count, or a refusal's number.
@@ -20,6 +22,12 @@ pub struct Progress {
     pub rows: u64,
     pub last: RowHead,
     pub ended: bool,
+}
+
+// What is known after a line, or the refusal's number and line.
+pub enum Step {
+    Next(Progress),
+    Refused(u64, u64),
 }
 
 // What a file's reading says: at a refusal its number and line, and zeros; else the row count and the hull.

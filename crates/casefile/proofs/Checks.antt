@@ -108,7 +108,7 @@ module _ (h : Hull) (p : Progress) where
         let (f, e3) = first-fails _ _ _ (λ z. omega arith) e2 in
         (record { going = g; written = w; frame = f }, e3)
 
-    passed-first : LinePasses p l → firstHolds (lineChecks h p l) ≡ firstHolds own
+    pub passed-first : LinePasses p l → firstHolds (lineChecks h p l) ≡ firstHolds own
     unfolding lineChecks firstHolds
     passed-first q = rw (q .going, q .written, q .frame) refl
 

@@ -6,6 +6,7 @@ pub mod CodeReaders
 pub mod Examples
 pub mod Checks
 pub mod Steps
+pub mod Judging
 pub mod Limits
 pub mod Order
 pub mod Words
@@ -20,3 +21,6 @@ pub mod Turns
 pub mod EndFrames
 pub mod Refusal
 pub mod TableOrder
+pub mod Walk
+pub mod Groups
+pub mod GroupRows

@@ -1,5 +1,5 @@
 -- The order of rows: refusals 8 and 9 say no where a row may follow the row before it, and nowhere else. Assumes nothing.
-use Prim.Native.Nat.{_+_, _/_, _<_}
+use Prim.Native.Nat.{_/_, _<_}
 use mathlib.Core.Path.{_≡_, refl, sym}
 use mathlib.Core.Bool.{Bool, true, false, not, _&&_, _||_, and-false}
 use mathlib.Core.Logic.{inl, inr, ⊎-elim}

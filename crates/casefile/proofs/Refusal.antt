@@ -12,6 +12,7 @@ use Rattle.frames.specs.Lines.{Line, lines}
 use Rattle.casefile.specs.Record.{Case}
 use Rattle.casefile.specs.Limits.{longestInput}
 use Rattle.casefile.specs.Reading.{Reading, refused, accepted, begin, reading}
+use Rattle.casefile.specs.Answer.{judgementOf}
 use Rattle.casefile.specs.Refusal.{lineAt, numberAt, IsEndFrame, AtLine, NoEnd, Refusal, Refusals, Answered, OneRefusal, NotBoth, numbers}
 use Rattle.casefile.proofs.Steps.{too-long, not-too-long}
 use Rattle.casefile.proofs.Soundness.{not-accepted}
@@ -103,3 +104,16 @@ one-refusal f k l k′ l′ p q = same-refusal k l k′ l′ (sym (refusal-is f 
 
 pub not-both : NotBoth
 not-both f c k l e q = not-accepted k l c (sym (refusal-is f k l q) ∙ e)
+
+-- no refusal has the number 0, and so a file that gets it is accepted
+pub nonzero : (f : List ℕ) (k l : ℕ) → Refusal f k l → k ≡ 0 → ⊥
+nonzero f k l (inl q) e = omega (arith, q .number)
+nonzero f k l (inr (inl q)) e = q .some e
+nonzero f k l (inr (inr q)) e = omega (arith, q .number)
+
+pub zero-accepts : (f : List ℕ) → judgementOf (reading f) .number ≡ 0 → (c : Case) × (reading f ≡ accepted c)
+zero-accepts f e = by (reading f) refl e
+  where
+    by : (r : Reading) → reading f ≡ r → judgementOf r .number ≡ 0 → (c : Case) × (reading f ≡ accepted c)
+    by (refused k l) q z = absurd (nonzero f k l (is-refusal f k l q) z)
+    by (accepted c) q z = (c, q)

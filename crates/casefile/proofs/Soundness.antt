@@ -36,7 +36,7 @@ not-accepted k l c e = let z : _≡_ {A = ℕ} 0 1 = cc in absurd (omega arith)
 pub same-case : (c d : Case) → accepted c ≡ accepted d → c ≡ d
 same-case c d e = cc
 
-with-row : (r : Row) (s : Reading) (c : Case) → before r s ≡ accepted c → (d : Case) × (s ≡ accepted d) × (record { hull = d .hull; rows = r ∷ d .rows } ≡ c)
+pub with-row : (r : Row) (s : Reading) (c : Case) → before r s ≡ accepted c → (d : Case) × (s ≡ accepted d) × (record { hull = d .hull; rows = r ∷ d .rows } ≡ c)
 with-row r (refused k l) c e = not-accepted k l c e
 with-row r (accepted d) c e = (d, refl, same-case _ c e)
 
@@ -55,7 +55,7 @@ module _ (s : Stage) (n : ℕ) (l : Line) (ls : List Line) (c : Case) (e : readF
 
 -- ---- after the end nothing comes
 
-ended : (h : Hull) (p : Progress) (n : ℕ) (ls : List Line) (c : Case) → p .ended ≡ true → readFrom (inside h p) n ls ≡ accepted c → (ls ≡ []) × (c ≡ record { hull = h; rows = [] })
+pub ended : (h : Hull) (p : Progress) (n : ℕ) (ls : List Line) (c : Case) → p .ended ≡ true → readFrom (inside h p) n ls ≡ accepted c → (ls ≡ []) × (c ≡ record { hull = h; rows = [] })
 unfolding readFrom
 ended h p n [] c t e = (refl, sym (same-case (record { hull = h; rows = [] }) c (rw t at e)))
 ended h p n (l ∷ ls) c t e = absurd (true≢false (sym t ∙ passes-first h p l (passes (inside h p) n l ls c e) .0 .going))

@@ -1,6 +1,7 @@
 -- What the code's answers are by document 01: the refusal's number and line, and the values, of each. Assumes nothing.
 use Prim.Native.Nat.{ℕ, _+_}
 use mathlib.Core.Bool.{Bool, true, false, cond, not, _&&_}
+use mathlib.Core.Path.{_≡_}
 use mathlib.Core.List.{List, [], _∷_}
 use lib.ListN.{length, drop, replicate}
 use lib.Dec.{eqb}
@@ -8,12 +9,13 @@ use Rattle.records.specs.declared.Hull.{Hull}
 use Rattle.records.specs.declared.Finding.{Finding}
 use Rattle.frames.specs.Lines.{Line, lines}
 use Rattle.frames.specs.Hex.{pairs, badlyWritten}
+use Rattle.frames.specs.Fields.{byteAt, wordAt}
 use Rattle.casefile.specs.declared.Frame.{Frame}
 use Rattle.casefile.specs.declared.Progress.{Progress}
 use Rattle.casefile.specs.declared.Judgement.{Judgement}
 use Rattle.casefile.specs.declared.RowPlace.{RowPlace}
 use Rattle.casefile.specs.Record.{Row}
-use Rattle.casefile.specs.Layout.{kindOf, isRow, rowOf, countOf}
+use Rattle.casefile.specs.Layout.{kindOf, fieldsOf, isRow, rowOf, countOf}
 use Rattle.casefile.specs.Table.{firstHolds, lineChecks, wrongFrame}
 use Rattle.casefile.specs.Reading.{Reading, refused, accepted}
 
@@ -38,6 +40,14 @@ frameOf bs = cond (isRow (kindOf bs)) (Frame.Row (rowOf bs .head)) (Frame.End (c
 -- a line after the hull h, judged: its frame, or the number of the first check that holds
 unfoldable pub judged : Hull → Progress → Line → Frame
 judged h p l = let k = firstHolds (lineChecks h p l) in cond (eqb k 0) (frameOf (pairs (l .text))) (Frame.Wrong k)
+
+-- the answer has the number of the first check that holds; a line that passes has its kind byte and the fields after it
+pub record SaysTheLine : Type 0 where
+  pub number : (h : Hull) (p : Progress) (l : Line) → numberOf (judged h p l) ≡ firstHolds (lineChecks h p l)
+  pub row : (h : Hull) (p : Progress) (l : Line) → firstHolds (lineChecks h p l) ≡ 0 → isRow (kindOf (pairs (l .text))) ≡ true →
+      let f = fieldsOf (pairs (l .text)) in valuesOf (judged h p l) ≡ kindOf (pairs (l .text)) ∷ byteAt f 0 ∷ byteAt f 1 ∷ wordAt f 2 ∷ wordAt f 4 ∷ []
+  pub end : (h : Hull) (p : Progress) (l : Line) → firstHolds (lineChecks h p l) ≡ 0 → isRow (kindOf (pairs (l .text))) ≡ false →
+      let f = fieldsOf (pairs (l .text)) in valuesOf (judged h p l) ≡ kindOf (pairs (l .text)) ∷ wordAt f 0 ∷ []
 
 -- ---- a file
 

@@ -8,14 +8,14 @@ use native.Mathlib.Numerals.{add-one, add-two}
 use native.Mathlib.Omega.{arith}
 use lib.Dec.{ltb, eqb}
 use lib.ListN.{length, getD, take, drop, length-drop}
-use lib.Seq.{drop-cons}
+use lib.Seq.{drop-cons, drop-nil}
 use borrow.Author.Tests.{lt-ltb, eq-eqb, eqb-true}
 use Rattle.frames.specs.declared.Digit.{Digit}
 use Rattle.frames.specs.declared.Digit.the-variants.{Value, Bad}
 use Rattle.frames.specs.Hex.{digitOf, pairOf, before, pairs, digitsOnly, proper}
 use Rattle.frames.proofs.Tests.{both, same-test}
 use Rattle.frames.proofs.Hex.{pair-parts}
-use Rattle.frames.proofs.Pairs.{length-pairs, proper-parts}
+use Rattle.frames.proofs.Pairs.{first-pair, length-pairs, proper-parts}
 
 -- ---- from a place of the line on
 
@@ -84,3 +84,31 @@ proper-by-count s =
     backwards (n, c) =
         let k : length (pairs s) * 2 ≡ length s = eqb-true (length (pairs s) * 2) (length s) c in
         rw (n, eq-eqb (length s % 2) 0 (omega arith), all-counted s k) refl
+
+-- ---- a proper line's bytes from a place on
+
+pub pairs-drop : (i : ℕ) (s : List ℕ) → digitsOnly s ≡ true → pairs (drop (i * 2) s) ≡ drop i (pairs s)
+unfolding pairs
+pairs-drop zero s e = refl
+pairs-drop (suc i) [] e = rw (suc-mul i 2, add-two) refl
+pairs-drop (suc i) (a ∷ []) e = rw (suc-mul i 2, add-two, drop-nil (suc (i * 2))) refl
+pairs-drop (suc i) (a ∷ b ∷ s) e =
+    let (x, p, r) = first-pair a b s e in
+    rw (suc-mul i 2, add-two, p) (pairs-drop i s r)
+
+-- the byte at a place is that of its two digits
+pub pair-at : (s : List ℕ) (i : ℕ) → i < length (pairs s) → pairOf (getD s (i * 2) 0) (getD s (i * 2 + 1) 0) ≡ Value (getD (pairs s) i 0)
+unfolding pairs
+pair-at [] i h = absurd (omega arith)
+pair-at (a ∷ []) i h = absurd (omega arith)
+pair-at (a ∷ b ∷ s) i h = by (pairOf a b) refl i h (pair-at s)
+  where
+    by : (d : Digit) → pairOf a b ≡ d → (i : ℕ) → i < length (before d (pairs s)) →
+        ((j : ℕ) → j < length (pairs s) → pairOf (getD s (j * 2) 0) (getD s (j * 2 + 1) 0) ≡ Value (getD (pairs s) j 0)) →
+        pairOf (getD (a ∷ b ∷ s) (i * 2) 0) (getD (a ∷ b ∷ s) (i * 2 + 1) 0) ≡ Value (getD (before d (pairs s)) i 0)
+    by Bad e i h ih = absurd (omega arith)
+    by (Value x) e zero h ih = e
+    by (Value x) e (suc i) h ih =
+        let k : suc i * 2 ≡ suc (suc (i * 2)) = omega arith in
+        let q : suc (suc (i * 2)) + 1 ≡ suc (suc (i * 2 + 1)) = omega arith in
+        rw (k, q) (ih i (omega arith))

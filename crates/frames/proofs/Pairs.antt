@@ -81,7 +81,7 @@ first-digit b s e =
     (v, p, r)
 
 -- two digits in front write a byte
-first-pair : (a b : ℕ) (s : List ℕ) → digitsOnly (a ∷ b ∷ s) ≡ true → (x : ℕ) × (pairOf a b ≡ Value x) × (digitsOnly s ≡ true)
+pub first-pair : (a b : ℕ) (s : List ℕ) → digitsOnly (a ∷ b ∷ s) ≡ true → (x : ℕ) × (pairOf a b ≡ Value x) × (digitsOnly s ≡ true)
 unfolding pairOf
 first-pair a b s e =
     let (h, p, r) = first-digit a (b ∷ s) e in

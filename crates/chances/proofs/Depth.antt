@@ -11,8 +11,8 @@ use Rattle.numbers.proofs.Figures.{proper}
 use Rattle.solas.specs.Penetration.{C, G1, G3}
 use Rattle.chances.specs.Penetration.{c, d, G1Ends, G3Ends}
 use Rattle.chances.specs.Layer.{layerOf}
-use Rattle.chances.proofs.Plain.{square, cube, as-plain}
-use Rattle.chances.proofs.Rounded.{ends-are}
+use Rattle.spans.proofs.Plain.{square, cube, as-plain}
+use Rattle.spans.proofs.Rounded.{ends-are}
 
 -- products of the breadth and a penetration, in order
 pub record Products (B b : ℕ) : Type 0 where

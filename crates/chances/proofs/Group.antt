@@ -11,12 +11,13 @@ use Rattle.solas.specs.Ship.{Ship}
 use Rattle.solas.specs.Count.{added, taken}
 use Rattle.chances.specs.declared.Layer.{Layer}
 use Rattle.chances.specs.declared.Sums.{Sums}
-use Rattle.chances.specs.Rounded.{plus, Probable}
+use Rattle.spans.specs.Rounded.{Probable}
+use Rattle.chances.specs.Figures.{plus}
 use Rattle.chances.specs.Penetration.{QEnds}
-use Rattle.chances.specs.Layer.{layerOf}
-use Rattle.chances.specs.Hull.{Hulled}
+use Rattle.chances.specs.Layer.{layerOf, Lent}
+use Rattle.spans.specs.Hull.{Hulled}
 use Rattle.chances.specs.Share.{withinEnds, low, high, sumsOf, Few, rowOf, rowEnds}
-use Rattle.chances.specs.Table.{tableOf, Lent}
+use Rattle.spans.specs.Table.{tableOf}
 
 -- ---- Q of a span, where b may be 0
 

@@ -12,12 +12,13 @@ use Rattle.records.specs.declared.Ends.{Ends}
 use Rattle.numbers.specs.Figures.{halvesOf, portionOf}
 use Rattle.numbers.proofs.Figures.{billionths-ordered, billionths-at-most, portion-ordered, portion-upper-at-most, halves-ordered, halves-upper-at-most}
 use Rattle.solas.specs.Span.{Touch, neither, one, both, touch, p, PAt, P}
-use Rattle.chances.specs.Rounded.{endsOf, plus, minus, Probable}
-use Rattle.chances.specs.Span.{pEnds, PEnds}
+use Rattle.spans.specs.Rounded.{endsOf, Probable}
+use Rattle.chances.specs.Figures.{plus, minus}
+use Rattle.spans.specs.Span.{pEnds, PEnds}
 use Rattle.chances.specs.Penetration.{c, d, G1Ends, G3Ends, partEnds, GEndsAt, GEnds, mixed, QEnds}
-use Rattle.chances.proofs.Rounded.{ends-are}
-use Rattle.chances.proofs.Bands.{ratio-of}
-use Rattle.chances.proofs.Span.{one-end-is, one-end-proper, whole-ends}
+use Rattle.spans.proofs.Rounded.{ends-are}
+use Rattle.spans.proofs.Bands.{ratio-of}
+use Rattle.spans.proofs.Span.{one-end-is, one-end-proper, whole-ends}
 use Rattle.chances.proofs.Depth.{products, C-at-most-one, G1-is, G1-proper, G3-is, G3-proper}
 
 -- ---- how figures are made

@@ -8,8 +8,9 @@ use Rattle.records.specs.declared.Ends.{Ends}
 use Rattle.numbers.specs.Figures.{halvesOf, portionOf}
 use Rattle.solas.specs.Span.{Touch, neither, one, both, touch}
 use Rattle.chances.specs.declared.Layer.{Layer}
-use Rattle.chances.specs.Rounded.{plus, minus, Probable}
-use Rattle.chances.specs.Span.{pEnds}
+use Rattle.spans.specs.Rounded.{Probable}
+use Rattle.chances.specs.Figures.{plus, minus}
+use Rattle.spans.specs.Span.{pEnds}
 use Rattle.chances.specs.Penetration.{G1Ends, G3Ends, partEnds, GEndsAt, GEnds}
 use Rattle.chances.specs.Layer.{layerOf, Reached}
 use Rattle.chances.proofs.Probable.{p-probable, G1-probable, part-probable}

@@ -12,8 +12,9 @@ use Rattle.solas.specs.Span.{touch, p, P}
 use Rattle.solas.specs.Penetration.{G1, G3}
 use Rattle.solas.specs.Ship.{Ship, abutting}
 use Rattle.solas.specs.Count.{added, taken}
-use Rattle.chances.specs.Rounded.{endsOf, plus, minus}
-use Rattle.chances.specs.Span.{pEnds, PEnds}
+use Rattle.spans.specs.Rounded.{endsOf}
+use Rattle.chances.specs.Figures.{plus, minus}
+use Rattle.spans.specs.Span.{pEnds, PEnds}
 use Rattle.chances.specs.Penetration.{G1Ends, G3Ends, partEnds, GEnds, c, d, mixed, QEnds}
 use Rattle.chances.specs.Share.{withinEnds, sumsOf, rowOf, rowEnds}
 

@@ -1,10 +1,14 @@
 -- What depends on a penetration alone, as it is kept for a layer. Assumes nothing.
 use Prim.Native.Nat.{ℕ, _-_, _*_, _≤_}
 use mathlib.Core.Path.{_≡_}
+use mathlib.Core.List.{List}
 use Rattle.records.specs.declared.Ends.{Ends}
+use Rattle.records.specs.declared.Hull.{Hull}
 use Rattle.numbers.specs.Figures.{halvesOf}
 use Rattle.chances.specs.declared.Layer.{Layer}
-use Rattle.chances.specs.Span.{pEnds}
+use Rattle.spans.specs.Span.{pEnds}
+use Rattle.spans.specs.Hull.{Hulled}
+use Rattle.spans.specs.Table.{tableOf}
 use Rattle.chances.specs.Penetration.{c, d, G1Ends, G3Ends}
 
 unfoldable pub layerOf : ℕ → ℕ → Layer
@@ -21,3 +25,10 @@ pub record Reached (L B aft fwd : ℕ) (p : Ends) (y : Layer) : Type 0 where
   pub deep : 2 * y .depth ≤ B
   pub inner : p ≡ pEnds L (fwd - aft)
   pub layer : y ≡ layerOf B (y .depth)
+
+-- the span table of a hull, and a layer of it down to at most half of its breadth
+pub record Lent (t : List ℕ) (h : Hull) (y : Layer) : Type 0 where
+  pub hull : Hulled h
+  pub table : t ≡ tableOf h
+  pub deep : 2 * y .depth ≤ h .breadth
+  pub layer : y ≡ layerOf (h .breadth) (y .depth)

@@ -7,8 +7,9 @@ use Rattle.records.specs.declared.Ends.{Ends}
 use Rattle.numbers.specs.Figures.{portionOf, halvesOf}
 use Rattle.solas.specs.Span.{Touch, neither, one, both, touch}
 use Rattle.solas.specs.Penetration.{G1, G3}
-use Rattle.chances.specs.Rounded.{endsOf, plus, minus}
-use Rattle.chances.specs.Span.{pEnds, PEnds}
+use Rattle.spans.specs.Rounded.{endsOf}
+use Rattle.chances.specs.Figures.{plus, minus}
+use Rattle.spans.specs.Span.{pEnds, PEnds}
 
 -- "G1, G3 and p go to billionths"
 unfoldable pub G1Ends : ℕ → ℕ → Ends

@@ -2,7 +2,7 @@
 use borrow.Author.Needs.{needs}
 use mathlib.Core.Path.{sym, _∙_}
 use native.Mathlib.Omega.{arith}
-use Rattle.chances.proofs.Span.{neither-touched, one-touched, both-touched}
+use Rattle.spans.proofs.Span.{neither-touched, one-touched, both-touched}
 use Rattle.chances.proofs.Reached.{g1-fits, p-fits, part-fits, g-of-ship, g-of-one-end, g-of-inner}
 use Rattle.chances.proofs.g_ends.Statement.{statement}
 use Rattle.chances.proofs.g_ends.Tie as tie

@@ -1,7 +1,7 @@
 -- `chances::less` meets its contract. Assumes nothing.
 use borrow.Author.Needs.{needs}
 use Rattle.numbers.proofs.Figures.{both}
-use Rattle.chances.specs.Rounded.{minus}
+use Rattle.chances.specs.Figures.{minus}
 use Rattle.chances.proofs.less.Statement.{statement}
 use Rattle.chances.proofs.less.Tie as tie
 

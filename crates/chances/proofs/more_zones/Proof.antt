@@ -1,7 +1,7 @@
 -- `chances::more_zones` meets its contract. Assumes nothing.
 use borrow.Author.Needs.{needs}
 use native.Mathlib.Omega.{arith}
-use Rattle.chances.specs.Hull.{shipOf}
+use Rattle.spans.specs.Hull.{shipOf}
 use Rattle.chances.proofs.Group.{more-zones-sums, few, two-of}
 use Rattle.chances.proofs.more_zones.Statement.{statement}
 use Rattle.chances.proofs.more_zones.Tie as tie

@@ -1,7 +1,7 @@
 -- `chances::one_zone` meets its contract. Assumes nothing.
 use borrow.Author.Needs.{needs}
 use native.Mathlib.Omega.{arith}
-use Rattle.chances.specs.Hull.{shipOf}
+use Rattle.spans.specs.Hull.{shipOf}
 use Rattle.chances.proofs.Group.{one-zone-sums, few}
 use Rattle.chances.proofs.one_zone.Statement.{statement}
 use Rattle.chances.proofs.one_zone.Tie as tie

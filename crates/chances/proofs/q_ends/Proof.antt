@@ -5,7 +5,7 @@ use native.Mathlib.Nat.{mul-le-mul}
 use native.Mathlib.Omega.{arith}
 use Rattle.records.specs.declared.Ends.{Ends}
 use Rattle.numbers.proofs.Figures.{both}
-use Rattle.chances.specs.Rounded.{Probable}
+use Rattle.spans.specs.Rounded.{Probable}
 use Rattle.chances.specs.Penetration.{mixed}
 use Rattle.chances.proofs.q_ends.Statement.{statement}
 use Rattle.chances.proofs.q_ends.Tie as tie

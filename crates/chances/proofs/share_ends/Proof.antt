@@ -1,7 +1,7 @@
 -- `chances::share_ends` meets its contract, from the sums at both layers. Assumes nothing.
 use borrow.Author.Needs.{needs}
 use native.Mathlib.Omega.{arith}
-use Rattle.chances.specs.Hull.{shipOf}
+use Rattle.spans.specs.Hull.{shipOf}
 use Rattle.chances.proofs.Group.{lent, sums-at, row-between}
 use Rattle.chances.proofs.share_ends.Statement.{statement}
 use Rattle.chances.proofs.share_ends.Tie as tie

@@ -1,7 +1,7 @@
 -- `chances::two_zones` meets its contract. Assumes nothing.
 use borrow.Author.Needs.{needs}
 use native.Mathlib.Omega.{arith}
-use Rattle.chances.specs.Hull.{shipOf}
+use Rattle.spans.specs.Hull.{shipOf}
 use Rattle.chances.proofs.Group.{two-zones-sums, few, two-of}
 use Rattle.chances.proofs.two_zones.Statement.{statement}
 use Rattle.chances.proofs.two_zones.Tie as tie

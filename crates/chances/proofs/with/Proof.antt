@@ -1,7 +1,7 @@
 -- `chances::with` meets its contract. Assumes nothing.
 use native.Mathlib.Omega.{arith}
 use mathlib.Core.Path.{refl}
-use Rattle.chances.specs.Rounded.{plus}
+use Rattle.chances.specs.Figures.{plus}
 use Rattle.chances.proofs.with.Statement.{statement}
 use Rattle.chances.proofs.with.Tie as tie
 

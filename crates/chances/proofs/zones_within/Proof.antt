@@ -1,7 +1,7 @@
 -- `chances::zones_within` meets its contract. Assumes nothing.
 use borrow.Author.Needs.{needs}
 use native.Mathlib.Omega.{arith}
-use Rattle.chances.specs.Hull.{shipOf}
+use Rattle.spans.specs.Hull.{shipOf}
 use Rattle.chances.proofs.Lent.{q-fits}
 use Rattle.chances.proofs.Group.{at-none, at-some}
 use Rattle.chances.proofs.zones_within.Statement.{statement}

@@ -1,0 +1,7 @@
+pub mod Bands
+mod Coefficient
+pub mod Enclosure
+pub mod Plain
+pub mod Rounded
+pub mod Span
+pub mod Table

@@ -1,6 +1,6 @@
 -- Bottom and top: they are what 01 says, one number each, by the value of s⁴ alone, at most one apart, and they enclose every survival. Assumes nothing.
 use Prim.Native.Nat.{ℕ, _+_, _*_, _/_, _^_, _≤_, _<_}
-use mathlib.Core.Path.{_≡_, sym}
+use mathlib.Core.Path.{_≡_}
 use native.Mathlib.Nat.{le-refl, le-antisymm, le-trans, le-of-lt, lt-of-not-le, le-of-mul-le-mul-right, mul-le-mul-left}
 use native.Mathlib.Omega.{arith}
 use lib.Dec.{lit<}
@@ -10,7 +10,6 @@ use Rattle.laws.proofs.Fraction.{is-over, is-whole, ≈-refl, ≈-sym, ⊛-≈,
 use Rattle.laws.proofs.Roots.{powers-ordered, root-below, root-above}
 use Rattle.numbers.proofs.Root.{down-of-fraction, up-of-fraction}
 use Rattle.numbers.proofs.RootValue.{down-root, up-root}
-use Rattle.records.specs.declared.Survival.{Survival}
 use Rattle.solas.proofs.Quotients.{below-across}
 use Rattle.survival.specs.Ratio.{ratioOf}
 use Rattle.survival.specs.Survival.{Factor, root, given, ends, Sensible, Bottom, Top, scaledOf, roundedOf}

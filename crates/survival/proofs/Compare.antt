@@ -40,6 +40,10 @@ is-ratio {f} h =
     parts : (u n v d : ℕ) → u ≡ n + v → u * d + 0 * d ≡ n * d + v * d
     parts u n v d e = omega (arith, ap (λ z. z * d) e)
 
+pub plain-not-negative : {f : Fraction} → f .down ≡ 0 → whole 0 ≼ f
+unfolding _less_over_
+plain-not-negative {f} e = record { cross = rw e (omega arith) }
+
 -- ---- multiples and fourth powers
 pub is-times : {f : Fraction} {n d : ℕ} (k : ℕ) → Is f n 0 d → Is (whole k ⊛ f) (k * n) 0 d
 is-times {f} {n} {d} k h = is-written (is-⊛ (is-whole k {d = 1} (lit< tt)) h) (omega arith) (omega arith) (omega arith)

@@ -1,24 +1,31 @@
 -- The ends enclose: what a row adds, the partial indices and A, for every list of survivals. Assumes nothing.
 use Prim.Native.Nat.{ℕ, _+_, _*_, _/_, _^_, _≤_, _<_}
-use mathlib.Core.List.{List, [], _∷_}
-use mathlib.Core.Path.{_≡_, refl}
+use mathlib.Core.List.{[], _∷_}
+use mathlib.Core.Path.{refl}
 use native.Mathlib.Nat.{mul-pos, le-of-mul-le-mul-right, mul-le-mul-right, div-mul-le-self}
 use native.Mathlib.Omega.{arith}
 use lib.Dec.{lit<}
 use Rattle.laws.specs.Fraction.{Fraction, den, _less_over_, _over_, whole, Is, _≈_, _≼_, _⊹_, _⊛_}
 use Rattle.laws.specs.Rounding.{ceil}
-use Rattle.laws.specs.Sums.{sumOf}
 use Rattle.laws.proofs.Fraction.{positive, is-over, is-self, is-nothing, is-⊹, is-⊛, same, ≼-of-≈, ≼-trans, ≈-sym, ⊹-≼}
 use Rattle.laws.proofs.Rounding.{ceil-lower}
+use Rattle.records.specs.declared.Ends.{Ends}
 use Rattle.solas.specs.Index.{attained}
 use Rattle.solas.proofs.Quotients.{is-written, below-across}
 use Rattle.survival.specs.Ratio.{ratioOf}
 use Rattle.survival.specs.Survival.{ends}
 use Rattle.survival.specs.Index.{scale, addsOf, attainedOf}
-use Rattle.survival.specs.Exact.{billionths, tenThousandths, RowAt, Sound, Every, NoneAbove, NoneBelow, weight, weightedSum, rowEnds, partialEnds}
+use Rattle.survival.specs.Exact.{billionths, tenThousandths, Holds, RowAt, Sound, weight, rowEnds, partialEnds}
 use Rattle.survival.specs.Promises.{NoMoreThanUpper, NoLessThanLower, AttainedNoMore, AttainedNoLess}
 use Rattle.survival.proofs.Compare.{across-below, ratio-positive, is-ratio, is-times, ⊛-rises, times-rises}
 use Rattle.survival.proofs.Bounds.{not-above-top, not-below-bottom}
+
+-- a share (a - b)/d that its ends enclose
+pub holds : (e : Ends) {share : Fraction} {a b d : ℕ} → 0 < d → Is share a b d → e .lower * d + b * 10 ^ 9 ≤ a * 10 ^ 9 → a * 10 ^ 9 ≤ e .upper * d + b * 10 ^ 9 → Holds e share
+holds e p h low high =
+    let lower = is-over (e .lower) {d = 10 ^ 9} (lit< tt) in
+    let upper = is-over (e .upper) {d = 10 ^ 9} (lit< tt) in
+    record { low = below-across lower h (lit< tt) p (omega arith); high = below-across h upper p (lit< tt) (omega arith) }
 
 -- ---- over numbers: a share (a - b)/d, a v, a survival n/e
 upper-crossed : (a b d hi v n e top u : ℕ) → a * 10 ^ 9 ≤ hi * d + b * 10 ^ 9 → n * 10 ^ 4 ≤ top * e → hi * v * top ≤ u * scale →

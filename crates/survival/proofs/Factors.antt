@@ -1,6 +1,6 @@
 -- Ten-thousandths of a fourth root: the long division before the root, and what bottom and top are in the words of 01. Assumes nothing.
 use Prim.Native.Nat.{ℕ, _+_, _-_, _*_, _/_, _%_, _^_, _≤_, _<_}
-use mathlib.Core.Path.{_≡_, refl, ap, sym, _∙_}
+use mathlib.Core.Path.{_≡_, ap, sym, _∙_}
 use native.Mathlib.Nat.{div-add-mod', mod-lt, mul-add-div-right, div-le-of-le-mul, mul-le-mul-left, le-of-lt}
 use native.Mathlib.Omega.{arith}
 use Rattle.laws.specs.Rounding.{ceil}
@@ -8,7 +8,7 @@ use Rattle.laws.proofs.Rounding.{ceil-least}
 use Rattle.numbers.specs.Root.{RootDown, RootUp}
 use Rattle.numbers.proofs.RootValue.{down-value, up-value}
 use Rattle.records.specs.declared.Survival.{Survival}
-use Rattle.survival.specs.Ratio.{ratioOf, Proper}
+use Rattle.survival.specs.Ratio.{Proper}
 use Rattle.survival.specs.Survival.{scaledOf, roundedOf}
 use Rattle.survival.specs.declared.Ratio.{Ratio}
 use Rattle.survival.specs.declared.finding.Multiple.{Multiple}

@@ -1,8 +1,8 @@
 -- Fractions and their numerators and denominators: products, s⁴ and its bounds. Assumes nothing.
-use Prim.Native.Nat.{ℕ, suc, _+_, _-_, _*_, _^_, _≤_, _<_, min}
+use Prim.Native.Nat.{ℕ, _+_, _-_, _*_, _^_, _≤_, _<_, min}
 use mathlib.Core.Bool.{Bool, true, false, cond}
 use mathlib.Core.Path.{_≡_, refl, ap, _∙_}
-use native.Mathlib.Nat.{le-dest, mul-pos, mul-le-mul, min-le-right}
+use native.Mathlib.Nat.{mul-pos, mul-le-mul, min-le-right}
 use native.Mathlib.Omega.{arith}
 use lib.Dec.{leb, lit<}
 use borrow.Author.Tests.{le-leb, lt-leb}
@@ -43,17 +43,17 @@ unfolding _⊛_ _less_over_
 product-plain f g p q = rw (p, q) (omega arith)
 
 -- ---- k of a heel
-pub k-upright : {e : ℕ} → e ≤ 2500 → ratioOf (k e) ≡ record { num = 1; den = 1 }
+pub k-upright : (e : ℕ) → e ≤ 2500 → ratioOf (k e) ≡ record { num = 1; den = 1 }
 unfolding k
-k-upright {e} h = rw (le-leb e 2500 h) (ratio-over 1 (lit< tt))
+k-upright e h = rw (le-leb e 2500 h) (ratio-over 1 (lit< tt))
 
-pub k-lost : {e : ℕ} → 2500 < e → 3000 ≤ e → ratioOf (k e) ≡ record { num = 0; den = 1 }
+pub k-lost : (e : ℕ) → 2500 < e → 3000 ≤ e → ratioOf (k e) ≡ record { num = 0; den = 1 }
 unfolding k
-k-lost {e} h l = rw (lt-leb e 2500 h, le-leb 3000 e l) (ratio-over 0 (lit< tt))
+k-lost e h l = rw (lt-leb e 2500 h, le-leb 3000 e l) (ratio-over 0 (lit< tt))
 
-pub k-heeled : {e : ℕ} → 2500 < e → e < 3000 → ratioOf (k e) ≡ record { num = (3000 - e) * (3000 - e); den = 250000 }
+pub k-heeled : (e : ℕ) → 2500 < e → e < 3000 → ratioOf (k e) ≡ record { num = (3000 - e) * (3000 - e); den = 250000 }
 unfolding k
-k-heeled {e} h l =
+k-heeled e h l =
     let part = (3000 - e) over 500 in
     let one : ratioOf part ≡ record { num = 3000 - e; den = 500 } = ratio-over (3000 - e) (lit< tt) in
     rw (lt-leb e 2500 h, lt-leb 3000 e l) (ratio-product part part (over-plain (3000 - e) 500) (over-plain (3000 - e) 500) ∙ ap (λ r. product r r) one)
@@ -61,8 +61,8 @@ k-heeled {e} h l =
 -- what holds of each of the three holds of k
 k-cases : (P : ℕ → ℕ → Type 0) (e : ℕ) → P 1 1 → P 0 1 → (2500 < e → e < 3000 → P ((3000 - e) * (3000 - e)) 250000) → P (ratioOf (k e) .num) (ratioOf (k e) .den)
 k-cases P e upright lost heeled =
-    split e 2500 (λ h. rw (k-upright h) upright)
-    (λ h. split 3000 e (λ l. rw (k-lost h l) lost) (λ l. rw (k-heeled h l) (heeled h l)))
+    split e 2500 (λ h. rw (k-upright e h) upright)
+    (λ h. split 3000 e (λ l. rw (k-lost e h l) lost) (λ l. rw (k-heeled e h l) (heeled h l)))
 
 pub k-plain : (e : ℕ) → k e .down ≡ 0
 unfolding k

@@ -2,7 +2,6 @@
 use Prim.Native.Nat.{ℕ, _*_, _^_}
 use mathlib.Core.Bool.{Bool, true, false, cond, not, _&&_}
 use mathlib.Core.List.{List}
-use mathlib.Core.Logic.{_↔_, _⊎_, inl, inr, ⊎-elim}
 use mathlib.Core.Path.{_≡_, refl}
 use native.Mathlib.Omega.{arith}
 use lib.Dec.{leb, lit<}
@@ -14,10 +13,10 @@ use Rattle.records.specs.declared.Ends.{Ends}
 use Rattle.records.specs.declared.Trio.{Trio}
 use Rattle.solas.proofs.Quotients.{below-across, strictly-below-across}
 use Rattle.survival.specs.Ratio.{ratioOf}
-use Rattle.survival.specs.Index.{at, attainedOf}
+use Rattle.survival.specs.Index.{attainedOf}
 use Rattle.survival.specs.Verdict.{reaches, allReach, verdictOf}
-use Rattle.survival.specs.Exact.{billionths, RowAt, Thrice, partialEnds, partialsOf}
-use Rattle.survival.specs.Promises.{AllFour, OneOfFour, attained, atDeepest, atPartial, atLight, Meets, Fails, ByEnds, VerdictByEnds, verdictOn, ReachAll, MeetsIsRight, OneShort, FailsIsRight}
+use Rattle.survival.specs.Exact.{billionths, partialsOf}
+use Rattle.survival.specs.Promises.{AllFour, OneOfFour, attained, atDeepest, atPartial, atLight, Meets, Fails, ByEnds, VerdictByEnds, MeetsIsRight, OneShort, FailsIsRight}
 use Rattle.survival.proofs.Compare.{across-below, across-strictly-below, ratio-positive, is-ratio, below-then-strictly}
 use Rattle.survival.proofs.Enclosure.{no-more-than-upper, no-less-than-lower, attained-no-more, attained-no-less}
 

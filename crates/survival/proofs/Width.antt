@@ -1,7 +1,7 @@
 -- How wide the ends are: of what a row adds, of a partial index and of A. Assumes nothing.
 use Prim.Native.Nat.{ℕ, zero, suc, _+_, _*_, _^_, _≤_}
 use mathlib.Core.List.{List, [], _∷_}
-use native.Mathlib.Nat.{le-of-mul-le-mul-right, mul-le-mul, mul-le-mul-left, mul-le-mul-right}
+use native.Mathlib.Nat.{le-trans, div-mul-le-self, le-of-mul-le-mul-right, mul-le-mul, mul-le-mul-left, mul-le-mul-right}
 use native.Mathlib.Omega.{arith}
 use lib.Dec.{lit<}
 use lib.ListN.{length}
@@ -13,8 +13,8 @@ use Rattle.records.specs.declared.Trio.{Trio}
 use Rattle.survival.specs.Survival.{ends}
 use Rattle.survival.specs.Index.{scale, at, addsOf, attainedOf}
 use Rattle.survival.specs.Exact.{RowAt, Close, Every, rowEnds, partialEnds, partialsOf}
-use Rattle.survival.specs.Promises.{AtMostOne, PartialWidth, AttainedWidth}
-use Rattle.survival.proofs.Bounds.{ends-near, ends-at-most}
+use Rattle.survival.specs.Promises.{AtMostOne, PartialWidth, PartialAtMost, AttainedWidth}
+use Rattle.survival.proofs.Bounds.{ends-near, ends-ordered, ends-at-most}
 
 -- ---- what a row adds: the two roundings come to less than two
 pub adds-width : (share : Ends) (v : ℕ) (s : Survival) →
@@ -48,6 +48,21 @@ pub partial-width : PartialWidth
 partial-width w rs h k =
     le-of-mul-le-mul-right {m = partialEnds rs .upper} {n = partialEnds rs .lower + (100000 + (w + 2) * length rs)} {k = scale}
     (omega (arith, rows-width w rs h)) (lit< tt)
+
+-- the lower end is at most one: what the row's share and v come to
+rows-lower : (w : ℕ) (rs : List RowAt) → Every (Close w) rs → partialEnds rs .lower * scale ≤ 10 ^ 4 * sumOf (λ r. r .shareEnds .lower * r .v) rs
+unfolding addsOf
+rows-lower w [] h = omega arith
+rows-lower w (r ∷ rs) h =
+    let s = ends (r .factor) in
+    let p = h .0 .factor in
+    let bottom : s .bottom ≤ 10 ^ 4 = le-trans (ends-ordered (r .factor) p) (ends-at-most (r .factor) p) in
+    omega (arith, rows-lower w rs (h .1), div-mul-le-self (r .shareEnds .lower * r .v * s .bottom) scale, mul-le-mul-left (r .shareEnds .lower * r .v) bottom)
+
+pub partial-at-most : PartialAtMost
+partial-at-most w rs h k =
+    let low : partialEnds rs .lower ≤ 10 ^ 9 = le-of-mul-le-mul-right {k = scale} (omega (arith, rows-lower w rs h)) (lit< tt) in
+    (low, omega (arith, partial-width w rs h k))
 
 -- ---- A: at most one further apart than the partial indices are
 pub weighed-width : (k : ℕ) (t : Trio) → ((i : ℕ) → at t i .upper ≤ at t i .lower + k) → attainedOf t .upper ≤ attainedOf t .lower + (k + 1)

@@ -2,7 +2,7 @@
 use Prim.Native.Nat.{ℕ, _+_, _*_, _^_, _≤_}
 use mathlib.Core.Path.{_≡_}
 use mathlib.Core.List.{List, map}
-use mathlib.Core.Logic.{_↔_, _⊎_}
+use mathlib.Core.Logic.{_↔_}
 use lib.ListN.{length}
 use Rattle.laws.specs.Fraction.{Fraction, whole, _≼_, _≺_}
 use Rattle.laws.specs.Sums.{sumOf}
@@ -42,6 +42,10 @@ AtMostOne rs = sumOf (λ r. r .shareEnds .lower * r .v) rs ≤ 10 ^ 9 * 916500
 
 abbrev pub PartialWidth : Type 0
 PartialWidth = (w : ℕ) (rs : List RowAt) → Every (Close w) rs → AtMostOne rs → partialEnds rs .upper ≤ partialEnds rs .lower + (100000 + (w + 2) * length rs)
+
+-- so no end is much above one: four bytes hold it
+abbrev pub PartialAtMost : Type 0
+PartialAtMost = (w : ℕ) (rs : List RowAt) → Every (Close w) rs → AtMostOne rs → (partialEnds rs .lower ≤ 10 ^ 9) × (partialEnds rs .upper ≤ 10 ^ 9 + (100000 + (w + 2) * length rs))
 
 -- A's are at most one further apart
 abbrev pub AttainedWidth : Type 0

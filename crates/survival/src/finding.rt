@@ -11,6 +11,20 @@ ghost use Rattle.solas.specs.Survival.{k, s⁴};
 ghost use Rattle.survival.specs.Ratio.{Proper, ratioOf};
 ghost use Rattle.survival.specs.Survival.{scaledOf, roundedOf, survivalOf, survivalsOf};
 
+// The caps of lever (mm) and range (hundredths of a degree), and the heels between which survival falls to nothing.
+const LEVER: u64 = 120;
+
+const RANGE: u64 = 1_600;
+
+const UPRIGHT: u64 = 2_500;
+
+const LOST: u64 = 3_000;
+
+// What s⁴ is divided by: both caps, and the square of that fall.
+const CAPS: u64 = LEVER * RANGE;
+
+const FALL: u64 = (LOST - UPRIGHT) * (LOST - UPRIGHT);
+
 // 10¹⁶ in two steps of the long division.
 const STEP: u64 = 100_000_000;
 
@@ -30,29 +44,29 @@ fn lesser(a: u64, b: u64) -> u64
 fn heel_factor(heel: u64) -> Ratio
     ensures { λ r. ⌜ r ≡ ratioOf (k heel) ⌝ }
 {
-    if heel <= 2_500 {
+    if heel <= UPRIGHT {
         return Ratio { num: 1, den: 1 };
     }
-    if heel >= 3_000 {
+    if heel >= LOST {
         return Ratio { num: 0, den: 1 };
     }
-    let left = 3_000 - heel;
+    let left = LOST - heel;
     Ratio {
         num: left * left,
-        den: 250_000,
+        den: FALL,
     }
 }
 
-// s⁴ of what was found: the lever capped at 120 mm, the range at 16 degrees.
+// s⁴ of what was found.
 fn fourth(f: Finding) -> Ratio
     ensures { λ r. ⌜ r ≡ ratioOf (s⁴ (f .lever) (f .range) (f .heel)) ⌝ }
 {
-    let lever = lesser(f.lever, 120);
-    let range = lesser(f.range, 1_600);
+    let lever = lesser(f.lever, LEVER);
+    let range = lesser(f.range, RANGE);
     let heel = heel_factor(f.heel);
     Ratio {
         num: lever * range * heel.num,
-        den: 192_000 * heel.den,
+        den: CAPS * heel.den,
     }
 }
 

@@ -13,7 +13,7 @@ ghost use Rattle.survival.specs.Survival.{survivalsOf};
 ghost use Rattle.survival.specs.Index.{Share, Weights, RowWeights, Given, Small, Within, addsOf, rowAdds, sums, plus, weighed, attainedOf};
 
 // 916,500ths times ten-thousandths.
-const SCALE: u64 = 9_165_000_000;
+const SCALE: u64 = 916_500 * 10_000;
 
 // Share times v times s, which are each at most one.
 fn product(share: u64, v: u64, s: u64) -> u64

@@ -13,16 +13,16 @@ add-t6 : tie.Need-add-t6
 add-t6 c = search needs
 
 returns : tie.Need-returns
-returns c = sym (required-long (c .if1 .taken))
+returns c = sym (required-long (c .before .args .length) (omega arith))
 
 mul-num : tie.Need-mul-num
-mul-num c = omega (arith, short-square (c .if1 .left))
+mul-num c = omega (arith, short-square (c .before .args .length) (omega arith))
 
 add-den : tie.Need-add-den
-add-den c = omega (arith, short-square (c .if1 .left))
+add-den c = omega (arith, short-square (c .before .args .length) (omega arith))
 
 returns-2 : tie.Need-returns-2
-returns-2 c = sym (required-short (c .if1 .left))
+returns-2 c = sym (required-short (c .before .args .length) (omega arith))
 
 pub required-spec : {M : Type 1} → statement M
 required-spec = tie.close (tie.spec add-more add-t6 returns mul-num add-den returns-2)

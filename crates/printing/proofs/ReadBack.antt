@@ -1,7 +1,7 @@
 -- What is printed can be read back: line by line, frame by frame, figure by figure. Assumes nothing.
 use Prim.Native.Nat.{ℕ, zero, suc, _*_, _<_}
 use mathlib.Core.Path.{_≡_, refl, sym, _∙_, ap, ap₂}
-use mathlib.Core.Bool.{Bool, true, false, cond}
+use mathlib.Core.Bool.{Bool, true, false}
 use mathlib.Core.List.{List, [], _∷_, _++_, map, append-assoc, append-nil}
 use native.Mathlib.Omega.{arith}
 use lib.Dec.{eqb, lit<}
@@ -129,12 +129,11 @@ figures-whole a shares p =
 
 pub reads-back : ReadsBack
 unfolding printed toldBy
-reads-back a shares p = by (eqb (a .number) 0)
+reads-back a shares p = by (eqb (a .number) 0) refl
   where
-    by : (t : Bool) → readBack (cond t (lineOf (figuresFrame a) ++ shareLines shares) (lineOf (refusalFrame (a .number) (a .line)))) ≡
-        cond t (figures (a .verdict) (endsOf a) shares) (refusal (a .number) (a .line))
-    by true = figures-whole a shares p
-    by false = refusal-whole a (p .number-fits) (p .line-fits)
+    by : (t : Bool) → eqb (a .number) 0 ≡ t → readBack (printed a shares) ≡ toldBy a shares
+    by true q = rw q (figures-whole a shares p)
+    by false q = rw q (refusal-whole a (p .number-fits) (p .line-fits))
 
 -- two answers that print alike tell the same
 pub one-text-one-answer : (a b : Answer) (s t : List ℕ) → Printable a s → Printable b t → printed a s ≡ printed b t → toldBy a s ≡ toldBy b t

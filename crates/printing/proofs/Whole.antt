@@ -1,7 +1,7 @@
 -- The whole printed answer: how long it is, whether it can be written, and what the buffer holds then. Assumes nothing.
 use Prim.Native.Nat.{ℕ, _+_, _*_, _≤_, _<_}
 use mathlib.Core.Path.{_≡_, refl, sym, _∙_, ap}
-use mathlib.Core.Bool.{Bool, true, false, cond}
+use mathlib.Core.Bool.{Bool, true, false}
 use mathlib.Core.List.{List, _++_}
 use native.Mathlib.Omega.{arith}
 use lib.Dec.{leb, eqb}
@@ -19,11 +19,11 @@ use Rattle.printing.proofs.Shares.{length-shares}
 
 pub length-printed : (a : Answer) (shares : List ℕ) → length shares ≡ 2 * a .rows → length (printed a shares) ≡ printedLength a
 unfolding printed printedLength
-length-printed a shares e = by (eqb (a .number) 0)
+length-printed a shares e = by (eqb (a .number) 0) refl
   where
-    by : (t : Bool) → length (cond t (lineOf (figuresFrame a) ++ shareLines shares) (lineOf (refusalFrame (a .number) (a .line)))) ≡ cond t (69 + 19 * a .rows) 9
-    by true = rw length-append (omega (arith, length-line (figuresFrame a), length-figures a, length-shares (a .rows) shares e))
-    by false = omega (arith, length-line (refusalFrame (a .number) (a .line)), length-refusal (a .number) (a .line))
+    by : (t : Bool) → eqb (a .number) 0 ≡ t → length (printed a shares) ≡ printedLength a
+    by true q = rw (q, length-append) (omega (arith, length-line (figuresFrame a), length-figures a, length-shares (a .rows) shares e))
+    by false q = rw q (omega (arith, length-line (refusalFrame (a .number) (a .line)), length-refusal (a .number) (a .line)))
 
 pub length-of-figures : (a : Answer) → a .number ≡ 0 → printedLength a ≡ 69 + 19 * a .rows
 unfolding printedLength

@@ -90,7 +90,7 @@ module _ (h : Hull) (p : Progress) (count n : ℕ) (k : ℕ) (e : count ≡ n) (
 
 -- ---- a frame by its bytes, of kind k and with n of them
 
-or-true : (t : Bool) → (t || true) ≡ true
+pub or-true : (t : Bool) → (t || true) ≡ true
 or-true true = refl
 or-true false = refl
 
@@ -122,7 +122,7 @@ module _ (bs : List ℕ) (k : ℕ) (e : k ≡ kindOf bs) where
     right-end f = rw (← e, eq-eqb (length bs) (frameLength k) n, f) refl
 
     -- the fields after the kind byte, as the part that the code takes
-    abbrev part : List ℕ
+    abbrev pub part : List ℕ
     part = take (length bs - 1) (drop 1 bs)
 
     -- three results go in after a, n, b and H
@@ -145,6 +145,18 @@ module _ (bs : List ℕ) (k : ℕ) (e : k ≡ kindOf bs) where
       pub frame-end : k ≡ 15 → r ≡ endJudged h p (wordAt part 0) → r ≡ frameJudged h p bs
       unfolding frameJudged
       frame-end f g = g ∙ rw (right-end f, rest-of bs 1, ← e, f) refl
+
+longest-frame : (k : ℕ) → frameLength k ≤ 25
+unfolding frameLength
+longest-frame k = by (eqb k 2) (eqb k 3)
+  where
+    by : (t u : Bool) → cond t 25 (cond u 13 3) ≤ 25
+    by true u = omega arith
+    by false true = omega arith
+    by false false = omega arith
+
+pub frame-too-long : (bs : List ℕ) → 25 < length bs → wrongFrame bs ≡ true
+frame-too-long bs l = wrong-length bs (kindOf bs) refl (λ f. omega (arith, longest-frame (kindOf bs)))
 
 pub frame-wrong : (h : Hull) (p : Progress) (bs : List ℕ) → wrongFrame bs ≡ true → Frame.Wrong 3 ≡ frameJudged h p bs
 unfolding frameJudged
@@ -181,15 +193,6 @@ module _ (h : Hull) (p : Progress) (l : Line) where
 
 -- ---- a line by its text, as the code decodes it
 
-longest-frame : (k : ℕ) → frameLength k ≤ 25
-unfolding frameLength
-longest-frame k = by (eqb k 2) (eqb k 3)
-  where
-    by : (t u : Bool) → cond t 25 (cond u 13 3) ≤ 25
-    by true u = omega arith
-    by false true = omega arith
-    by false false = omega arith
-
 module _ (h : Hull) (p : Progress) (text : List ℕ) (going : p .ended ≡ false) where
   pub line-not-closed : Frame.Wrong 2 ≡ judged h p (record { text = text; closed = false })
   line-not-closed = line-badly h p _ going (unfold badlyWritten in or-true (not (proper text)))
@@ -204,7 +207,7 @@ module _ (h : Hull) (p : Progress) (text : List ℕ) (going : p .ended ≡ false
 
     pub line-too-long : 25 < n → Frame.Wrong 3 ≡ judged h p (record { text = text; closed = true })
     line-too-long l =
-        frame-wrong h p (pairs text) (wrong-length (pairs text) _ refl (λ f. omega (arith, well-written text n w .1, longest-frame (kindOf (pairs text)))))
+        frame-wrong h p (pairs text) (frame-too-long (pairs text) (omega (arith, well-written text n w .1)))
         ∙ line-by-frame h p (record { text = text; closed = true }) going well
 
     pub line-decoded : (bs : List ℕ) (r : Frame) → bs ≡ pairs text → r ≡ frameJudged h p bs → r ≡ judged h p (record { text = text; closed = true })

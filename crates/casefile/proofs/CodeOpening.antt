@@ -1,7 +1,7 @@
 -- Line 1, step by step as the code goes: a hull's number, the record from a buffer that is longer than the line or shorter, the line. Assumes nothing.
 use Prim.Native.Nat.{ℕ, _+_, _-_, _*_, _≤_, _<_}
 use mathlib.Core.Path.{_≡_, refl, sym, _∙_, ap}
-use mathlib.Core.Bool.{Bool, true, false, not, _&&_, _||_}
+use mathlib.Core.Bool.{true, false, not, _&&_}
 use mathlib.Core.List.{List}
 use native.Mathlib.Omega.{arith}
 use lib.Dec.{leb, eqb}
@@ -25,6 +25,7 @@ use Rattle.casefile.specs.Reading.{refused}
 use Rattle.casefile.specs.Answer.{judgementOf}
 use Rattle.casefile.specs.Judging.{hullNumber, hullGiven, hullJudged, firstJudged}
 use Rattle.casefile.proofs.Checks.{first-passed}
+use Rattle.casefile.proofs.CodeJudging.{or-true}
 
 -- ---- the number of a hull
 
@@ -107,10 +108,6 @@ module _ (bs out : List ℕ) (e : out ≡ sets (replicate 50 0) 0 bs) where
       (λ i h. getD-drop 1 out i 0 ∙ rw e (byte-stored 50 (1 + i) bs (omega arith)) ∙ sym (getD-drop 1 bs i 0)))
 
 -- ---- the line
-
-or-true : (t : Bool) → (t || true) ≡ true
-or-true true = refl
-or-true false = refl
 
 module _ (l : Line) where
   badly : badlyWritten l ≡ true → judgementOf (refused 2 1) ≡ firstJudged l

@@ -1,3 +1,4 @@
+pub mod CodeWalking
 pub mod CodeRunning
 pub mod CodeOpening
 pub mod CodeJudging

@@ -12,3 +12,4 @@ pub mod Refusal
 pub mod Judging
 pub mod Walk
 pub mod Groups
+pub mod Placing

@@ -7,7 +7,7 @@ pub mod CodeReaders
 pub mod Examples
 pub mod Checks
 pub mod Steps
-pub mod Judging
+pub mod Judged
 pub mod Limits
 pub mod Order
 pub mod Words

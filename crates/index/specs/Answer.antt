@@ -6,6 +6,7 @@ use lib.ListN.{length, drop}
 use lib.Dec.{ltb}
 use Rattle.records.specs.declared.Answer.{Answer}
 use Rattle.records.specs.declared.Ends.{Ends}
+use Rattle.records.specs.declared.Hull.{Hull}
 use Rattle.records.specs.declared.Trio.{Trio}
 use Rattle.solas.specs.Index.{R, partialMark}
 use Rattle.survival.specs.Ratio.{ratioOf}
@@ -13,6 +14,7 @@ use Rattle.survival.specs.Index.{partials, attainedOf}
 use Rattle.survival.specs.Verdict.{verdictOf}
 use Rattle.casefile.specs.Record.{Case}
 use Rattle.casefile.specs.Reading.{Reading, refused, accepted}
+use Rattle.casefile.specs.Walk.{afterHull, rowsFrom}
 use Rattle.index.specs.Standing.{nowhere}
 use Rattle.index.specs.Work.{sharesFrom, addsFrom}
 
@@ -22,17 +24,20 @@ use Rattle.index.specs.Work.{sharesFrom, addsFrom}
 unfoldable pub partialsOf : Case → Trio
 partialsOf c = partials (addsFrom (c .hull) nowhere (c .rows))
 
-unfoldable pub answer : Case → Answer
-answer c =
-    let ps = partialsOf c in
+-- A, the verdict, and the partial indices that they come from, for a ship of so many centimetres and so many rows
+unfoldable pub figures : ℕ → ℕ → Trio → Answer
+figures size rows ps =
     record {
       number = 0;
       line = 0;
-      verdict = verdictOf (attainedOf ps) ps (ratioOf (R (c .hull .length))) (ratioOf (partialMark (c .hull .length)));
-      rows = length (c .rows);
+      verdict = verdictOf (attainedOf ps) ps (ratioOf (R size)) (ratioOf (partialMark size));
+      rows = rows;
       attained = attainedOf ps;
       partials = ps;
     }
+
+unfoldable pub answer : Case → Answer
+answer c = figures (c .hull .length) (length (c .rows)) (partialsOf c)
 
 -- "each row's share, lower then upper, in row order"
 abbrev pub numbers : List Ends → List ℕ
@@ -41,6 +46,10 @@ numbers (e ∷ es) = e .lower ∷ e .upper ∷ numbers es
 
 unfoldable pub shares : Case → List ℕ
 shares c = numbers (sharesFrom (c .hull) nowhere (c .rows))
+
+-- the case of a file whose hull and row count are known
+abbrev pub caseIn : List ℕ → Hull → ℕ → Case
+caseIn f h rows = record { hull = h; rows = rowsFrom rows f (afterHull f) }
 
 -- ---- any input, and a sheet of so many numbers
 

@@ -1,16 +1,10 @@
 -- Where a row stands in its group: document 01, "Shares" and "Height and survival", the layer before it and the row below it. Assumes nothing.
-use Prim.Native.Nat.{ℕ}
 use mathlib.Core.Bool.{cond}
 use mathlib.Core.List.{List, [], _∷_}
 use Rattle.records.specs.declared.RowHead.{RowHead}
 use Rattle.casefile.specs.Record.{Row}
 use Rattle.casefile.specs.Order.{sameGroup, sameLayer}
-
--- a row's head, the penetration of the layer before its own (0 in the group's first), the height of the row below it (0 in the layer's first)
-pub record Standing : Type 0 where
-  pub head : RowHead
-  pub before : ℕ
-  pub below : ℕ
+use Rattle.index.specs.declared.Standing.{Standing}
 
 -- before the first row: kind 0
 abbrev pub nowhere : Standing

@@ -1,18 +1,18 @@
 -- What each row of a case comes to: its share's ends, and what it adds at the three draughts. Assumes nothing.
-use Prim.Native.Nat.{ℕ}
 use mathlib.Core.List.{List, [], _∷_}
 use Rattle.records.specs.declared.Hull.{Hull}
 use Rattle.records.specs.declared.Ends.{Ends}
 use Rattle.records.specs.declared.Finding.{Finding}
 use Rattle.records.specs.declared.Trio.{Trio}
 use Rattle.solas.specs.Index.{draughts}
-use Rattle.chances.specs.Hull.{shipOf}
+use Rattle.spans.specs.Hull.{shipOf}
 use Rattle.chances.specs.Share.{rowEnds}
 use Rattle.survival.specs.Height.{rowVs}
 use Rattle.survival.specs.Survival.{survivalsOf}
 use Rattle.survival.specs.Index.{rowAdds}
 use Rattle.casefile.specs.Record.{Row}
-use Rattle.index.specs.Standing.{Standing, stands}
+use Rattle.index.specs.declared.Standing.{Standing}
+use Rattle.index.specs.Standing.{stands}
 
 -- the share of the layer in which a row stands
 unfoldable pub shareAt : Hull → Standing → Ends

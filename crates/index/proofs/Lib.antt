@@ -1,0 +1,4 @@
+pub mod Stands
+pub mod ValidCase
+pub mod Entering
+pub mod InTurn

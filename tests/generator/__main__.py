@@ -7,8 +7,6 @@ from pathlib import Path
 HERE = Path(__file__).resolve().parent
 sys.path.insert(0, str(HERE.parent))
 
-from generator import corpus, search, slips  # noqa: E402
-
 
 def main():
     parser = argparse.ArgumentParser(prog="python3 tests/generator", description=__doc__)
@@ -19,13 +17,17 @@ def main():
     todo.add_argument("--search", action="store_true", help="run the searches again and write found.py")
     wanted = parser.parse_args()
     if wanted.search:
+        from generator import search
         search.write(HERE / "found.py")
         return 0
-    if wanted.slips:
-        return slips.report(corpus.all_cases())
     if wanted.broken:
+        from generator import slips
         sys.stdout.buffer.write(slips.broken(wanted.broken, sys.stdin.buffer.read()))
         return 0
+    from generator import corpus
+    if wanted.slips:
+        from generator import slips
+        return slips.report(corpus.all_cases())
     try:
         if not wanted.check:
             print(corpus.write())

@@ -2,10 +2,9 @@
 
 from pathlib import Path
 
-from . import bands, damaged, following, hulls, limits, pairs, refusals, sheets, survivals, touching, verdicts, widths
 from .expecting import expected, refusal_line
+from .topics import TOPICS
 
-TOPICS = (limits, refusals, pairs, following, sheets, hulls, bands, touching, widths, survivals, verdicts, damaged)
 CASES = Path(__file__).resolve().parent.parent / "cases"
 INDEX = "index.tsv"
 
@@ -109,16 +108,24 @@ def check():
     differences = ["missing: " + name for name in sorted(set(files) - set(there))]
     differences += ["not made: " + name for name in sorted(set(there) - set(files))]
     differences += ["differs: " + name for name in sorted(files) if name in there and there[name] != files[name]]
+    told = (CASES / "README.md").read_text(encoding="utf-8")
+    figures = ["| %s | %d |" % one for one in counts(files).items()] + ["%d case files" % sum(counts(files).values())]
+    differences += ["README.md does not say: " + words for words in figures if words not in told]
     agreeing = sum(name in there and there[name] == files[name] for name in files)
     return differences, summary(files), agreeing
 
 
-def summary(files):
-    counts = {}
+def counts(files):
+    """How many cases each topic has."""
+    found = {}
     for name in files:
         if name.endswith(".case"):
             topic = name.partition("/")[0]
-            counts[topic] = counts.get(topic, 0) + 1
-    words = ["%-10s %4d" % (topic, count) for topic, count in counts.items()]
-    words.append("%d cases, %d bytes in all" % (sum(counts.values()), sum(map(len, files.values()))))
+            found[topic] = found.get(topic, 0) + 1
+    return found
+
+
+def summary(files):
+    words = ["%-10s %4d" % one for one in counts(files).items()]
+    words.append("%d cases, %d bytes in all" % (sum(counts(files).values()), sum(map(len, files.values()))))
     return "\n".join(words)

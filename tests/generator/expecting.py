@@ -21,6 +21,6 @@ def expected(data, sheet=None, judging=Judging, figures=Figures):
         hull, rows = judging().read(data)
     except Refused as refused:
         return refusal_line(refused.number, refused.line)
-    if sheet is not None and sheet < 2 * len(rows):
+    if sheet is not None and judging().short_sheet(sheet, len(rows)):
         return refusal_line(11, 0)
     return answer_lines(*figures(hull, rows).answer())

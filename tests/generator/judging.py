@@ -74,6 +74,10 @@ class Judging:
             raise Refused(*self.without_end(hull, rows, len(lines)))
         return hull, rows
 
+    def short_sheet(self, sheet, rows):
+        """Refusal 11, which is judged after every line."""
+        return sheet < 2 * rows
+
     def lines(self, data):
         parts = data.split(b"\n")
         tail = [(parts[-1], False)] if parts[-1] else []

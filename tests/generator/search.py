@@ -1,4 +1,4 @@
-"""The searches whose results stand in found.py: python3 tests/generator --search prints them anew, within a few minutes."""
+"""The searches whose results stand in found.py: python3 tests/generator --search writes it anew, in about a minute."""
 
 from pprint import pformat
 

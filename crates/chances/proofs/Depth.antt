@@ -1,7 +1,7 @@
 -- C, G1 and G3 of a penetration that is at most half of the breadth: not negative, not above one, and small enough for 64 bits. Assumes nothing.
 use mathlib.Core.Path.{_≡_, sym, _∙_}
 use Prim.Native.Nat.{ℕ, _+_, _-_, _*_, _^_, _≤_, _<_}
-use native.Mathlib.Nat.{mul-le-mul, mul-le-mul-left, mul-le-mul-right, mul-pos, le-dest}
+use native.Mathlib.Nat.{mul-le-mul, mul-le-mul-left, mul-le-mul-right, mul-pos}
 use native.Mathlib.Omega.{arith}
 use Rattle.laws.specs.Fraction.{Is, _less_over_}
 use Rattle.laws.proofs.Fraction.{is-less-over}
@@ -11,7 +11,10 @@ use Rattle.numbers.proofs.Figures.{proper}
 use Rattle.solas.specs.Penetration.{C, G1, G3}
 use Rattle.chances.specs.Penetration.{c, d, G1Ends, G3Ends}
 use Rattle.chances.specs.Layer.{layerOf}
-use Rattle.spans.proofs.Plain.{square, cube, as-plain}
+use Rattle.solas.proofs.Quotients.{pow-two}
+use Rattle.solas.proofs.Recast.{is-rewritten}
+use Rattle.solas.proofs.Depth.{C-is, c-at-most, c-one}
+use Rattle.spans.proofs.Powers.{cube}
 use Rattle.spans.proofs.Rounded.{ends-are}
 
 -- products of the breadth and a penetration, in order
@@ -40,25 +43,27 @@ products B b h =
       some′ = mul-pos (mul-pos (h .0) (h .0)) (h .0);
     }
 
-c-below : (B b : ℕ) → 2 * b ≤ B → 16 * b * B ≤ 5 * (B * B) + 12 * (b * b)
-c-below B b h = let (k, e) = le-dest h in rw (← e) (omega arith)
-
 module _ (B b : ℕ) (h : (1 ≤ B) × (B ≤ 6000) × (2 * b ≤ B)) where
-  pub C-is : Is (C B b) (c B b) 0 (d B)
-  unfolding C c d
-  C-is = let q = products B b h in rw (square b, square B) (as-plain _ _ (omega arith) (omega arith) (is-less-over (16 * b * B) (12 * (b * b)) (omega arith)))
+  pub C-over : Is (C B b) (c B b) 0 (d B)
+  unfolding c d
+  C-over = C-is B b (h .0) (h .2)
 
   pub C-at-most-one : (0 < d B) × (c B b ≤ d B)
   unfolding c d
-  C-at-most-one = let q = products B b h in rw (square b, square B) (omega arith, omega (arith, c-below B b (h .2)))
+  C-at-most-one = let q = products B b h in (rw (pow-two B) (omega arith), c-at-most B b (h .2))
+
+  -- at half of the breadth, C is one
+  pub C-whole : 2 * b ≡ B → c B b ≡ d B
+  unfolding c d
+  C-whole e = c-one B b e
 
   pub G1-is : Is (G1 B b) (5500 * b * B - 1089 * b * b) 0 (7500 * B * B)
   unfolding G1
-  G1-is = let q = products B b h in rw (square b, square B) (as-plain _ _ (omega arith) (omega arith) (is-less-over (5500 * b * B) (1089 * (b * b)) (omega arith)))
+  G1-is = let q = products B b h in rw (pow-two b, pow-two B) (is-rewritten _ 0 _ (omega arith) (omega arith) (is-less-over (5500 * b * B) (1089 * (b * b)) (omega arith)))
 
   pub G3-is : Is (G3 B b) (1375 * b * b * B - 363 * b * b * b) 0 (56250 * B * B * B)
   unfolding G3
-  G3-is = let q = products B b h in rw (square b, cube b, cube B) (as-plain _ _ (omega arith) (omega arith) (is-less-over (1375 * (b * b) * B) (363 * (b * b * b)) (omega arith)))
+  G3-is = let q = products B b h in rw (pow-two b, cube b, cube B) (is-rewritten _ 0 _ (omega arith) (omega arith) (is-less-over (1375 * (b * b) * B) (363 * (b * b * b)) (omega arith)))
 
   pub G1-proper : Proper (5500 * b * B - 1089 * b * b) (7500 * B * B)
   G1-proper = let q = products B b h in proper (omega arith) (omega arith) (omega arith)
@@ -81,4 +86,4 @@ unfolding layerOf c d
 layer-is B b p q r =
     let e : 12 * (b * b) ≡ 12 * b * b = omega arith in
     let f : 5 * (B * B) ≡ 5 * B * B = omega arith in
-    rw (square b, square B, e, f, r, p, q)
+    rw (pow-two b, pow-two B, e, f, r, p, q)

@@ -16,7 +16,7 @@ use Rattle.chances.specs.Figures.{plus}
 use Rattle.chances.specs.Penetration.{QEnds}
 use Rattle.chances.specs.Layer.{layerOf, Lent}
 use Rattle.spans.specs.Hull.{Hulled}
-use Rattle.chances.specs.Share.{withinEnds, low, high, sumsOf, Few, rowOf, rowEnds}
+use Rattle.chances.specs.Share.{withinEnds, low, high, sumsOf, Few, lowest, highest, rowOf, rowEnds}
 use Rattle.spans.specs.Table.{tableOf}
 
 -- ---- Q of a span, where b may be 0
@@ -68,20 +68,14 @@ two-of h k e = rw e (record { order = omega (arith, h .ordered, k .ordered); mos
 
 -- ---- the row
 
-module _ (before at : Sums) where
-  abbrev lowest : ℕ
-  lowest = at .added .lower + before .taken .lower - (at .taken .upper + before .added .upper)
-
-  abbrev highest : ℕ
-  highest = at .added .upper + before .taken .upper - (at .taken .lower + before .added .lower)
-
-  pub row-free : {l u : ℕ} → l ≡ lowest → u ≡ highest → u ≤ 10 ^ 9 → record { lower = l; upper = u } ≡ rowOf before at
+module _ (before at : Sums) {l u : ℕ} (e : l ≡ lowest before at) (f : u ≡ highest before at) where
+  pub row-free : u ≤ 10 ^ 9 → record { lower = l; upper = u } ≡ rowOf before at
   unfolding rowOf
-  row-free e f h = both e (sym (rw (← f) (min-eq-right h)))
+  row-free h = both e (sym (rw (← f) (min-eq-right h)))
 
-  pub row-held : {l u : ℕ} → l ≡ lowest → u ≡ highest → 10 ^ 9 < u → record { lower = l; upper = 10 ^ 9 } ≡ rowOf before at
+  pub row-held : 10 ^ 9 < u → record { lower = l; upper = 10 ^ 9 } ≡ rowOf before at
   unfolding rowOf
-  row-held e f h = both e (sym (rw (← f) (min-eq-left (le-of-lt h))))
+  row-held h = both e (sym (rw (← f) (min-eq-left (le-of-lt h))))
 
 -- ---- a layer of a hull
 

@@ -16,10 +16,12 @@ use Rattle.chances.specs.Penetration.{c, d, GEnds, mixed, QEnds}
 use Rattle.chances.specs.Layer.{layerOf, Reached, Lent}
 use Rattle.spans.specs.Hull.{shipOf, Hulled}
 use Rattle.spans.specs.Table.{spanIn}
-use Rattle.spans.proofs.Plain.{square}
+use Rattle.solas.proofs.Quotients.{pow-two}
 use Rattle.chances.proofs.Depth.{products, C-at-most-one}
-use Rattle.spans.proofs.Table.{place-below, place-within, table-long, span-read}
-use Rattle.chances.proofs.Probable.{P-probable, G-probable, Q-probable}
+use Rattle.spans.proofs.Places.{place-below, place-within}
+use Rattle.spans.proofs.Table.{table-long, span-read}
+use Rattle.spans.proofs.Enclosure.{P-probable}
+use Rattle.chances.proofs.Enclosure.{G-probable, Q-probable}
 
 module _ {t : List ℕ} {h : Hull} {y : Layer} (l : Lent t h y) where
   pub long : length t ≡ 1600
@@ -41,7 +43,7 @@ module _ {t : List ℕ} {h : Hull} {y : Layer} (l : Lent t h y) where
   weights =
       let q = C-at-most-one (h .breadth) (y .depth) depths in
       let n = products (h .breadth) (y .depth) depths in
-      rw (c-is, d-is) (q .0, q .1, rw (square (h .breadth)) (omega arith))
+      rw (c-is, d-is) (q .0, q .1, rw (pow-two (h .breadth)) (omega arith))
 
   module _ (a e : ℕ) (from : 1 ≤ a) (order : a ≤ e) (to : e ≤ h .zones) where
     pub span-is : spanIn t a e ≡ spanEnds (h .length) (shipOf h .aft a) (shipOf h .fwd e)

@@ -13,7 +13,8 @@ use Rattle.chances.specs.Figures.{plus, minus}
 use Rattle.spans.specs.Span.{pEnds}
 use Rattle.chances.specs.Penetration.{G1Ends, G3Ends, partEnds, GEndsAt, GEnds}
 use Rattle.chances.specs.Layer.{layerOf, Reached}
-use Rattle.chances.proofs.Probable.{p-probable, G1-probable, part-probable}
+use Rattle.spans.proofs.Enclosure.{p-probable}
+use Rattle.chances.proofs.Enclosure.{G1-probable, part-probable}
 
 module _ {L B aft fwd : ℕ} {p : Ends} {y : Layer} (r : Reached L B aft fwd p y) where
   depths : (1 ≤ B) × (B ≤ 6000) × (2 * y .depth ≤ B)

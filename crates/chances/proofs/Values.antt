@@ -16,7 +16,7 @@ use Rattle.spans.specs.Rounded.{endsOf}
 use Rattle.chances.specs.Figures.{plus, minus}
 use Rattle.spans.specs.Span.{pEnds, PEnds}
 use Rattle.chances.specs.Penetration.{G1Ends, G3Ends, partEnds, GEnds, c, d, mixed, QEnds}
-use Rattle.chances.specs.Share.{withinEnds, sumsOf, rowOf, rowEnds}
+use Rattle.chances.specs.Share.{withinEnds, sumsOf, lowest, highest, rowOf, rowEnds}
 
 -- the group (a, n), its layer from b′ to b, and the ends of its share
 data Row : Type 0 where
@@ -32,7 +32,7 @@ printed = abutting 9900 1600 2 (0 ∷ 1500 ∷ 9900 ∷ [])
 in-full :
     T (every (right printed)
     (row 1 1 0 800 0x072648b6 0x072648b7 ∷ row 1 2 0 800 0x03e36aea 0x03e36aec ∷ row 2 1 0 800 0x3091165e 0x3091165f ∷ []))
-unfolding rowEnds rowOf sumsOf withinEnds added taken QEnds mixed c d PEnds GEnds pEnds partEnds G1Ends G3Ends minus plus endsOf billionthsOf portionOf halvesOf ceil touch P p G1 G3 _⊹_ _⊛_ _less_over_
+unfolding rowEnds rowOf lowest highest sumsOf withinEnds added taken QEnds mixed c d PEnds GEnds pEnds partEnds G1Ends G3Ends minus plus endsOf billionthsOf portionOf halvesOf ceil touch P p G1 G3 _⊹_ _⊛_ _less_over_
 in-full = tt
 
 -- five zones; the first row's ends lie as far apart as any
@@ -47,7 +47,7 @@ long-spans :
     ∷ row 1 5 122 1983 0 10
     ∷ row 4 2 48 122 2123038 2123056
     ∷ []))
-unfolding rowEnds rowOf sumsOf withinEnds added taken QEnds mixed c d PEnds GEnds pEnds partEnds G1Ends G3Ends minus plus endsOf billionthsOf portionOf halvesOf ceil touch P p G1 G3 _⊹_ _⊛_ _less_over_
+unfolding rowEnds rowOf lowest highest sumsOf withinEnds added taken QEnds mixed c d PEnds GEnds pEnds partEnds G1Ends G3Ends minus plus endsOf billionthsOf portionOf halvesOf ceil touch P p G1 G3 _⊹_ _⊛_ _less_over_
 long-spans = tt
 
 -- short zones at both ends and behind them, so that each form of G has its turn
@@ -64,5 +64,13 @@ short-spans :
     ∷ row 2 3 0 500 0 5
     ∷ row 4 1 200 750 7552264 7552269
     ∷ []))
-unfolding rowEnds rowOf sumsOf withinEnds added taken QEnds mixed c d PEnds GEnds pEnds partEnds G1Ends G3Ends minus plus endsOf billionthsOf portionOf halvesOf ceil touch P p G1 G3 _⊹_ _⊛_ _less_over_
+unfolding rowEnds rowOf lowest highest sumsOf withinEnds added taken QEnds mixed c d PEnds GEnds pEnds partEnds G1Ends G3Ends minus plus endsOf billionthsOf portionOf halvesOf ceil touch P p G1 G3 _⊹_ _⊛_ _less_over_
 short-spans = tt
+
+-- zones of just the length at which 15Bx = bL, where the two forms of G are the same and their ends are not
+abbrev edge : Ship
+edge = abutting 9900 1600 4 (0 ∷ 165 ∷ 2000 ∷ 2165 ∷ 9900 ∷ [])
+
+just-short : T (every (right edge) (row 1 1 0 400 6663600 6663601 ∷ row 3 1 0 400 1477361 1477362 ∷ []))
+unfolding rowEnds rowOf lowest highest sumsOf withinEnds added taken QEnds mixed c d PEnds GEnds pEnds partEnds G1Ends G3Ends minus plus endsOf billionthsOf portionOf halvesOf ceil touch P p G1 G3 _⊹_ _⊛_ _less_over_
+just-short = tt

@@ -2,3 +2,4 @@ pub mod Figures
 pub mod Penetration
 pub mod Layer
 pub mod Share
+pub mod Promises

@@ -34,12 +34,14 @@ pub record Few (s : Sums) : Type 0 where
 
 -- the row of the group of n zones from zone a, in the layer from b′ to b: "every added Q low and every subtracted Q high, and is then, once, held
 -- to be not below 0; the upper the other way, not above 10⁹"
+unfoldable pub lowest : Sums → Sums → ℕ
+lowest before at = at .added .lower + before .taken .lower - (at .taken .upper + before .added .upper)
+
+unfoldable pub highest : Sums → Sums → ℕ
+highest before at = at .added .upper + before .taken .upper - (at .taken .lower + before .added .lower)
+
 unfoldable pub rowOf : Sums → Sums → Ends
-rowOf before at =
-    record {
-      lower = at .added .lower + before .taken .lower - (at .taken .upper + before .added .upper);
-      upper = min (10 ^ 9) (at .added .upper + before .taken .upper - (at .taken .lower + before .added .lower));
-    }
+rowOf before at = record { lower = lowest before at; upper = min (10 ^ 9) (highest before at) }
 
 unfoldable pub rowEnds : Ship → ℕ → ℕ → ℕ → ℕ → Ends
 rowEnds s a n b′ b = rowOf (sumsOf s b′ a n) (sumsOf s b a n)

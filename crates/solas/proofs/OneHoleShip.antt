@@ -25,3 +25,9 @@ shares = (record { cross = refl }, record { cross = refl }, record { cross = ref
 totals : (allShares small 800 ≈ whole 1) × (allWithoutMiddle small 800 ≈ 227 over 297) × (allWithZoneBack small 800 ≈ 447 over 297)
 unfolding small allShares allWithoutMiddle allWithZoneBack middleSpan firstOfPair overGroups upTo share within Q P G touch C G1 G3 p _⊹_ _⊝_ _⊛_ _less_over_
 totals = (record { cross = refl }, record { cross = refl }, record { cross = refl })
+
+slips : (share small 1 3 800 ⊝ middleSpan small 1 3 800 ≈ 0 less 70 over 297)
+    × (share small 1 2 800 ⊹ firstOfPair small 1 2 800 ≈ 100 over 297)
+    × (share small 2 2 800 ⊹ firstOfPair small 2 2 800 ≈ 90 over 297)
+unfolding small middleSpan firstOfPair share within Q P G touch C G1 G3 p _⊹_ _⊝_ _⊛_ _less_over_
+slips = (record { cross = refl }, record { cross = refl }, record { cross = refl })

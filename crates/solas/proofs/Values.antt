@@ -7,9 +7,9 @@ use Rattle.solas.specs.Span.{touch, p, P}
 use Rattle.solas.specs.Penetration.{C, G1, G3, G, Q}
 use Rattle.solas.specs.Ship.{Ship, abutting}
 use Rattle.solas.specs.Share.{within, share, rowShare}
-use Rattle.solas.specs.Height.{v}
+use Rattle.solas.specs.Height.{v, top}
 use Rattle.solas.specs.Survival.{k, s⁴}
-use Rattle.solas.specs.Index.{R}
+use Rattle.solas.specs.Index.{dp, draughts, R}
 
 -- the hull of "One file in full": two zones that meet at 1,500
 printed : Ship
@@ -91,3 +91,12 @@ s⁴-lost = record { cross = refl }
 share-at-160 : share printed 1 2 160 ≈ within printed 1 2 160 ⊝ within printed 1 1 160 ⊝ within printed 2 2 160
 unfolding printed share within Q P G touch C G1 G3 p _⊹_ _⊝_ _⊛_ _less_over_
 share-at-160 = record { cross = refl }
+
+-- the three draughts, in the order deepest, partial, light
+draughts-in-order : draughts 6000 4000 ≡ 6000 ∷ 5200 ∷ 4000 ∷ []
+unfolding dp
+draughts-in-order = refl
+
+-- a layer's top
+top-6000 : top 6000 ≡ 18500
+top-6000 = refl

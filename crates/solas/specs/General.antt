@@ -15,7 +15,7 @@ pub record Falling (l : Law) : Type 0 where
   pub stretch : 0 < l .W
   pub falls : 2 * l .κ ≤ 11 * l .W
 
--- the density's fall, and 6/κ times the density, at U: κ² at the knuckle
+-- the density's fall, and 6Wκ² times the density, at U: κ² at the knuckle
 abbrev pub fall : Law → ℕ
 fall l = 11 * l .W - 2 * l .κ
 

@@ -14,7 +14,9 @@ use Rattle.laws.specs.Fraction.{Fraction, _less_over_, Is}
 use Rattle.laws.proofs.Fraction.{is-less-over}
 use Rattle.laws.proofs.Table.{every, everyBelow, every-entry, every-number}
 use Rattle.solas.specs.Span.{p}
-use Rattle.spans.proofs.Plain.{square, cube, as-plain}
+use Rattle.solas.proofs.Quotients.{pow-two}
+use Rattle.solas.proofs.Recast.{is-rewritten}
+use Rattle.spans.proofs.Powers.{cube}
 use Rattle.spans.specs.declared.Ratio.{Ratio}
 use Rattle.spans.specs.Bands.{bands, bandOf, above, entry, counted, valued, quotientOf, Small, Within, Ready, Chance}
 
@@ -113,7 +115,7 @@ module _ (L x : ℕ) (some : 1 ≤ L) (short : L ≤ 19800) (hx : x ≤ L) where
           short = short;
         };
         chance = record {
-          value = rw (square x, cube x, cube L) (as-plain _ _ (omega arith) (omega arith) (is-less-over (550 * (x * x) * L) (1089 * (x * x * x)) (omega (arith, room))));
+          value = rw (pow-two x, cube x, cube L) (is-rewritten _ 0 _ (omega arith) (omega arith) (is-less-over (550 * (x * x) * L) (1089 * (x * x * x)) (omega (arith, room))));
           positive = omega (arith, room);
           at-most-one = omega arith;
           centimetre = refl;
@@ -139,8 +141,8 @@ module _ (L x : ℕ) (some : 1 ≤ L) (short : L ≤ 19800) (hx : x ≤ L) where
           short = short;
         };
         chance = record {
-          value = rw (square x, square L, cube x, cube L)
-              (as-plain _ _ (omega arith) (omega arith) (is-less-over (19800 * x * (L * L) + 32670 * (x * x) * L) (1000 * (L * L * L) + 35937 * (x * x * x)) (omega (arith, room))));
+          value = rw (pow-two x, pow-two L, cube x, cube L)
+              (is-rewritten _ 0 _ (omega arith) (omega arith) (is-less-over (19800 * x * (L * L) + 32670 * (x * x) * L) (1000 * (L * L * L) + 35937 * (x * x * x)) (omega (arith, room))));
           positive = omega (arith, room);
           at-most-one = omega arith;
           centimetre = refl;
@@ -161,7 +163,7 @@ module _ (L x : ℕ) (some : 1 ≤ L) (short : L ≤ 19800) (hx : x ≤ L) where
           short = short;
         };
         chance = record {
-          value = as-plain _ _ (omega arith) (omega arith) (is-less-over (297 * x) (20 * L) (omega arith));
+          value = is-rewritten _ 0 _ (omega arith) (omega arith) (is-less-over (297 * x) (20 * L) (omega arith));
           positive = omega arith;
           at-most-one = omega arith;
           centimetre = refl;

@@ -1,10 +1,10 @@
 -- The ends of p and P: between them lies the exact chance, they are at most one apart, and not above one. Assumes nothing.
-use Prim.Native.Nat.{ℕ, _+_, _-_, _≤_}
+use Prim.Native.Nat.{ℕ, _-_, _≤_}
 use native.Mathlib.Omega.{arith}
 use Rattle.laws.specs.Fraction.{Fraction, Is}
 use Rattle.laws.proofs.Fraction.{is-whole}
 use Rattle.solas.specs.Span.{Touch, neither, one, both, touch, p, PAt, P}
-use Rattle.spans.specs.Rounded.{endsOf, Between, Probable}
+use Rattle.spans.specs.Rounded.{endsOf, Between, Probable, Near}
 use Rattle.spans.specs.Span.{pEnds, PEnds}
 use Rattle.spans.proofs.Rounded.{Enclosed, between, ends-enclose, ends-near, ends-probable}
 use Rattle.spans.proofs.Bands.{ratio-of}
@@ -42,7 +42,7 @@ module _ (L x : ℕ) (some : 1 ≤ L) (short : L ≤ 19800) (within : x ≤ L) w
   pub p-between : Between (pEnds L x) (p L x)
   p-between = between p-enclosed
 
-  pub p-near : pEnds L x .upper ≤ pEnds L x .lower + 1
+  pub p-near : Near 1 (pEnds L x)
   unfolding pEnds
   p-near = ends-near (p-proportion .some) (p-proportion .is)
 
@@ -64,7 +64,7 @@ module _ (L aft fwd : ℕ) (some : 1 ≤ L) (short : L ≤ 19800) (within : fwd 
   pub P-between : Between (PEnds L aft fwd) (P L aft fwd)
   P-between = between P-enclosed
 
-  pub P-near : PEnds L aft fwd .upper ≤ PEnds L aft fwd .lower + 1
+  pub P-near : Near 1 (PEnds L aft fwd)
   unfolding PEnds
   P-near = ends-near (P-proportion .some) (P-proportion .is)
 

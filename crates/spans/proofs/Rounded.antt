@@ -8,7 +8,7 @@ use Rattle.laws.proofs.Fraction.{positive, is-less-over, is-widened, below, num
 use Rattle.records.specs.declared.Ends.{Ends}
 use Rattle.numbers.specs.Figures.{billionthsOf, Encloses}
 use Rattle.numbers.proofs.Figures.{billionths-same, billionths-enclose, billionths-near, billionths-ordered, billionths-at-most, encloses-same}
-use Rattle.spans.specs.Rounded.{endsOf, Between, Probable}
+use Rattle.spans.specs.Rounded.{endsOf, Between, Probable, Near}
 
 -- ---- a fraction that is n/d
 
@@ -20,8 +20,8 @@ ends-are {f} {n} {d} hd h =
 pub ends-probable : {f : Fraction} {n d : ℕ} → 0 < d → n ≤ d → Is f n 0 d → Probable (endsOf f)
 ends-probable {n = n} p h e = rw (ends-are p e) (record { ordered = billionths-ordered n p; at-most-one = billionths-at-most n p h })
 
-pub ends-near : {f : Fraction} {n d : ℕ} → 0 < d → Is f n 0 d → endsOf f .upper ≤ endsOf f .lower + 1
-ends-near {n = n} p e = rw (ends-are p e) (billionths-near n p)
+pub ends-near : {f : Fraction} {n d : ℕ} → 0 < d → Is f n 0 d → Near 1 (endsOf f)
+ends-near {n = n} p e = rw (ends-are p e) (record { near = billionths-near n p })
 
 -- ---- billionths of either sign against a fraction, in whole numbers
 

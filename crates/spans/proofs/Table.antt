@@ -3,7 +3,7 @@ use mathlib.Core.Path.{_≡_, refl, sym, ap, _∙_}
 use mathlib.Core.Bool.{Bool, true, false, _&&_}
 use mathlib.Core.List.{List}
 use Prim.Native.Nat.{ℕ, zero, suc, _+_, _-_, _*_, _/_, _%_, _≤_, _<_}
-use native.Mathlib.Nat.{le-dest, le-refl, add-zero}
+use native.Mathlib.Nat.{add-zero}
 use native.Mathlib.Omega.{arith}
 use borrow.Author.Tests.{le-leb, lt-ltb, leb-true, ltb-true}
 use lib.Dec.{leb, ltb}
@@ -15,21 +15,6 @@ use Rattle.spans.specs.declared.SpanEnds.{SpanEnds}
 use Rattle.spans.specs.Span.{spanEnds}
 use Rattle.spans.specs.Hull.{shipOf, Hulled}
 use Rattle.spans.specs.Table.{spanAt, numberOf, numberAt, tableOf, spanIn}
-
--- ---- the places of an accepted hull
-
-module _ {h : Hull} (s : Hulled h) where
-  places-rise : (i k : ℕ) → i + k ≤ h .zones → getD (h .places) i 0 ≤ getD (h .places) (i + k) 0
-  places-rise i zero l = rw (add-zero i) (le-refl (getD (h .places) i 0))
-  places-rise i (suc k) l =
-      let e : getD (h .places) (i + suc k) 0 ≡ getD (h .places) (i + k + 1) 0 = ap (λ z. getD (h .places) z 0) (omega arith) in
-      omega (arith, places-rise i k (omega arith), s .rising (i + k) (omega arith))
-
-  pub place-below : {i j : ℕ} → i ≤ j → j ≤ h .zones → getD (h .places) i 0 ≤ getD (h .places) j 0
-  place-below {i} p l = let (k, e) = le-dest p in rw (← e) (places-rise i k (omega arith))
-
-  pub place-within : {j : ℕ} → j ≤ h .zones → getD (h .places) j 0 ≤ h .length
-  place-within l = omega (arith, place-below l (le-refl (h .zones)), s .bow)
 
 -- ---- a span of its zones
 

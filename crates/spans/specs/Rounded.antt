@@ -17,3 +17,7 @@ pub record Between (g : Ends) (f : Fraction) : Type 0 where
 pub record Probable (g : Ends) : Type 0 where
   pub ordered : g .lower ≤ g .upper
   pub at-most-one : g .upper ≤ 10 ^ 9
+
+-- the ends lie at most w apart
+pub record Near (w : ℕ) (g : Ends) : Type 0 where
+  pub near : g .upper ≤ g .lower + w

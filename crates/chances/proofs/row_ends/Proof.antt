@@ -1,6 +1,7 @@
 -- `chances::row_ends` meets its contract. Assumes nothing.
 use borrow.Author.Needs.{needs}
 use native.Mathlib.Omega.{arith}
+use Rattle.chances.specs.Share.{lowest, highest}
 use Rattle.chances.proofs.Group.{row-free, row-held}
 use Rattle.chances.proofs.row_ends.Statement.{statement}
 use Rattle.chances.proofs.row_ends.Tie as tie
@@ -24,11 +25,13 @@ rest-requires-2 : tie.Need-rest-requires-2
 rest-requires-2 c κs = search needs
 
 returns : tie.Need-returns
+unfolding lowest highest
 returns c =
     let s = c .before .before .before .before .before .before .before .before .before .before .before in
     row-free (s .args .before) (s .args .at) (c .before .before .before .before .before .before .rest .ensures) (c .before .rest2 .ensures) (c .if1 .taken)
 
 returns-2 : tie.Need-returns-2
+unfolding lowest highest
 returns-2 c =
     let s = c .before .before .before .before .before .before .before .before .before .before .before in
     row-held (s .args .before) (s .args .at) (c .before .before .before .before .before .before .rest .ensures) (c .before .rest2 .ensures) (c .if1 .left)

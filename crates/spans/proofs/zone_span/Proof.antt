@@ -4,7 +4,8 @@ use mathlib.Core.Path.{sym, _∙_}
 use Prim.Native.Nat.{_≤_, _<_}
 use native.Mathlib.Omega.{arith}
 use Rattle.spans.specs.Table.{spanAt}
-use Rattle.spans.proofs.Table.{tested, place-below, place-within, span-there}
+use Rattle.spans.proofs.Places.{place-below, place-within}
+use Rattle.spans.proofs.Table.{tested, span-there}
 use Rattle.spans.proofs.zone_span.Statement.{statement}
 use Rattle.spans.proofs.zone_span.Tie as tie
 

@@ -1,9 +1,9 @@
 """Accepted files of every shape: few and many zones, rows, layers and heights, groups left out, both kinds of row."""
 
-from .case import accepted
-from .dice import Dice
-from .frames import Hull, Row, case_file
-from .shapes import CERTAIN, FOUR, LOST, NONE, PRINTED, SAFE, every_group, group, groups_of, seeded_case, seeded_rows
+from ..case import accepted
+from ..dice import Dice
+from ..frames import Hull, Row, case_file
+from ..shapes import CERTAIN, FOUR, LOST, NONE, PRINTED, SAFE, every_group, group, groups_of, seeded_case, seeded_rows
 
 TWENTY = Hull(19800, 3200, 11000, 6000, tuple(990 * i for i in range(1, 20)))
 UNEVEN = Hull(8000, 1000, 1000, 500, (1, 3, 9, 27, 81, 243, 729, 2187, 6561))

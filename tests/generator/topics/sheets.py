@@ -1,11 +1,11 @@
 """Refusal 11, which comes last: sheets too short by much and by one, just long enough, and longer."""
 
-from .case import accepted, refused
+from ..case import accepted, refused
+from ..frames import Hull, case_file, end_line, joined
+from ..judging import without
+from ..shapes import FOUR, every_group, group
 from .following import EARLY, rows_in
-from .frames import Hull, case_file, end_line, joined
-from .judging import without
 from .pairs import HULL, row
-from .shapes import FOUR, every_group, group
 
 
 def cases():

@@ -1,9 +1,9 @@
 """Ends that lie far apart, sums above one, and lower ends held at 0."""
 
-from .case import accepted
-from .found import FULL_SHIPS, WIDE_ROWS
-from .frames import Hull, case_file
-from .shapes import SAFE, every_group, group
+from ..case import accepted
+from ..found import FULL_SHIPS, WIDE_ROWS
+from ..frames import Hull, case_file
+from ..shapes import SAFE, every_group, group
 
 
 def wide():

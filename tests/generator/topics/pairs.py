@@ -2,10 +2,10 @@
 
 from itertools import combinations
 
-from .case import refused
-from .frames import Hull, Row, end_line, hull_line, joined, row_line
-from .judging import without
-from .shapes import CERTAIN, FOUR, group
+from ..case import refused
+from ..frames import Hull, Row, end_line, hull_line, joined, row_line
+from ..judging import without
+from ..shapes import CERTAIN, FOUR, group
 
 ORDER = (1, 10, 2, 3, 4, 5, 6, 7, 8, 9, 11)
 

@@ -1,8 +1,8 @@
 """The verdict: A and each partial at its mark, just above and just below it, for the whole range of lengths."""
 
-from .case import accepted
-from .found import MARKS
-from .frames import Hull, Row, case_file
+from ..case import accepted
+from ..found import MARKS
+from ..frames import Hull, Row, case_file
 
 FIGURES = ("As", "Ap", "Al")
 WORDS = {1: "just meets", 2: "just fails", 3: "has its upper end on"}

@@ -1,9 +1,9 @@
 """Lengths where one centimetre at a band's edge, or < for <= at 15Bx = bL, shows in a printed end; found by search."""
 
-from .case import accepted
-from .found import BAND_EDGES, DEPTH_EDGES
-from .frames import Hull, case_file
-from .shapes import every_group, group
+from ..case import accepted
+from ..found import BAND_EDGES, DEPTH_EDGES
+from ..frames import Hull, case_file
+from ..shapes import every_group, group
 
 
 def by_length():

@@ -1,8 +1,8 @@
 """Both sides of every limit: the last value that is let through and the first that is not."""
 
-from .case import accepted, refused
-from .frames import Hull, Row, case_file, end_line, hull_line, joined, lines_of, row_line
-from .shapes import CERTAIN, PRINTED, SAFE, every_group, group
+from ..case import accepted, refused
+from ..frames import Hull, Row, case_file, end_line, hull_line, joined, lines_of, row_line
+from ..shapes import CERTAIN, PRINTED, SAFE, every_group, group
 
 
 def hull_numbers():

@@ -1,6 +1,6 @@
 """The shares with one rule broken at a time: the slips of the trade, and one for each edge and rounding."""
 
-from .figures import BILLION, Figures, down, up
+from ..figures import BILLION, Figures, down, up
 from .slip import Slips
 
 slip = Slips()

@@ -1,8 +1,8 @@
 """Each refusal on its own, clause by clause, at the lines where it can stand."""
 
-from .case import accepted, refused
-from .frames import Row, case_file, end_line, hull_line, joined, lines_of, row_line
-from .shapes import CERTAIN, FOUR, PRINTED, SAFE, group
+from ..case import accepted, refused
+from ..frames import Row, case_file, end_line, hull_line, joined, lines_of, row_line
+from ..shapes import CERTAIN, FOUR, PRINTED, SAFE, group
 
 ROWS = group(FOUR, 1, 1, figures=SAFE) + group(FOUR, 1, 2) + group(FOUR, 2, 1)
 LINES = lines_of(FOUR, ROWS)

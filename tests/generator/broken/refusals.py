@@ -1,6 +1,6 @@
 """The refusals with one rule broken at a time: clauses left out, limits moved by one, the order turned."""
 
-from .judging import DIGITS, Judging, Refused
+from ..judging import DIGITS, Judging, Refused
 from .slip import Slips
 
 slip = Slips()
@@ -200,3 +200,27 @@ class OneByte(Judging):
 class ReturnsPassed(Judging):
     def lines(self, data):
         return super().lines(data.replace(b"\r", b""))
+
+
+@slip("a sheet of one number a row is enough")
+class HalfSheet(Judging):
+    def short_sheet(self, sheet, rows):
+        return sheet < rows
+
+
+@slip("a sheet must have one number to spare")
+class SpareSheet(Judging):
+    def short_sheet(self, sheet, rows):
+        return sheet <= 2 * rows
+
+
+@slip("a sheet one number short is enough")
+class ShortByOne(Judging):
+    def short_sheet(self, sheet, rows):
+        return sheet < 2 * rows - 1
+
+
+@slip("the sheet is never judged")
+class AnySheet(Judging):
+    def short_sheet(self, sheet, rows):
+        return False

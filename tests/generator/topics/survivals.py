@@ -1,9 +1,9 @@
 """Height and survival alone: one zone, so that the partials print v and s themselves."""
 
-from .case import accepted
-from .found import NEAR_ROOTS
-from .frames import Hull, Row, case_file
-from .shapes import CERTAIN, NONE, group
+from ..case import accepted
+from ..found import NEAR_ROOTS
+from ..frames import Hull, Row, case_file
+from ..shapes import CERTAIN, NONE, group
 
 SHIP = Hull(12000, 2000, 8005, 5000)
 

@@ -2,7 +2,7 @@
 
 from math import isqrt
 
-from .figures import BILLION, FULL, Figures, down, up
+from ..figures import BILLION, FULL, Figures, down, up
 from .slip import Slips
 
 slip = Slips()

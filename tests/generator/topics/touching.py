@@ -1,8 +1,8 @@
 """Groups that touch the stern alone, the bow alone, both or neither, and the spans that are taken off them."""
 
-from .case import accepted
-from .frames import Hull, case_file
-from .shapes import group
+from ..case import accepted
+from ..frames import Hull, case_file
+from ..shapes import group
 
 HULLS = (Hull(12001, 2202, 8000, 5000, (120, 2500, 6007, 11800)), Hull(9001, 1234, 6001, 4001, (2800, 3300, 3310)))
 

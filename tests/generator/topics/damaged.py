@@ -1,11 +1,11 @@
 """Files damaged on the way: bytes changed, cut, doubled, recoded; what the reader of such a file must say."""
 
-from .case import Case, accepted, refused
-from .damage import damaged
-from .dice import Dice
-from .frames import case_file, joined, lines_of, row_line
-from .judging import Judging
-from .shapes import CERTAIN, FOUR, group, seeded_case
+from ..case import Case, accepted, refused
+from ..dice import Dice
+from ..frames import case_file, joined, lines_of, row_line
+from ..fresh import damaged
+from ..judging import Judging
+from ..shapes import CERTAIN, FOUR, group, seeded_case
 
 WHOLE = case_file(FOUR, group(FOUR, 1, 1, (400,), (9000,)) + group(FOUR, 1, 2) + group(FOUR, 2, 1))
 LINES = WHOLE.decode("ascii").split("\n")[:-1]

@@ -1,10 +1,10 @@
 """Two refusals in two lines of one file: the earlier line decides, whatever the numbers; 1 comes before every line."""
 
-from .case import refused
-from .frames import Row, end_line, hull_line, joined, row_line
-from .judging import without
+from ..case import refused
+from ..frames import Row, end_line, hull_line, joined, row_line
+from ..judging import without
+from ..shapes import FOUR
 from .pairs import BAD, FULL, HALF, HULL, TOP, row
-from .shapes import FOUR
 
 EARLY = {
     2: ("row", [HULL, row(1, 1) + "0"]),

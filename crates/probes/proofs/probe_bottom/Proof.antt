@@ -1,0 +1,15 @@
+-- `probes::probe_bottom` gives the survival's bottom. Assumes nothing.
+use borrow.Author.Needs.{needs}
+use mathlib.Core.Path.{ap}
+use Rattle.records.specs.declared.Survival.{Survival}
+use Rattle.probes.proofs.probe_bottom.Statement.{statement}
+use Rattle.probes.proofs.probe_bottom.Tie as tie
+
+survival-requires : tie.Need-survival-requires
+survival-requires c κs = search needs
+
+returns : tie.Need-returns
+returns c = ap (λ (s : Survival). s .bottom) (c .survival .ensures)
+
+pub probe-bottom-spec : {M : Type 1} → statement M
+probe-bottom-spec = tie.close (tie.spec survival-requires returns)

@@ -1,0 +1,41 @@
+// Single figures of the inner crates, for a host in C that compares them with the independent program.
+use records::Finding;
+ghost use mathlib.Core.Path.{_≡_};
+ghost use Rattle.solas.specs.Height.{rowV};
+ghost use Rattle.survival.specs.Survival.{survivalOf};
+
+// The bottom of a result's survival.
+#[no_mangle]
+pub extern "C" fn probe_bottom(kind: u64, lever: u64, range: u64, heel: u64, given: u64) -> u64
+    ensures { λ r. ⌜ r ≡ survivalOf kind (record { lever = lever; range = range; heel = heel; given = given }) .bottom ⌝ }
+{
+    let f = Finding {
+        lever,
+        range,
+        heel,
+        given,
+    };
+    survival::finding::survival(kind, f).bottom
+}
+
+// Its top.
+#[no_mangle]
+pub extern "C" fn probe_top(kind: u64, lever: u64, range: u64, heel: u64, given: u64) -> u64
+    ensures { λ r. ⌜ r ≡ survivalOf kind (record { lever = lever; range = range; heel = heel; given = given }) .top ⌝ }
+{
+    let f = Finding {
+        lever,
+        range,
+        heel,
+        given,
+    };
+    survival::finding::survival(kind, f).top
+}
+
+// A row's v at a draught, over the row below it.
+#[no_mangle]
+pub extern "C" fn probe_height(below: u64, height: u64, draught: u64) -> u64
+    ensures { λ r. ⌜ r ≡ rowV below height draught ⌝ }
+{
+    survival::height::row_factor(below, height, draught)
+}

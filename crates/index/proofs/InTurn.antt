@@ -11,7 +11,7 @@ use Rattle.records.specs.declared.Hull.{Hull}
 use Rattle.records.specs.declared.Trio.{Trio}
 use Rattle.solas.specs.Count.{added, taken}
 use Rattle.solas.specs.Index.{draughts}
-use Rattle.chances.specs.Share.{withinEnds, sumsOf, rowOf, rowEnds}
+use Rattle.chances.specs.Share.{withinEnds, sumsOf, lowest, highest, rowOf, rowEnds}
 use Rattle.survival.specs.Index.{partials, plus, Share, Given, Within}
 use Rattle.survival.proofs.Rows.{row-weights}
 use Rattle.survival.proofs.Sums.{partials-snoc, row-within, plus-within, none-within}
@@ -41,7 +41,7 @@ length-numbers h y (r ∷ rs) = omega (arith, length-numbers h (stands y (r .hea
 
 -- before the first row there is no share
 no-share : (h : Hull) → record { lower = 0; upper = 0 } ≡ shareAt h nowhere
-unfolding shareAt rowEnds rowOf sumsOf added taken withinEnds
+unfolding shareAt rowEnds rowOf lowest highest sumsOf added taken withinEnds
 no-share h = refl
 
 -- ---- what is known of some rows, with what is left, comes to what all of them come to

@@ -58,7 +58,7 @@ not-above h r s (later (inr a) c) e f = absurd (omega (arith, a .1, f))
 module _ (h : Hull) (y : Standing) (r : RowHead) (fits : Head h r) (low : y .before ≤ y .head .depth) (rises : inGroup y r ≡ true → y .head .depth ≤ r .depth) where
   stood-at : (before below : ℕ) → before ≤ r .depth → Stood h (record { head = r; before = before; below = below })
   stood-at before below l =
-      record { group = record { from = fits .first; some = fits .count; fits = fits .within }; deeper = l; within = omega (arith, fits .deepest) }
+      record { group = record { from = fits .first; some = fits .count; fits = fits .within }; some = fits .shallowest; deeper = l; within = omega (arith, fits .deepest) }
 
   stood : Stood h (stands y r)
   stood = by (inGroup y r) refl (eqb (r .depth) (y .head .depth)) refl

@@ -2,3 +2,4 @@ pub mod Standing
 pub mod Work
 pub mod Running
 pub mod Answer
+pub mod Report

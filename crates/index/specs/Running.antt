@@ -31,6 +31,7 @@ entered h s head results =
 -- a row of one of the hull's groups, in a layer that is not above the one before and within B/2
 pub record Stood (h : Hull) (y : Standing) : Type 0 where
   pub group : Group (shipOf h) (y .head .first) (y .head .count)
+  pub some : 1 ≤ y .head .depth
   pub deeper : y .before ≤ y .head .depth
   pub within : 2 * y .head .depth ≤ h .breadth
 

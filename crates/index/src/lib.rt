@@ -3,8 +3,12 @@ use records::Ends;
 use records::RowHead;
 use records::Trio;
 
+pub mod entry; // any input
 pub mod rows; // a row after those before it
 pub mod sheet; // the rows in turn
+
+pub use entry::answer;
+pub use entry::report;
 
 // A row's head, the penetration of the layer before its own (0 in the group's first), and the height of the row below it (0 in
 // the layer's first).

@@ -1,7 +1,7 @@
 -- The printed answer, from the answer and a sheet with room for every case's shares. Assumes nothing.
 use Prim.Native.Nat.{ℕ, _*_, _≤_}
 use mathlib.Core.Path.{_≡_, refl, sym, _∙_, ap}
-use mathlib.Core.Bool.{Bool, true, false}
+use mathlib.Core.Bool.{Bool, true, false, cond}
 use mathlib.Core.List.{List, [], _++_}
 use native.Mathlib.Omega.{arith}
 use lib.Dec.{leb, ltb}
@@ -68,3 +68,13 @@ module _ (f out blank : List ℕ) {sheet : List ℕ} {a : Answer} (long : length
   pub text-reported : {now : List ℕ} → now ≡ writtenOf a sheet out → now ≡ reportedIn (reading f) out
   unfolding writtenOf reportedIn
   text-reported e = e ∙ rw (can-print, text-is) refl
+
+-- ---- what is written lies in the buffer
+
+pub reported-fits : (f out : List ℕ) {n : ℕ} {now : List ℕ} → n ≡ reportLength (reading f) out → now ≡ reportedIn (reading f) out → n ≤ length now
+unfolding reportLength reportedIn
+reported-fits f out {n} {now} = by (leb (length (report (reading f))) (length out))
+  where
+    by : (b : Bool) → n ≡ cond b (length (report (reading f))) 0 → now ≡ cond b (report (reading f) ++ drop (length (report (reading f))) out) out → n ≤ length now
+    by true e g = rw g (omega (arith, e, length-append (report (reading f)) (drop (length (report (reading f))) out)))
+    by false e g = omega (arith, e)

@@ -9,7 +9,7 @@ pub mod Valid
 pub mod Answer
 pub mod Acceptance
 pub mod Refusal
+pub mod Judging
 pub mod Walk
 pub mod Groups
-pub mod Judging
 pub mod Placing

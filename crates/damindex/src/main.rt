@@ -1,0 +1,8 @@
+// The program: a case file from standard input, of which a byte past the limit is enough to refuse it, and its printed answer.
+fn main() {
+    let mut input = [0u8; 32_769];
+    let n = io::read_full(0, &mut input);
+    let mut out = [0u8; 9_569];
+    let k = index::report(&input[..n], &mut out);
+    io::write_all(1, &out[..k]);
+}

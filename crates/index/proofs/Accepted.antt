@@ -1,0 +1,139 @@
+-- An accepted file is worked out: what its case meets, and what is answered for it and for any other. Assumes nothing.
+use Prim.Native.Nat.{ℕ, _+_, _*_, _/_, _^_, _≤_, _<_}
+use mathlib.Core.Path.{_≡_, refl, sym, _∙_, ap}
+use mathlib.Core.Bool.{true, false}
+use mathlib.Core.List.{List, _++_}
+use native.Mathlib.Nat.{min-le-left}
+use native.Mathlib.Omega.{arith}
+use lib.Dec.{ltb}
+use lib.ListN.{length, drop}
+use borrow.Author.Tests.{lt-ltb, le-ltb}
+use Rattle.records.specs.declared.Answer.{Answer}
+use Rattle.records.specs.declared.Ends.{Ends}
+use Rattle.records.specs.declared.Hull.{Hull}
+use Rattle.records.specs.declared.Trio.{Trio}
+use Rattle.frames.specs.Lines.{lineLength}
+use Rattle.frames.proofs.Tests.{holds}
+use Rattle.solas.specs.Index.{R, partialMark}
+use Rattle.spans.specs.Hull.{shipOf, Hulled}
+use Rattle.spans.specs.Table.{tableOf}
+use Rattle.spans.proofs.Places.{ship-sound}
+use Rattle.chances.specs.Share.{sumsOf, lowest, highest, rowOf, rowEnds}
+use Rattle.chances.proofs.Row.{lower-at-most-one}
+use Rattle.survival.specs.declared.Ratio.{Ratio}
+use Rattle.survival.specs.Ratio.{ratioOf}
+use Rattle.survival.specs.Index.{partials, attainedOf, Share}
+use Rattle.survival.specs.Verdict.{verdictOf}
+use Rattle.casefile.specs.declared.Judgement.{Judgement}
+use Rattle.casefile.specs.Record.{Case}
+use Rattle.casefile.specs.Limits.{sizesFit}
+use Rattle.casefile.specs.Reading.{Reading, refused, accepted, reading}
+use Rattle.casefile.specs.Answer.{judgementOf}
+use Rattle.casefile.specs.Valid.{Valid}
+use Rattle.casefile.specs.Walk.{afterHull, rowsFrom}
+use Rattle.casefile.proofs.Limits.{Sizes, sizes-are}
+use Rattle.casefile.proofs.Refusal.{zero-accepts}
+use Rattle.casefile.proofs.Soundness.{sound}
+use Rattle.casefile.proofs.Walk.{rows-in-turn}
+use Rattle.index.specs.declared.Standing.{Standing}
+use Rattle.index.specs.Standing.{nowhere}
+use Rattle.index.specs.Work.{shareAt, sharesFrom, addsFrom}
+use Rattle.index.specs.Running.{Stood, Follow, Ready}
+use Rattle.index.specs.Answer.{partialsOf, figures, answer, numbers, shares, caseIn, refusal, answered, sheetAfter}
+use Rattle.index.proofs.ValidCase.{hulled, rows-follow}
+use Rattle.index.proofs.InTurn.{length-rows}
+
+-- ---- a hull's rows have shares of at most one
+
+share-small : {h : Hull} → Hulled h → (y : Standing) → Stood h y → Share (shareAt h y)
+unfolding shareAt rowEnds rowOf
+share-small {h} k y s =
+    let r = y .head in
+    record {
+      low = lower-at-most-one (shipOf h) (r .first) (r .count) (y .before) (r .depth)
+          (record { sound = ship-sound k; narrow = k .narrow; group = s .group; some = s .some; rising = s .deeper; deep = s .within });
+      high = min-le-left (10 ^ 9) _;
+    }
+
+pub ready : {h : Hull} {t : List ℕ} → Hulled h → t ≡ tableOf h → Ready h t
+ready k e = record { hull = k; table = e; shares = share-small k }
+
+-- ---- the figures of partial indices
+
+pub concluded : (size rows : ℕ) (ps : Trio) {a : Ends} {required mark : Ratio} {v : ℕ} → a ≡ attainedOf ps → required ≡ ratioOf (R size) → mark ≡ ratioOf (partialMark size) →
+    v ≡ verdictOf a ps required mark → record { number = 0; line = 0; verdict = v; rows = rows; attained = a; partials = ps } ≡ figures size rows ps
+unfolding figures
+concluded size rows ps e f g k = rw (k, e, f, g) refl
+
+-- ---- a file that is accepted
+
+module _ (f : List ℕ) (h : Hull) (rows : ℕ) (e : reading f ≡ accepted (caseIn f h rows)) where
+  valid : Valid (caseIn f h rows)
+  valid = sound f (caseIn f h rows) e .1
+
+  pub hull-is : Hulled h
+  hull-is = hulled h (valid .hull)
+
+  sizes : Sizes h
+  sizes = sizes-are h (holds (sizesFit h) (valid .hull .sizes))
+
+  pub not-long : h .length ≤ 10 ^ 6
+  not-long = omega (arith, sizes .short)
+
+  pub fill-asked : (sheet : List ℕ) {t : List ℕ} {at : ℕ} → t ≡ tableOf h → at ≡ afterHull f → 2 * rows ≤ length sheet →
+      Ready h t × ((h .deepest < 2 ^ 32) × (h .light < 2 ^ 32)) × (rows ≤ 500) × (2 * rows ≤ length sheet) × Follow h nowhere (rowsFrom rows f at)
+  fill-asked sheet t a l =
+      let few : rows ≤ 500 = omega (arith, valid .few, length-rows rows f (afterHull f)) in
+      (ready hull-is t, (omega (arith, sizes .shallow), omega (arith, sizes .shallow, sizes .lighter)), few, l, rw a (rows-follow (caseIn f h rows) valid))
+
+  pub answer-is : {at : ℕ} {ps : Trio} {r : Answer} → at ≡ afterHull f → ps ≡ partials (addsFrom h nowhere (rowsFrom rows f at)) → r ≡ figures (h .length) rows ps → r ≡ answer (caseIn f h rows)
+  unfolding answer partialsOf
+  answer-is a p q = q ∙ rw (p, a, length-rows rows f (afterHull f)) refl
+
+  pub shares-are : (first : List ℕ) {at : ℕ} {now : List ℕ} → at ≡ afterHull f → now ≡ numbers (sharesFrom h nowhere (rowsFrom rows f at)) ++ drop (2 * rows) first →
+      now ≡ shares (caseIn f h rows) ++ drop (2 * rows) first
+  unfolding shares
+  shares-are first a q = q ∙ rw a refl
+
+  -- with room for its shares
+  pub whole-case : (sheet : List ℕ) {now : List ℕ} {r : Answer} → 2 * rows ≤ length sheet → r ≡ answer (caseIn f h rows) → now ≡ shares (caseIn f h rows) ++ drop (2 * rows) sheet →
+      (r ≡ answered (reading f) (length sheet)) × (now ≡ sheetAfter (reading f) sheet)
+  unfolding answered sheetAfter
+  whole-case sheet l a s =
+      let n : length (rowsFrom rows f (afterHull f)) ≡ rows = length-rows rows f (afterHull f) in
+      let t : ltb (length sheet) (2 * length (rowsFrom rows f (afterHull f))) ≡ false = le-ltb (length sheet) (2 * length (rowsFrom rows f (afterHull f))) (omega (arith, n)) in
+      (a ∙ rw (e, t) refl, s ∙ rw (e, t, n) refl)
+
+pub after-hull : (f : List ℕ) {end : ℕ} → end ≡ 0 + lineLength (drop 0 f) → end + 1 ≡ afterHull f
+after-hull f e = omega (arith, e)
+
+-- ---- any file, by its judgement
+
+same-case : (f : List ℕ) (h : Hull) (n : ℕ) (c : Case) → h ≡ c .hull → n ≡ length (c .rows) → rowsFrom (length (c .rows)) f (afterHull f) ≡ c .rows → caseIn f h n ≡ c
+same-case f h n c e k r = rw (e, k, r) refl
+
+pub refused-case : (r : Reading) (sheet : List ℕ) {j : Judgement} {a : Answer} → j ≡ judgementOf r → (j .number ≡ 0 → ⊥) → a ≡ refusal (j .number) (j .line) →
+    (a ≡ answered r (length sheet)) × (sheet ≡ sheetAfter r sheet)
+unfolding answered sheetAfter
+refused-case (refused k l) sheet e n q = (q ∙ rw e refl, refl)
+refused-case (accepted c) sheet e n q = absurd (n (ap (λ j. j .number) e))
+
+module _ (f : List ℕ) {j : Judgement} (e : j ≡ judgementOf (reading f)) (z : j .number ≡ 0) where
+  case-is : (c : Case) × (reading f ≡ accepted c)
+  case-is = zero-accepts f (sym (ap (λ j. j .number) e) ∙ z)
+
+  told : j ≡ judgementOf (accepted (case-is .0))
+  told = e ∙ ap judgementOf (case-is .1)
+
+  pub short-sheet : (sheet : List ℕ) {a : Answer} → length sheet / 2 < j .rows → a ≡ refusal 11 0 → (a ≡ answered (reading f) (length sheet)) × (sheet ≡ sheetAfter (reading f) sheet)
+  unfolding answered sheetAfter
+  short-sheet sheet l q =
+      let c = case-is .0 in
+      let n : j .rows ≡ length (c .rows) = ap (λ j. j .rows) told in
+      let t : ltb (length sheet) (2 * length (c .rows)) ≡ true = lt-ltb (length sheet) (2 * length (c .rows)) (omega (arith, n)) in
+      (q ∙ rw (case-is .1, t) refl, rw (case-is .1, t) refl)
+
+  pub known-case : reading f ≡ accepted (caseIn f (j .hull) (j .rows))
+  known-case =
+      let c = case-is .0 in
+      case-is .1 ∙ ap accepted (sym (same-case f (j .hull) (j .rows) c (ap (λ j. j .hull) told) (ap (λ j. j .rows) told) (rows-in-turn f c (case-is .1))))

@@ -1,0 +1,13 @@
+-- `sheet::begin` meets its contract. Assumes nothing.
+use mathlib.Core.Path.{refl}
+use Rattle.survival.specs.Index.{partials}
+use Rattle.index.specs.Running.{begun}
+use Rattle.index.proofs.sheet.begin.Statement.{statement}
+use Rattle.index.proofs.sheet.begin.Tie as tie
+
+returns : tie.Need-returns
+unfolding begun partials
+returns c = refl
+
+pub begin-spec : {M : Type 1} → statement M
+begin-spec = tie.close (tie.spec returns)

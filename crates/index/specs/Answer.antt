@@ -1,0 +1,74 @@
+-- The answer of a case and of any input, and the sheet afterwards: document 01, "Height and survival" and "The case file". Assumes nothing.
+use Prim.Native.Nat.{ℕ, _*_}
+use mathlib.Core.Bool.{cond}
+use mathlib.Core.List.{List, [], _∷_, _++_}
+use lib.ListN.{length, drop}
+use lib.Dec.{ltb}
+use Rattle.records.specs.declared.Answer.{Answer}
+use Rattle.records.specs.declared.Ends.{Ends}
+use Rattle.records.specs.declared.Hull.{Hull}
+use Rattle.records.specs.declared.Trio.{Trio}
+use Rattle.solas.specs.Index.{R, partialMark}
+use Rattle.survival.specs.Ratio.{ratioOf}
+use Rattle.survival.specs.Index.{partials, attainedOf}
+use Rattle.survival.specs.Verdict.{verdictOf}
+use Rattle.casefile.specs.Record.{Case}
+use Rattle.casefile.specs.Reading.{Reading, refused, accepted}
+use Rattle.casefile.specs.Walk.{afterHull, rowsFrom}
+use Rattle.index.specs.Standing.{nowhere}
+use Rattle.index.specs.Work.{sharesFrom, addsFrom}
+
+-- ---- a case
+
+-- As, Ap, Al
+unfoldable pub partialsOf : Case → Trio
+partialsOf c = partials (addsFrom (c .hull) nowhere (c .rows))
+
+-- A, the verdict, and the partial indices that they come from, for a ship of so many centimetres and so many rows
+unfoldable pub figures : ℕ → ℕ → Trio → Answer
+figures size rows ps =
+    record {
+      number = 0;
+      line = 0;
+      verdict = verdictOf (attainedOf ps) ps (ratioOf (R size)) (ratioOf (partialMark size));
+      rows = rows;
+      attained = attainedOf ps;
+      partials = ps;
+    }
+
+unfoldable pub answer : Case → Answer
+answer c = figures (c .hull .length) (length (c .rows)) (partialsOf c)
+
+-- "each row's share, lower then upper, in row order"
+abbrev pub numbers : List Ends → List ℕ
+numbers [] = []
+numbers (e ∷ es) = e .lower ∷ e .upper ∷ numbers es
+
+unfoldable pub shares : Case → List ℕ
+shares c = numbers (sharesFrom (c .hull) nowhere (c .rows))
+
+-- the case of a file whose hull and row count are known
+abbrev pub caseIn : List ℕ → Hull → ℕ → Case
+caseIn f h rows = record { hull = h; rows = rowsFrom rows f (afterHull f) }
+
+-- ---- any input, and a sheet of so many numbers
+
+abbrev pub nothing : Ends
+nothing = record { lower = 0; upper = 0 }
+
+abbrev pub zeros : Trio
+zeros = record { lower = 0 ∷ 0 ∷ 0 ∷ []; upper = 0 ∷ 0 ∷ 0 ∷ [] }
+
+-- "A refusal returns number and line, zeros otherwise"
+abbrev pub refusal : ℕ → ℕ → Answer
+refusal k l = record { number = k; line = l; verdict = 0; rows = 0; attained = nothing; partials = zeros }
+
+-- 11: "sheet shorter than 2 numbers a row", judged last, line 0
+unfoldable pub answered : Reading → ℕ → Answer
+answered (refused k l) size = refusal k l
+answered (accepted c) size = cond (ltb size (2 * length (c .rows))) (refusal 11 0) (answer c)
+
+-- "Acceptance writes each row's share, lower then upper, in row order; the rest of the sheet stays"
+unfoldable pub sheetAfter : Reading → List ℕ → List ℕ
+sheetAfter (refused k l) sheet = sheet
+sheetAfter (accepted c) sheet = cond (ltb (length sheet) (2 * length (c .rows))) sheet (shares c ++ drop (2 * length (c .rows)) sheet)

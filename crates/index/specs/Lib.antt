@@ -1,0 +1,5 @@
+pub mod Standing
+pub mod Work
+pub mod Running
+pub mod Answer
+pub mod Report

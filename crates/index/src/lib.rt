@@ -4,8 +4,8 @@ use records::RowHead;
 use records::Trio;
 
 pub mod entry; // any input
-pub mod rows; // a row after those before it
-pub mod sheet; // the rows in turn
+mod rows; // a row after those before it
+mod sheet; // the rows in turn
 
 pub use entry::answer;
 pub use entry::report;

@@ -19,7 +19,7 @@ After h b [] = ClosesGroup h b
 After h b (r ∷ rs) = Follows h b (r .head) × After h (r .head) rs
 
 module _ (h : Hull) where
-  after-linked : (r : Row) (rs : List Row) → Linked (λ (x : Row) (y : Row). Follows h (x .head) (y .head)) r rs → ClosesGroup h (last r rs .head) → After h (r .head) rs
+  pub after-linked : (r : Row) (rs : List Row) → Linked (λ (x : Row) (y : Row). Follows h (x .head) (y .head)) r rs → ClosesGroup h (last r rs .head) → After h (r .head) rs
   after-linked r [] l c = c
   after-linked r (x ∷ rs) l c = (l .0, after-linked x rs (l .1) c)
 

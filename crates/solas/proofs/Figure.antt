@@ -59,7 +59,7 @@ module _ (s : Ship) (h : Sound s) where
       (within-is b p (a + 1) (a + k + 1)))
 
   -- layers that meet give together what one does
-  meets : (b₀ b₁ b₂ : ℕ) → b₀ ≤ b₁ → b₁ ≤ b₂ → 2 * b₂ ≤ s .B → (a e : ℕ) → figure s b₀ b₁ a e + figure s b₁ b₂ a e ≡ figure s b₀ b₂ a e
+  pub meets : (b₀ b₁ b₂ : ℕ) → b₀ ≤ b₁ → b₁ ≤ b₂ → 2 * b₂ ≤ s .B → (a e : ℕ) → figure s b₀ b₁ a e + figure s b₁ b₂ a e ≡ figure s b₀ b₂ a e
   meets b₀ b₁ b₂ p q r a e = depths-add (s .L) (s .B) b₀ b₁ b₂ falls (rises b₀ b₁ p (omega arith)) (rises b₁ b₂ q r) (s .aft a) (s .fwd e)
 
   -- the share of a row

@@ -1,0 +1,6 @@
+pub mod CaseRows
+pub mod Numerators
+pub mod Weighed
+pub mod Numbered
+pub mod ListedGroups
+pub mod Chances

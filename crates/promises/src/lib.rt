@@ -1,0 +1,1 @@
+// Theorems only: what a reader may rely on is in specs/, its proof in proofs/.

@@ -4,3 +4,5 @@ pub mod Weighed
 pub mod Numbered
 pub mod ListedGroups
 pub mod Chances
+pub mod Widths
+pub mod Kept

@@ -45,7 +45,7 @@ use Rattle.index.proofs.InTurn.{length-rows}
 
 -- ---- a hull's rows have shares of at most one
 
-share-small : {h : Hull} → Hulled h → (y : Standing) → Stood h y → Share (shareAt h y)
+pub share-small : {h : Hull} → Hulled h → (y : Standing) → Stood h y → Share (shareAt h y)
 unfolding shareAt rowEnds rowOf
 share-small {h} k y s =
     let r = y .head in

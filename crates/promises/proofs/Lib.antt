@@ -6,3 +6,4 @@ pub mod ListedGroups
 pub mod Chances
 pub mod Widths
 pub mod Kept
+pub mod Fits

@@ -1,0 +1,162 @@
+-- Every figure of an answer fits its bytes: refusals by the table and the lines of an input, ends by the promised width. Assumes nothing.
+use Prim.Native.Nat.{ℕ, zero, suc, _+_, _*_, _/_, _^_, _≤_, _<_}
+use mathlib.Core.Path.{_≡_, refl}
+use mathlib.Core.Bool.{Bool, true, false, cond}
+use mathlib.Core.List.{List, [], _∷_, List·Memᴰ, List·Memᴰ·head, List·Memᴰ·tail}
+use mathlib.Core.Logic.{_⊎_, inl, inr}
+use native.Mathlib.Nat.{le-trans, div-mul-le-self}
+use native.Mathlib.Omega.{arith}
+use lib.Dec.{T, eqb, ltb, ltb→lt}
+use lib.ListN.{length, getD}
+use borrow.Author.Tests.{le-ltb}
+use Rattle.laws.specs.Fraction.{whole, _≼_}
+use Rattle.laws.proofs.Table.{both-hold, every}
+use Rattle.records.specs.declared.Ends.{Ends}
+use Rattle.records.specs.declared.Hull.{Hull}
+use Rattle.frames.specs.Lines.{Line, onto, lines}
+use Rattle.survival.specs.Index.{at, attainedOf, weighed, Share}
+use Rattle.survival.specs.Exact as exact
+use Rattle.survival.specs.Exact.{RowAt, Every, Close, partialEnds}
+use Rattle.survival.proofs.Width.{partial-at-most}
+use Rattle.casefile.specs.Record.{Row, Case}
+use Rattle.casefile.specs.Valid.{Valid}
+use Rattle.casefile.specs.Reading.{Reading, refused, accepted, reading}
+use Rattle.casefile.specs.Refusal.{Refusal, numbers}
+use Rattle.casefile.proofs.Refusal.{is-refusal}
+use Rattle.casefile.proofs.TableOrder.{of-the-table}
+use Rattle.casefile.proofs.Soundness.{sound}
+use Rattle.printing.specs.ReadBack.{endsOf, Short, Printable}
+use Rattle.printing.proofs.ReadBack.{reads-back}
+use Rattle.index.specs.declared.Standing.{Standing}
+use Rattle.index.specs.Standing.{nowhere, stands}
+use Rattle.index.specs.Work.{shareAt, sharesFrom}
+use Rattle.index.specs.Running.{Stood, Follow}
+use Rattle.index.specs.Answer.{partialsOf, figures, answer, shares, answered}
+use Rattle.index.specs.Answer as answers
+use Rattle.index.specs.Report.{sharesIn, report}
+use Rattle.index.proofs.ValidCase.{hulled, rows-follow}
+use Rattle.index.proofs.Accepted.{share-small}
+use Rattle.index.proofs.InTurn.{length-numbers}
+use Rattle.promises.specs.Rows.{rowsOf, chances}
+use Rattle.promises.specs.Promises.{Kept}
+use Rattle.promises.specs.Printing.{EveryFigureFits, PrintedReadsBack}
+use Rattle.promises.proofs.CaseRows.{sums-are, as-many, all-sound, all-close}
+use Rattle.promises.proofs.Chances.{chances-at-most-one}
+use Rattle.promises.proofs.Widths.{lower-at-most-one}
+use Rattle.promises.proofs.Kept.{promise}
+
+-- ---- a refusal's number and line
+
+member-passes : (p : ℕ → Bool) (k : ℕ) (ns : List ℕ) → T (every p ns) → List·Memᴰ k ns → T (p k)
+member-passes p k (n ∷ ns) t (List·Memᴰ·head e) = rw e (both-hold (p n) (every p ns) t .0)
+member-passes p k (n ∷ ns) t (List·Memᴰ·tail m) = member-passes p k ns (both-hold (p n) (every p ns) t .1) m
+
+number-fits : (k : ℕ) → List·Memᴰ k numbers → k < 256
+number-fits k m = ltb→lt k 256 (member-passes (λ n. ltb n 256) k numbers tt m)
+
+-- no more lines than bytes
+onto-few : (b : ℕ) (ls : List Line) → length (onto b ls) ≤ length ls + 1
+onto-few b [] = omega arith
+onto-few b (l ∷ ls) = omega arith
+
+lines-few : (f : List ℕ) → length (lines f) ≤ length f
+unfolding lines
+lines-few [] = omega arith
+lines-few (b ∷ f) = by (eqb b 10) (lines-few f)
+  where
+    by : (t : Bool) → length (lines f) ≤ length f → length (cond {A = List Line} t (record { text = []; closed = true } ∷ lines f) (onto b (lines f))) ≤ length (b ∷ f)
+    by true h = omega (arith, h)
+    by false h = omega (arith, h, onto-few b (lines f))
+
+line-fits : (f : List ℕ) (k l : ℕ) → Refusal f k l → l < 65536
+line-fits f k l (inl r) = omega (arith, r .line)
+line-fits f k l (inr (inl r)) = omega (arith, r .to, r .short, lines-few f)
+line-fits f k l (inr (inr r)) = omega (arith, r .line, r .short, lines-few f)
+
+-- ---- ends of four bytes
+
+pub record Small (e : Ends) : Type 0 where
+  pub low : e .lower < 4294967296
+  pub high : e .upper < 4294967296
+
+ends-short : (es : List Ends) → Every Small es → Short (answers.numbers es)
+ends-short [] h i = omega arith
+ends-short (e ∷ es) h zero = h .0 .low
+ends-short (e ∷ es) h (suc zero) = h .0 .high
+ends-short (e ∷ es) h (suc (suc i)) = ends-short es (h .1) i
+
+shares-small : {h : Hull} → ((y : Standing) → Stood h y → Share (shareAt h y)) → (y : Standing) (rs : List Row) → Follow h y rs → Every Small (sharesFrom h y rs)
+unfolding sharesFrom
+shares-small k y [] w = tt
+shares-small k y (r ∷ rs) w =
+    let z = stands y (r .head) in
+    (record { low = omega (arith, k z (w .0) .low); high = omega (arith, k z (w .0) .high) }, shares-small k z rs (w .2))
+
+-- ---- an accepted file: the lower ends of A, As, Ap, Al are at most one, the upper ones not far above
+
+module _ (f : List ℕ) (c : Case) (e : reading f ≡ accepted c) where
+  v : Valid c
+  v = sound f c e .1
+
+  low-at : (rs : List RowAt) → Every (Close 32) rs → Every exact.Sound rs → chances rs ≼ whole 1 → partialEnds rs .lower ≤ 10 ^ 9
+  low-at rs k s m = partial-at-most 32 rs k (lower-at-most-one rs s m) .0
+
+  lows : (at (partialsOf c) 0 .lower ≤ 10 ^ 9) × (at (partialsOf c) 1 .lower ≤ 10 ^ 9) × (at (partialsOf c) 2 .lower ≤ 10 ^ 9)
+  lows =
+      let k = all-close c v in
+      let s = all-sound c v in
+      let m = chances-at-most-one c v in
+      rw (sums-are c) (low-at (rowsOf c .deepest) (k .0) (s .0) (m .0), low-at (rowsOf c .partial) (k .1) (s .1) (m .1), low-at (rowsOf c .light) (k .2) (s .2) (m .2))
+
+  low-attained : attainedOf (partialsOf c) .lower ≤ 10 ^ 9
+  unfolding attainedOf
+  low-attained = omega (arith, div-mul-le-self (weighed (partialsOf c .lower)) 5, lows .0, lows .1, lows .2)
+
+  small : (e : Ends) → e .lower ≤ 10 ^ 9 → e .upper ≤ e .lower + (100000 + 40 * length (c .rows)) → Small e
+  small e l n = record { low = omega (arith, l); high = omega (arith, l, n, v .few) }
+
+  figures-fit : Printable (answer c) (shares c)
+  unfolding answer figures endsOf shares
+  figures-fit =
+      let k = promise f c e in
+      let w = k .width in
+      record {
+        number-fits = omega arith;
+        line-fits = omega arith;
+        verdict-fits = by (k .verdict .no-other);
+        ends-fit = ends-short (attainedOf (partialsOf c) ∷ at (partialsOf c) 0 ∷ at (partialsOf c) 1 ∷ at (partialsOf c) 2 ∷ [])
+            (small _ low-attained (w .attained .near), (small _ (lows .0) (w .partials .0 .near), (small _ (lows .1) (w .partials .1 .near), (small _ (lows .2) (w .partials .2 .near), tt))));
+        shares-fit = ends-short (sharesFrom (c .hull) nowhere (c .rows)) (shares-small (share-small (hulled (c .hull) (v .hull))) nowhere (c .rows) (rows-follow c v));
+        two-a-row = length-numbers (c .hull) nowhere (c .rows);
+      }
+    where
+      by : {n : ℕ} → ((n ≡ 1) ⊎ ((n ≡ 2) ⊎ (n ≡ 3))) → n < 256
+      by (inl e) = omega (arith, e)
+      by (inr (inl e)) = omega (arith, e)
+      by (inr (inr e)) = omega (arith, e)
+
+-- ---- any input
+
+fits-by : (f : List ℕ) (r : Reading) → reading f ≡ r → Printable (answered r 1000) (sharesIn r)
+unfolding answered sharesIn endsOf
+fits-by f (refused k l) e = record {
+  number-fits = number-fits k (of-the-table f k l e);
+  line-fits = line-fits f k l (is-refusal f k l e);
+  verdict-fits = omega arith;
+  ends-fit = ends-short (answers.nothing ∷ answers.nothing ∷ answers.nothing ∷ answers.nothing ∷ []) (none, (none, (none, (none, tt))));
+  shares-fit = ends-short [] tt;
+  two-a-row = refl;
+}
+  where
+    none : Small answers.nothing
+    none = record { low = omega arith; high = omega arith }
+fits-by f (accepted c) e =
+    let few = sound f c e .1 .few in
+    rw (le-ltb 1000 (2 * length (c .rows)) (omega (arith, few))) (figures-fit f c e)
+
+pub every-figure-fits : EveryFigureFits
+every-figure-fits f = fits-by f (reading f) refl
+
+pub printed-reads-back : PrintedReadsBack
+unfolding report
+printed-reads-back f = reads-back (answered (reading f) 1000) (sharesIn (reading f)) (every-figure-fits f)

@@ -6,4 +6,6 @@ pub mod ListedGroups
 pub mod Chances
 pub mod Widths
 pub mod Kept
+pub mod Service
 pub mod Fits
+pub mod Values

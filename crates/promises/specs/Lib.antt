@@ -1,3 +1,5 @@
 pub mod Rows
 pub mod Promises
+pub mod Service
 pub mod Printing
+pub mod Values

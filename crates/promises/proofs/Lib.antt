@@ -9,3 +9,4 @@ pub mod Kept
 pub mod Service
 pub mod Fits
 pub mod Values
+pub mod OneFile

@@ -50,9 +50,10 @@ accepting f size (accepted c) e z = by (ltb size (2 * length (c .rows))) refl
     by false t = (c, is-file f c e, ltb-false size (2 * length (c .rows)) t)
 
 pub accepted-exactly : AcceptedExactly
-accepted-exactly f size =
-    (λ z. accepting f size (reading f) refl z,
-    λ (c, k, room). rw (file-is f c k, with-room c size room) (no-number c))
+accepted-exactly f size = (
+  λ z. accepting f size (reading f) refl z,
+  λ (c, k, room). rw (file-is f c k, with-room c size room) (no-number c),
+)
 
 refusing : (f : List ℕ) (size k l : ℕ) → (k ≡ 0 → ⊥) → (r : Reading) → reading f ≡ r → answered r size ≡ refusal k l → RefusedFor f size k l
 unfolding answered

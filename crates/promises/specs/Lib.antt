@@ -3,3 +3,4 @@ pub mod Promises
 pub mod Service
 pub mod Printing
 pub mod Values
+pub mod OneFile

@@ -8,5 +8,6 @@ pub mod Widths
 pub mod Kept
 pub mod Service
 pub mod Fits
+pub mod OfSolas
 pub mod Values
 pub mod OneFile

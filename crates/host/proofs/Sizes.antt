@@ -2,7 +2,7 @@
 use Prim.Native.Nat.{ℕ, _+_, _*_, _≤_}
 use mathlib.Core.Path.{_≡_, refl}
 use mathlib.Core.Bool.{Bool, true, false, cond}
-use mathlib.Core.List.{List, []}
+use mathlib.Core.List.{[]}
 use native.Mathlib.Omega.{arith}
 use lib.Dec.{eqb, ltb}
 use lib.ListN.{length}
@@ -10,7 +10,7 @@ use borrow.Author.Tests.{le-ltb}
 use Rattle.casefile.specs.Record.{Case}
 use Rattle.casefile.specs.Reading.{Reading, refused, accepted, reading}
 use Rattle.casefile.proofs.Soundness.{sound}
-use Rattle.printing.specs.Printed.{printed, printedLength}
+use Rattle.printing.specs.Printed.{printedLength}
 use Rattle.printing.proofs.Whole.{length-printed}
 use Rattle.index.specs.Standing.{nowhere}
 use Rattle.index.specs.Answer.{figures, answer, shares, refusal, answered}

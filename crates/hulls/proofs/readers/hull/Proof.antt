@@ -1,4 +1,5 @@
 -- `hull` meets its contract. Assumes nothing.
+use mathlib.Core.Path.{refl}
 use Rattle.casefile.specs.Layout.{hullOf}
 use borrow.Author.Needs.{needs}
 use Rattle.hulls.proofs.readers.hull.Statement.{statement}
@@ -24,7 +25,7 @@ places-requires c κs = search needs
 
 returns : tie.Need-returns
 unfolding hullOf
-returns c = cc
+returns c = rw (c .places .ensures, c .before .byte-at .ensures .0, c .before .before .word-at4 .ensures .0, c .before .before .before .word-at3 .ensures .0, c .before .before .before .before .word-at2 .ensures .0, c .before .before .before .before .before .word-at .ensures .0) refl
 
 pub hull-spec : {M : Type 1} → statement M
 hull-spec =

@@ -1,4 +1,5 @@
 -- `finding` meets its contract. Assumes nothing.
+use mathlib.Core.Path.{refl}
 use borrow.Author.Tests.{eq-eqb, ne-eqb}
 use Rattle.casefile.specs.Layout.{findingOf}
 use borrow.Author.Needs.{needs}
@@ -16,14 +17,14 @@ word-at-requires-3 c κs = search needs
 
 returns : tie.Need-returns
 unfolding findingOf
-returns c = simp (eq-eqb _ _ (c .before .before .before .if1 .taken)) (cc)
+returns c = rw (eq-eqb _ _ (c .before .before .before .if1 .taken), c .word-at3 .ensures .0, c .before .word-at2 .ensures .0, c .before .before .word-at .ensures .0) refl
 
 word-at-requires-4 : tie.Need-word-at-requires-4
 word-at-requires-4 c κs = search needs
 
 returns-2 : tie.Need-returns-2
 unfolding findingOf
-returns-2 c = simp (ne-eqb _ _ (c .before .if1 .left)) (cc)
+returns-2 c = rw (ne-eqb _ _ (c .before .if1 .left), c .word-at4 .ensures .0) refl
 
 pub finding-spec : {M : Type 1} → statement M
 finding-spec =

@@ -1,4 +1,5 @@
 -- `head` meets its contract. Assumes nothing.
+use mathlib.Core.Path.{refl}
 use Rattle.casefile.specs.Layout.{headOf}
 use borrow.Author.Needs.{needs}
 use Rattle.rowlines.proofs.readers.head.Statement.{statement}
@@ -18,7 +19,7 @@ word-at-requires-2 c κs = search needs
 
 returns : tie.Need-returns
 unfolding headOf
-returns c = cc
+returns c = rw (c .word-at2 .ensures .0, c .before .word-at .ensures .0, c .before .before .byte-at2 .ensures .0, c .before .before .before .byte-at .ensures .0) refl
 
 pub head-spec : {M : Type 1} → statement M
 head-spec =

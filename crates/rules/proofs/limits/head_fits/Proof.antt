@@ -1,4 +1,5 @@
 -- `head_fits` meets its contract. Assumes nothing.
+use mathlib.Core.Path.{refl}
 use Rattle.casefile.specs.Limits.{headFits}
 use borrow.Author.Needs.{needs}
 use Rattle.rules.proofs.limits.head_fits.Statement.{statement}
@@ -15,7 +16,7 @@ is-between-requires-2 c κs = search needs
 
 returns : tie.Need-returns
 unfolding headFits
-returns c = cc
+returns c = rw (c .is-between2 .ensures, c .before .is-between .ensures, c .before .before .before .group-fits .ensures) refl
 
 pub head-fits-spec : {M : Type 1} → statement M
 head-fits-spec =

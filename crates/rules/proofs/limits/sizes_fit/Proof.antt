@@ -1,4 +1,5 @@
 -- `sizes_fit` meets its contract. Assumes nothing.
+use mathlib.Core.Path.{refl}
 use Rattle.casefile.specs.Limits.{sizesFit}
 use borrow.Author.Needs.{needs}
 use Rattle.rules.proofs.limits.sizes_fit.Statement.{statement}
@@ -21,7 +22,7 @@ differ-by-fifths-requires c κs = search needs
 
 returns : tie.Need-returns
 unfolding sizesFit
-returns c = cc
+returns c = rw (c .differ-by-fifths .ensures, c .before .is-between4 .ensures, c .before .before .is-between3 .ensures, c .before .before .before .is-between2 .ensures, c .before .before .before .before .before .is-between .ensures) refl
 
 pub sizes-fit-spec : {M : Type 1} → statement M
 sizes-fit-spec =

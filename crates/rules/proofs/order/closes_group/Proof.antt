@@ -1,4 +1,5 @@
 -- `closes_group` meets its contract. Assumes nothing.
+use mathlib.Core.Path.{refl}
 use Rattle.casefile.specs.Order.{closesGroup}
 use borrow.Author.Needs.{needs}
 use Rattle.rules.proofs.order.closes_group.Statement.{statement}
@@ -9,7 +10,7 @@ at-top-requires c κs = search needs
 
 returns : tie.Need-returns
 unfolding closesGroup
-returns c = cc
+returns c = rw (c .at-top .ensures) refl
 
 pub closes-group-spec : {M : Type 1} → statement M
 closes-group-spec = tie.close (tie.spec at-top-requires returns)

@@ -1,4 +1,5 @@
 -- `ends_open` meets its contract. Assumes nothing.
+use mathlib.Core.Path.{refl}
 use Rattle.casefile.specs.Order.{endsOpen}
 use borrow.Author.Needs.{needs}
 use Rattle.rules.proofs.order.ends_open.Statement.{statement}
@@ -9,7 +10,7 @@ closes-group-requires c κs = search needs
 
 returns : tie.Need-returns
 unfolding endsOpen
-returns c = cc
+returns c = rw (c .closes-group .ensures) refl
 
 pub ends-open-spec : {M : Type 1} → statement M
 ends-open-spec = tie.close (tie.spec closes-group-requires returns)

@@ -1,4 +1,5 @@
 -- `leaves_open` meets its contract. Assumes nothing.
+use mathlib.Core.Path.{refl}
 use Rattle.casefile.specs.Order.{leavesOpen}
 use borrow.Author.Needs.{needs}
 use Rattle.rules.proofs.order.leaves_open.Statement.{statement}
@@ -21,7 +22,7 @@ at-top-requires c κs = search needs
 
 returns : tie.Need-returns
 unfolding leavesOpen
-returns c = cc
+returns c = rw (c .at-top .ensures, c .before .same-layer .ensures, c .before .before .same-group2 .ensures, c .before .before .before .closes-group .ensures, c .before .before .before .before .same-group .ensures) refl
 
 pub leaves-open-spec : {M : Type 1} → statement M
 leaves-open-spec =

@@ -1,4 +1,5 @@
 -- `out_of_order` meets its contract. Assumes nothing.
+use mathlib.Core.Path.{refl}
 use Rattle.casefile.specs.Order.{outOfOrder}
 use borrow.Author.Needs.{needs}
 use Rattle.rules.proofs.order.out_of_order.Statement.{statement}
@@ -18,7 +19,7 @@ at-top-requires c κs = search needs
 
 returns : tie.Need-returns
 unfolding outOfOrder
-returns c = cc
+returns c = rw (c .at-top .ensures, c .before .before .before .same-layer .ensures, c .before .before .before .before .before .before .same-group .ensures, c .before .before .before .before .before .before .before .earlier-group .ensures) refl
 
 pub out-of-order-spec : {M : Type 1} → statement M
 out-of-order-spec =

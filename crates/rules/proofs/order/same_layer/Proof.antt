@@ -1,4 +1,5 @@
 -- `same_layer` meets its contract. Assumes nothing.
+use mathlib.Core.Path.{refl}
 use Rattle.casefile.specs.Order.{sameLayer}
 use borrow.Author.Needs.{needs}
 use Rattle.rules.proofs.order.same_layer.Statement.{statement}
@@ -9,7 +10,7 @@ same-group-requires c κs = search needs
 
 returns : tie.Need-returns
 unfolding sameLayer
-returns c = cc
+returns c = rw (c .before .before .same-group .ensures) refl
 
 pub same-layer-spec : {M : Type 1} → statement M
 same-layer-spec = tie.close (tie.spec same-group-requires returns)

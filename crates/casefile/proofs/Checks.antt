@@ -29,10 +29,6 @@ pub first-passed : (k : ℕ) (t : Bool) (cs : List Check) → t ≡ false → fi
 unfolding firstHolds
 first-passed k t cs e = rw e refl
 
-pub first-given : (k : ℕ) (t : Bool) (cs : List Check) → t ≡ true → firstHolds ((k when t) ∷ cs) ≡ k
-unfolding firstHolds
-first-given k t cs e = rw e refl
-
 -- ---- what each line's passing says
 
 pub record HullPasses (l : Line) : Type 0 where

@@ -11,11 +11,10 @@ use borrow.Author.Tests.{eq-eqb, le-ltb}
 use Rattle.laws.specs.Bytes.{Octets, bytes}
 use Rattle.records.specs.declared.Hull.{Hull}
 use Rattle.frames.specs.Lines.{Line, lines}
-use Rattle.frames.specs.Hex.{pairs, hex, badlyWritten}
+use Rattle.frames.specs.Hex.{pairs, hex, badlyWritten, lineOf}
 use Rattle.frames.specs.Fields.{wordAt}
 use Rattle.frames.proofs.Tests.{holds}
-use Rattle.frames.proofs.Lines.{lines-closed}
-use Rattle.frames.proofs.Pairs.{pairs-hex, proper-hex, feedless}
+use Rattle.frames.proofs.Pairs.{pairs-hex, proper-hex, line-in-front}
 use Rattle.casefile.specs.declared.Progress.{Progress}
 use Rattle.casefile.specs.Record.{Row, Case}
 use Rattle.casefile.specs.Layout.{kindOf, fieldsOf, isRow, frameLength, hullLength, shortestHull, hullOf, rowOf, countOf, hullBytes, rowBytes, endBytes}
@@ -23,7 +22,7 @@ use Rattle.casefile.specs.Limits.{longestInput, mostRows, sizesFit, zone
 use Rattle.casefile.specs.Order.{outOfOrder, leavesOpen, endsOpen}
 use Rattle.casefile.specs.Table.{firstHolds, wrongHullFrame, wrongFrame, wrongZones, hullChecks, lineChecks}
 use Rattle.casefile.specs.Reading.{accepted, begin, inside, start, withRow, before, readFrom, reading}
-use Rattle.casefile.specs.Encode.{lineOf, rowLines, encode}
+use Rattle.casefile.specs.Encode.{rowLines, encode}
 use Rattle.casefile.specs.Valid.{Every, ClosesGroup, Follows, ValidHull, ValidRow, Valid}
 use Rattle.casefile.proofs.Checks.{hull-passed, row-line-passes, end-line-passes}
 use Rattle.casefile.proofs.Steps.{not-too-long, line-passes, row-passes-on, end-passes-on}
@@ -38,14 +37,9 @@ use Rattle.casefile.proofs.Chain.{OrderedFrom, from-start}
 abbrev closedLine : List ℕ → Line
 closedLine bs = record { text = hex bs; closed = true }
 
-module _ (bs : List ℕ) (o : Octets bs) where
-  lines-of : (rest : List ℕ) → lines (lineOf bs ++ rest) ≡ closedLine bs ∷ lines rest
-  unfolding lineOf
-  lines-of rest = ap lines (append-assoc (hex bs) (10 ∷ []) rest) ∙ lines-closed (hex bs) rest (feedless bs o)
-
-  written-well : 0 < length bs → badlyWritten (closedLine bs) ≡ false
-  unfolding badlyWritten
-  written-well h = rw (proper-hex bs o h) refl
+written-well : (bs : List ℕ) → Octets bs → 0 < length bs → badlyWritten (closedLine bs) ≡ false
+unfolding badlyWritten
+written-well bs o h = rw (proper-hex bs o h) refl
 
 -- ---- the end
 
@@ -83,7 +77,7 @@ module _ (h : Hull) (p : Progress) (n : ℕ) (going : p .ended ≡ false) where
       (record { going = going; written = written-well E (end-octets (p .rows)) (end-some (p .rows)); frame = rw same (end-frame (p .rows)) })
       no-row
       (record { counts = rw same (end-count (p .rows) few); closed = nothing-open o }) in
-      ap (readFrom (inside h p) n) (ap lines (sym (append-nil (lineOf E))) ∙ lines-of E (end-octets (p .rows)) [])
+      ap (readFrom (inside h p) n) (ap lines (sym (append-nil (lineOf E))) ∙ line-in-front E [] (end-octets (p .rows)))
       ∙ end-passes-on h p l n [] passes no-row
 
   -- ---- a row
@@ -115,7 +109,7 @@ module _ (h : Hull) (p : Progress) (n : ℕ) (going : p .ended ≡ false) where
         (record { going = going; written = written-well R (row-octets h r s z v) (row-some); frame = rw same (row-frame) })
         is
         (rw again (record { few = few; fits = holds (rowFits h r) (v .limits); order = a; closed = b })) in
-        ap (readFrom (inside h p) n) (lines-of R (row-octets h r s z v) rest)
+        ap (readFrom (inside h p) n) (line-in-front R rest (row-octets h r s z v))
         ∙ row-passes-on h p l n (lines rest) passes is
         ∙ ap (λ (x : Row). before x (readFrom (inside h (withRow p x)) (n + 1) (lines rest))) again
 
@@ -162,7 +156,7 @@ module _ (h : Hull) (s : Sizes h) (z : Zones h) (v : ValidHull h) where
         sizes = rw hull-there (holds (sizesFit h) (v .sizes));
         zones = rw (hull-there, same-bytes) hull-zones;
       }) in
-      ap (readFrom begin n) (lines-of (hullBytes h) o rest)
+      ap (readFrom begin n) (line-in-front (hullBytes h) rest o)
       ∙ line-passes begin n l (lines rest) passes
       ∙ ap (λ (x : Hull). readFrom (inside x start) (n + 1) (lines rest)) hull-there
 

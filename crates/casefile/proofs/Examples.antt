@@ -8,7 +8,7 @@ use Rattle.laws.specs.Bytes.{bytes}
 use Rattle.records.specs.declared.Finding.{Finding}
 use Rattle.records.specs.declared.Hull.{Hull}
 use Rattle.frames.specs.Lines.{lines}
-use Rattle.frames.specs.Hex.{digitOf, pairOf, pairs, digitsOnly, proper, badlyWritten, digit, hex}
+use Rattle.frames.specs.Hex.{digitOf, pairOf, pairs, digitsOnly, proper, badlyWritten, digit, hex, lineOf}
 use Rattle.frames.specs.Fields.{wordAt}
 use Rattle.casefile.specs.Record.{Row, Case}
 use Rattle.casefile.specs.Layout.{frameLength, placeOf, hullOf, headOf, findingOf, resultsOf, hullBytes, findingBytes, rowBytes, endBytes}
@@ -16,7 +16,7 @@ use Rattle.casefile.specs.Limits.{between, sizesFit, risingTo, zonesFit,
 use Rattle.casefile.specs.Order.{atTop, closesGroup, sameGroup, sameLayer, earlierGroup, outOfOrder, leavesOpen, endsOpen}
 use Rattle.casefile.specs.Table.{firstHolds, wrongHullFrame, wrongFrame, wrongZones, hullChecks, rowChecks, endChecks, lineChecks}
 use Rattle.casefile.specs.Reading.{Reading, refused, accepted, start, readFrom, reading}
-use Rattle.casefile.specs.Encode.{lineOf, rowLines, encode}
+use Rattle.casefile.specs.Encode.{rowLines, encode}
 
 -- 0126ac064017700fa00205dc
 abbrev hullLine : List ℕ

@@ -1,9 +1,3 @@
-pub mod CodeWalking
-pub mod CodeRunning
-pub mod CodeOpening
-pub mod CodeJudging
-pub mod CodeLimits
-pub mod CodeReaders
 pub mod Examples
 pub mod Checks
 pub mod Steps

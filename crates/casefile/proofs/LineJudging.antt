@@ -1,4 +1,4 @@
--- A line's judging check by check, in the table's order: what it answers where one holds, and what is left where it does not. Assumes nothing.
+-- What a line's answer says: the number of the first check that holds, or the kind and the fields of a line that passes. Assumes nothing.
 use Prim.Native.Nat.{ℕ}
 use mathlib.Core.Path.{_≡_, refl, sym, _∙_, ap}
 use mathlib.Core.Bool.{Bool, true, false, cond}
@@ -7,40 +7,16 @@ use lib.Dec.{eqb}
 use borrow.Author.Tests.{eqb-true}
 use Rattle.records.specs.declared.Hull.{Hull}
 use Rattle.frames.specs.Lines.{Line}
-use Rattle.frames.specs.Hex.{pairs, badlyWritten}
+use Rattle.frames.specs.Hex.{pairs}
 use Rattle.frames.specs.Fields.{wordAt}
 use Rattle.frames.proofs.Tests.{picked}
 use Rattle.casefile.specs.declared.Frame.{Frame}
 use Rattle.casefile.specs.declared.Progress.{Progress}
-use Rattle.casefile.specs.Layout.{kindOf, fieldsOf, isRow, hullOf, headOf, rowOf, countOf}
-use Rattle.casefile.specs.Limits.{sizesFit}
-use Rattle.casefile.specs.Table.{firstHolds, wrongHullFrame, wrongFrame, wrongZones, hullChecks, rowChecks, endChecks, lineChecks}
+use Rattle.casefile.specs.Layout.{kindOf, fieldsOf, isRow, headOf, rowOf, countOf}
+use Rattle.casefile.specs.Table.{firstHolds, lineChecks}
 use Rattle.casefile.specs.Answer.{numberOf, valuesOf, frameOf, judged, SaysTheLine}
-use Rattle.casefile.proofs.Checks.{LinePasses, passes-first, passed-first}
+use Rattle.casefile.proofs.Checks.{LinePasses, passes-first}
 use Rattle.casefile.proofs.Passing.{fits}
-
--- ---- line 1
-
-module _ (l : Line) where
-  pub hull-badly : badlyWritten l ≡ true → firstHolds (hullChecks l) ≡ 2
-  unfolding hullChecks firstHolds
-  hull-badly e = rw e refl
-
-  module _ (w : badlyWritten l ≡ false) where
-    pub hull-frame : wrongHullFrame (pairs (l .text)) ≡ true → firstHolds (hullChecks l) ≡ 3
-    unfolding hullChecks firstHolds
-    hull-frame e = rw (w, e) refl
-
-    module _ (f : wrongHullFrame (pairs (l .text)) ≡ false) where
-      pub hull-sizes : sizesFit (hullOf (fieldsOf (pairs (l .text)))) ≡ false → firstHolds (hullChecks l) ≡ 4
-      unfolding hullChecks firstHolds
-      hull-sizes e = rw (w, f, e) refl
-
-      pub hull-zones : sizesFit (hullOf (fieldsOf (pairs (l .text)))) ≡ true → firstHolds (hullChecks l) ≡ cond (wrongZones (pairs (l .text)) (hullOf (fieldsOf (pairs (l .text))))) 5 0
-      unfolding hullChecks firstHolds
-      hull-zones e = rw (w, f, e) refl
-
--- ---- a later line
 
 module _ (h : Hull) (p : Progress) (l : Line) where
   abbrev bytes : List ℕ
@@ -57,30 +33,6 @@ module _ (h : Hull) (p : Progress) (l : Line) where
   end-frame : isRow (kindOf bytes) ≡ false → frameOf bytes ≡ Frame.End (countOf bytes)
   unfolding frameOf
   end-frame r = rw r refl
-
-  pub after-the-end : p .ended ≡ true → judged h p l ≡ Frame.Wrong 10
-  unfolding judged lineChecks firstHolds
-  after-the-end e = rw e refl
-
-  module _ (g : p .ended ≡ false) where
-    pub badly : badlyWritten l ≡ true → judged h p l ≡ Frame.Wrong 2
-    unfolding judged lineChecks firstHolds
-    badly e = rw (g, e) refl
-
-    module _ (w : badlyWritten l ≡ false) where
-      pub no-frame : wrongFrame bytes ≡ true → judged h p l ≡ Frame.Wrong 3
-      unfolding judged lineChecks firstHolds
-      no-frame e = rw (g, w, e) refl
-
-      module _ (f : wrongFrame bytes ≡ false) where
-        passed : LinePasses p l
-        passed = record { going = g; written = w; frame = f }
-
-        pub a-row : (k : ℕ) → isRow (kindOf bytes) ≡ true → firstHolds (rowChecks h p (rowOf bytes)) ≡ k → judged h p l ≡ cond (eqb k 0) (Frame.Row (rowOf bytes .head)) (Frame.Wrong k)
-        a-row k r e = rw (← row-frame r) (by-number k (passed-first h p l passed ∙ rw r e))
-
-        pub an-end : (k : ℕ) → isRow (kindOf bytes) ≡ false → firstHolds (endChecks h p (countOf bytes)) ≡ k → judged h p l ≡ cond (eqb k 0) (Frame.End (countOf bytes)) (Frame.Wrong k)
-        an-end k r e = rw (← end-frame r) (by-number k (passed-first h p l passed ∙ rw r e))
 
 -- ---- what the answer says
 

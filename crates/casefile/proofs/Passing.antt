@@ -12,7 +12,7 @@ use borrow.Author.Tests.{ltb-false, eqb-true, not-false}
 use Rattle.laws.specs.Bytes.{Octets}
 use Rattle.records.specs.declared.Hull.{Hull}
 use Rattle.frames.specs.Lines.{Line}
-use Rattle.frames.specs.Hex.{pairs, proper, badlyWritten}
+use Rattle.frames.specs.Hex.{pairs, proper, badlyWritten, lineOf}
 use Rattle.frames.specs.Fields.{byteAt}
 use Rattle.frames.proofs.Tests.{neither, one-holds, proved}
 use Rattle.frames.proofs.Lines.{written}
@@ -21,7 +21,6 @@ use Rattle.frames.proofs.Fields.{octets-drop}
 use Rattle.casefile.specs.Layout.{kindOf, fieldsOf, isHull, isRow, isEnd, frameLength, hullLength, shortestHull, hullOf, headOf, findingOf, resultsOf, rowOf, countOf, hullBytes, rowBytes, endBytes}
 use Rattle.casefile.specs.Limits.{sizesFit, zonesFit, rowFits}
 use Rattle.casefile.specs.Table.{wrongHullFrame, wrongFrame, wrongZones}
-use Rattle.casefile.specs.Encode.{lineOf}
 use Rattle.casefile.specs.Valid.{ValidHull, Formed, found, given, ValidRow}
 use Rattle.casefile.proofs.Checks.{HullPasses}
 use Rattle.casefile.proofs.Limits.{Zones, zones-are}

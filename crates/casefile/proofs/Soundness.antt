@@ -11,7 +11,7 @@ use lib.ListN.{length}
 use borrow.Author.Tests.{eqb-true, eqb-false, ltb-true, ltb-false}
 use Rattle.records.specs.declared.Hull.{Hull}
 use Rattle.frames.specs.Lines.{Line, lines}
-use Rattle.frames.specs.Hex.{pairs}
+use Rattle.frames.specs.Hex.{pairs, lineOf}
 use Rattle.frames.proofs.Lines.{written, together, together-lines}
 use Rattle.casefile.specs.declared.Progress.{Progress}
 use Rattle.casefile.specs.Record.{Row, Case}
@@ -20,7 +20,7 @@ use Rattle.casefile.specs.Limits.{longestInput, mostRows}
 use Rattle.casefile.specs.Order.{outOfOrder, leavesOpen, endsOpen}
 use Rattle.casefile.specs.Table.{firstHolds, lineChecks}
 use Rattle.casefile.specs.Reading.{Reading, refused, accepted, Stage, begin, inside, start, withRow, withEnd, checks, next, before, gathered, readFrom, reading}
-use Rattle.casefile.specs.Encode.{lineOf, rowLines, encode}
+use Rattle.casefile.specs.Encode.{rowLines, encode}
 use Rattle.casefile.specs.Valid.{Every, ClosesGroup, Follows, ValidRow, Valid}
 use Rattle.casefile.proofs.Checks.{LinePasses, HullPasses, RowPasses, EndPasses, hull-passes, passes-first, line-of-row, line-of-end}
 use Rattle.casefile.proofs.Steps.{not-too-long, too-long, line-passes, line-refused}

@@ -2,13 +2,9 @@
 use Prim.Native.Nat.{ℕ}
 use mathlib.Core.List.{List, [], _∷_, _++_}
 use lib.ListN.{length}
-use Rattle.frames.specs.Hex.{hex}
+use Rattle.frames.specs.Hex.{lineOf}
 use Rattle.casefile.specs.Record.{Row, Case}
 use Rattle.casefile.specs.Layout.{hullBytes, rowBytes, endBytes}
-
--- one frame a line, closed by a line feed
-unfoldable pub lineOf : List ℕ → List ℕ
-lineOf bs = hex bs ++ 10 ∷ []
 
 unfoldable pub rowLines : List Row → List ℕ
 rowLines [] = []

@@ -1,19 +1,7 @@
-// The case file: from bytes to a case, or to a refusal's number and line.
+// Theorems only: the case file is in specs/, what is proved of it in proofs/. The values that its judging hands on stand here.
 use records::Finding;
 use records::Hull;
 use records::RowHead;
-
-pub mod follows; // the order of rows
-pub mod judging; // a line by the table of refusals
-pub mod opening; // line 1
-mod readers; // records from fields
-pub mod running; // the lines in turn
-pub mod walking; // row by row
-pub mod within; // the limits of a hull and of a row
-
-pub use running::judge;
-pub use running::judge_rows;
-pub use walking::row_at;
 
 // What a line after the hull is: a row's head, the end's count, or a refusal's number.
 pub enum Frame {

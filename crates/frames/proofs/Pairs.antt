@@ -1,8 +1,8 @@
 -- A line of digits and its bytes: the way there and back, and the line's pairs one by one. Assumes nothing.
 use Prim.Native.Nat.{ℕ, zero, suc, _+_, _*_, _/_, _%_, _<_}
-use mathlib.Core.Path.{_≡_, refl, ap}
+use mathlib.Core.Path.{_≡_, refl, _∙_, ap}
 use mathlib.Core.Bool.{true, _&&_, false≢true}
-use mathlib.Core.List.{List, [], _∷_, _++_}
+use mathlib.Core.List.{List, [], _∷_, _++_, append-assoc}
 use native.Mathlib.Omega.{arith}
 use lib.Dec.{ltb, eqb, lit<}
 use lib.ListN.{length}
@@ -10,9 +10,10 @@ use borrow.Author.Tests.{lt-ltb, ltb-true, eq-eqb, eqb-true}
 use Rattle.laws.specs.Bytes.{Octets}
 use Rattle.frames.specs.declared.Digit.{Digit}
 use Rattle.frames.specs.declared.Digit.the-variants.{Value, Bad}
-use Rattle.frames.specs.Hex.{digitOf, refusalOf, pairOf, before, pairs, digitsOnly, proper, hex}
+use Rattle.frames.specs.Lines.{lines}
+use Rattle.frames.specs.Hex.{digitOf, refusalOf, pairOf, before, pairs, digitsOnly, proper, hex, lineOf}
 use Rattle.frames.proofs.Tests.{both}
-use Rattle.frames.proofs.Lines.{NoFeed}
+use Rattle.frames.proofs.Lines.{NoFeed, lines-closed}
 use Rattle.frames.proofs.Hex.{value-of-digit, digit-no-feed, pair-below, pair-again, pair-of-digits}
 
 -- ---- bytes to digits
@@ -56,6 +57,11 @@ feedless [] o = tt
 feedless (b ∷ bs) o =
     let h : b < 256 = o 0 in
     (digit-no-feed (b / 16) (omega arith), (digit-no-feed (b % 16) (omega arith), feedless bs (octets-rest b bs o)))
+
+-- a frame's line in front of a text is its first
+pub line-in-front : (frame text : List ℕ) → Octets frame → lines (lineOf frame ++ text) ≡ record { text = hex frame; closed = true } ∷ lines text
+unfolding lineOf
+line-in-front frame text o = ap lines (append-assoc (hex frame) (10 ∷ []) text) ∙ lines-closed (hex frame) text (feedless frame o)
 
 -- ---- digits to bytes
 

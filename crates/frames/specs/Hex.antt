@@ -1,7 +1,7 @@
 -- Document 01, "The case file": lower-case hexadecimal, two digits a byte, the high one first. Assumes nothing.
 use Prim.Native.Nat.{ℕ, _+_, _-_, _*_, _/_, _%_}
 use mathlib.Core.Bool.{Bool, true, cond, not, _&&_, _||_}
-use mathlib.Core.List.{List, [], _∷_}
+use mathlib.Core.List.{List, [], _∷_, _++_}
 use lib.ListN.{length}
 use lib.Dec.{leb, ltb, eqb}
 use Rattle.frames.specs.declared.Digit.{Digit}
@@ -62,3 +62,7 @@ digit n = cond (ltb n 10) (48 + n) (87 + n)
 unfoldable pub hex : List ℕ → List ℕ
 hex [] = []
 hex (b ∷ bs) = digit (b / 16) ∷ digit (b % 16) ∷ hex bs
+
+-- one frame a line, closed by a line feed
+unfoldable pub lineOf : List ℕ → List ℕ
+lineOf frame = hex frame ++ 10 ∷ []

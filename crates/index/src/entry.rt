@@ -66,7 +66,7 @@ fn complete(input: &[u8], h: Hull, rows: u64, sheet: &mut [u64]) -> Answer
 pub fn answer(input: &[u8], sheet: &mut [u64]) -> Answer
     ensures { λ r. ⌜ (r ≡ answered (reading (now (input .entry))) (length (now (sheet .entry)))) × (now (sheet .exit) ≡ sheetAfter (reading (now (input .entry))) (now (sheet .entry))) ⌝ }
 {
-    let judged = casefile::judge(input);
+    let judged = reader::judge(input);
     if judged.number != 0 {
         return refuse(judged.number, judged.line);
     }

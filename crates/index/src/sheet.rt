@@ -55,7 +55,7 @@ pub fn fill(input: &[u8], from: usize, rows: usize, h: Hull, t: &[u64], sheet: &
     let mut place = from;
     let mut i: usize = 0;
     while i < rows {
-        let p = casefile::row_at(input, place);
+        let p = rowlines::row_at(input, place);
         let head = p.head;
         let results = p.results;
         s = enter(t, h, at, s, head, results);

@@ -5,8 +5,8 @@ use mathlib.Core.List.{List, [], _∷_, _++_}
 use lib.ListN.{length, take}
 use Rattle.laws.specs.Bytes.{bytes}
 use Rattle.records.specs.declared.Answer.{Answer}
-use Rattle.frames.specs.Hex.{digit, hex}
-use Rattle.printing.specs.Printed.{refusalFrame, endsField, partialField, partialsField, figuresFrame, shareFrame, lineOf, shareLines, printed, printedLength}
+use Rattle.frames.specs.Hex.{digit, hex, lineOf}
+use Rattle.printing.specs.Printed.{refusalFrame, endsField, partialField, partialsField, figuresFrame, shareFrame, shareLines, printed, printedLength}
 use Rattle.printing.specs.Written.{textOf, canPrint, lengthOf, writtenOf}
 
 -- the definitions, open to computation

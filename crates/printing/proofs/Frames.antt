@@ -9,9 +9,9 @@ use Rattle.laws.specs.Bytes.{bytes}
 use Rattle.laws.proofs.Bytes.{length-bytes}
 use Rattle.records.specs.declared.Trio.{Trio}
 use Rattle.records.specs.declared.Answer.{Answer}
-use Rattle.frames.specs.Hex.{digit, hex}
+use Rattle.frames.specs.Hex.{digit, hex, lineOf}
 use Rattle.printing.specs.Splice.{splice}
-use Rattle.printing.specs.Printed.{refusalFrame, endsField, partialField, partialsField, figuresFrame, shareFrame, lineOf}
+use Rattle.printing.specs.Printed.{refusalFrame, endsField, partialField, partialsField, figuresFrame, shareFrame}
 use Rattle.printing.proofs.Text.{two-digits, bytes-append, digits-then, feed-then}
 
 -- ---- how long each is

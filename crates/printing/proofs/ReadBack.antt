@@ -11,10 +11,9 @@ use Rattle.laws.specs.Bytes.{Octets, number, bytes}
 use Rattle.laws.proofs.Bytes.{length-bytes, bytes-octets, number-bytes-all}
 use Rattle.records.specs.declared.Answer.{Answer}
 use Rattle.frames.specs.Lines.{lines}
-use Rattle.frames.specs.Hex.{hex}
-use Rattle.frames.proofs.Lines.{lines-closed}
-use Rattle.frames.proofs.Pairs.{octets-cons, octets-rest, pairs-hex, feedless}
-use Rattle.printing.specs.Printed.{refusalFrame, endsField, partialField, partialsField, figuresFrame, shareFrame, lineOf, shareLines, printed}
+use Rattle.frames.specs.Hex.{lineOf}
+use Rattle.frames.proofs.Pairs.{octets-cons, octets-rest, pairs-hex, line-in-front}
+use Rattle.printing.specs.Printed.{refusalFrame, endsField, partialField, partialsField, figuresFrame, shareFrame, shareLines, printed}
 use Rattle.printing.specs.ReadBack.{refusal, figures, endsOf, toldBy, fours, sharesIn, toldIn, frameIn, readBack, Short, Printable, ReadsBack}
 
 -- ---- bytes
@@ -49,8 +48,7 @@ share-octets lower upper = octets-cons 130 (endsField lower upper) (lit< tt) (en
 -- ---- lines
 
 next-frame : (frame text : List ℕ) → Octets frame → map frameIn (lines (lineOf frame ++ text)) ≡ frame ∷ map frameIn (lines text)
-unfolding lineOf
-next-frame frame text o = rw (append-assoc, lines-closed (hex frame) text (feedless frame o), pairs-hex frame o) refl
+next-frame frame text o = rw (line-in-front frame text o, pairs-hex frame o) refl
 
 -- ---- numbers of four bytes
 

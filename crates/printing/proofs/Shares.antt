@@ -6,8 +6,9 @@ use native.Mathlib.Numerals.{add-one}
 use native.Mathlib.Omega.{arith}
 use lib.ListN.{length, getD, take, drop, length-append, drop-of-length-le}
 use lib.Seq.{drop-cons, getD-take, length-take-le}
+use Rattle.frames.specs.Hex.{lineOf}
 use Rattle.printing.specs.Splice.{splice}
-use Rattle.printing.specs.Printed.{shareFrame, lineOf, shareLines}
+use Rattle.printing.specs.Printed.{shareFrame, shareLines}
 use Rattle.printing.proofs.Splice.{splice-join, splice-none, length-splice}
 use Rattle.printing.proofs.Text.{length-line}
 use Rattle.printing.proofs.Frames.{length-share}

@@ -7,10 +7,9 @@ use native.Mathlib.Omega.{arith}
 use lib.Pow.{pow-add}
 use lib.ListN.{length, length-append}
 use Rattle.laws.specs.Bytes.{bytes}
-use Rattle.frames.specs.Hex.{digit, hex}
+use Rattle.frames.specs.Hex.{digit, hex, lineOf}
 use Rattle.frames.proofs.Pairs.{length-hex}
 use Rattle.printing.specs.Splice.{splice}
-use Rattle.printing.specs.Printed.{lineOf}
 use Rattle.printing.proofs.Splice.{splice-then}
 
 pub hex-append : (xs ys : List ℕ) → hex (xs ++ ys) ≡ hex xs ++ hex ys

@@ -7,7 +7,7 @@ use lib.ListN.{getD}
 use Rattle.laws.specs.Bytes.{bytes}
 use Rattle.records.specs.declared.Trio.{Trio}
 use Rattle.records.specs.declared.Answer.{Answer}
-use Rattle.frames.specs.Hex.{hex}
+use Rattle.frames.specs.Hex.{lineOf}
 
 -- ---- frames
 
@@ -36,10 +36,6 @@ unfoldable pub shareFrame : ℕ → ℕ → List ℕ
 shareFrame lower upper = 130 ∷ endsField lower upper
 
 -- ---- lines
-
--- one frame a line, closed by a line feed
-unfoldable pub lineOf : List ℕ → List ℕ
-lineOf frame = hex frame ++ 10 ∷ []
 
 -- a line for each row: the numbers are its share's ends, lower then upper, in row order; a number left alone is no row's
 unfoldable pub shareLines : List ℕ → List ℕ

@@ -47,7 +47,7 @@ pub extern "C" fn probe_height(below: u64, height: u64, draught: u64) -> u64
 pub extern "C" fn probe_number(input: &[u8]) -> u64
     ensures { λ r. ⌜ r ≡ judgementOf (reading (now (input .entry))) .number ⌝ }
 {
-    casefile::judge(input).number
+    reader::judge(input).number
 }
 
 // Its line.
@@ -55,7 +55,7 @@ pub extern "C" fn probe_number(input: &[u8]) -> u64
 pub extern "C" fn probe_line(input: &[u8]) -> u64
     ensures { λ r. ⌜ r ≡ judgementOf (reading (now (input .entry))) .line ⌝ }
 {
-    casefile::judge(input).line
+    reader::judge(input).line
 }
 
 // The row count of a file that is accepted.
@@ -63,5 +63,5 @@ pub extern "C" fn probe_line(input: &[u8]) -> u64
 pub extern "C" fn probe_rows(input: &[u8]) -> u64
     ensures { λ r. ⌜ r ≡ judgementOf (reading (now (input .entry))) .rows ⌝ }
 {
-    casefile::judge(input).rows
+    reader::judge(input).rows
 }

@@ -1,0 +1,161 @@
+-- Line 1, step by step as the code goes: a hull's number, the record from a buffer that is longer than the line or shorter, the line. Assumes nothing.
+use Prim.Native.Nat.{ℕ, _+_, _-_, _*_, _≤_, _<_}
+use mathlib.Core.Path.{_≡_, refl, sym, _∙_, ap}
+use mathlib.Core.Bool.{true, false, not, _&&_, or-true}
+use mathlib.Core.List.{List}
+use native.Mathlib.Omega.{arith}
+use lib.Dec.{leb, eqb}
+use lib.ListN.{length, getD, take, drop, replicate, length-drop}
+use lib.Seq.{sets, length-sets, take-all, getD-drop}
+use borrow.Author.Tests.{lt-ltb, le-ltb, leb-true, eq-eqb, ne-eqb}
+use Rattle.laws.proofs.Lists.{tabulate-same}
+use Rattle.records.specs.declared.Hull.{Hull}
+use Rattle.frames.specs.declared.Written.the-variants.{Bytes}
+use Rattle.frames.specs.Lines.{Line}
+use Rattle.frames.specs.Hex.{pairs, proper, badlyWritten}
+use Rattle.frames.specs.Decoding.{writtenOf}
+use Rattle.frames.specs.Fields.{byteAt, wordAt}
+use Rattle.frames.proofs.Tests.{both}
+use Rattle.frames.proofs.CodeDecoding.{well-written, byte-stored}
+use Rattle.casefile.specs.declared.Judgement.{Judgement}
+use Rattle.casefile.specs.Layout.{kindOf, fieldsOf, placeOf, hullOf}
+use Rattle.casefile.specs.Limits.{between, sizesFit, zonesFit}
+use Rattle.casefile.specs.Table.{firstHolds, wrongHullFrame, wrongZones, hullChecks}
+use Rattle.casefile.specs.Reading.{refused}
+use Rattle.casefile.specs.Answer.{judgementOf}
+use Rattle.casefile.specs.Judging.{hullNumber, hullGiven, hullJudged, firstJudged}
+use Rattle.casefile.proofs.Checks.{first-passed}
+
+-- ---- the number of a hull
+
+module _ (h : Hull) (n : ℕ) where
+  pub sizes-wrong : sizesFit h ≡ false → 4 ≡ hullNumber h n
+  unfolding hullNumber firstHolds
+  sizes-wrong e = rw e refl
+
+  module _ (sizes : sizesFit h ≡ true) where
+    pub zones-wrong : zonesFit h ≡ false → 5 ≡ hullNumber h n
+    unfolding hullNumber firstHolds
+    zones-wrong e = rw (sizes, e) refl
+
+    module _ (zones : zonesFit h ≡ true) where
+      pub length-wrong : (n ≡ 8 + 2 * h .zones → ⊥) → 5 ≡ hullNumber h n
+      unfolding hullNumber firstHolds
+      length-wrong f = rw (sizes, zones, ne-eqb n (8 + 2 * h .zones) f) refl
+
+      pub hull-right : n ≡ 8 + 2 * h .zones → 0 ≡ hullNumber h n
+      unfolding hullNumber firstHolds
+      hull-right e = rw (sizes, zones, eq-eqb n (8 + 2 * h .zones) e) refl
+
+pub few-zones : (h : Hull) → zonesFit h ≡ true → h .zones ≤ 20
+unfolding zonesFit between
+few-zones h e =
+    let (a, b) = both (leb 1 (h .zones) && leb (h .zones) 20) _ e in
+    let (c, d) = both (leb 1 (h .zones)) (leb (h .zones) 20) a in
+    leb-true (h .zones) 20 d
+
+-- ---- the hull by its number
+
+module _ (h g : Hull) (n k : ℕ) (e : h ≡ g) (f : k ≡ hullNumber h n) where
+  same : hullNumber g n ≡ k
+  same = sym (f ∙ rw e refl)
+
+  pub hull-refused : (k ≡ 0 → ⊥) → (r : Judgement) → r ≡ judgementOf (refused k 1) → r ≡ hullJudged g n
+  unfolding hullJudged
+  hull-refused d r q = q ∙ rw (same, ne-eqb k 0 d) refl
+
+  pub hull-given : k ≡ 0 → hullGiven h ≡ hullJudged g n
+  unfolding hullJudged
+  hull-given d = rw (same, eq-eqb k 0 d, e) refl
+
+-- ---- the record from a buffer
+
+-- what is read lies below 49
+module _ (f g : List ℕ) (same : (i : ℕ) → i < 49 → getD f i 0 ≡ getD g i 0) where
+  word-same : (at : ℕ) → at + 1 < 49 → wordAt f at ≡ wordAt g at
+  unfolding wordAt
+  word-same at h = rw (same at (omega arith), same (at + 1) h) refl
+
+  place-same : (m L k : ℕ) → k < 21 → placeOf (λ i. wordAt f (7 + 2 * i)) m L k ≡ placeOf (λ i. wordAt g (7 + 2 * i)) m L k
+  unfolding placeOf
+  place-same m L k h = rw (word-same (7 + 2 * k) (omega arith)) refl
+
+  pub hull-same : hullOf f ≡ hullOf g
+  unfolding hullOf
+  hull-same =
+      rw (
+        word-same 0 (omega arith),
+        word-same 2 (omega arith),
+        word-same 4 (omega arith),
+        word-same 6 (omega arith),
+        same 8 (omega arith),
+        tabulate-same (placeOf (λ i. wordAt f (7 + 2 * i)) (byteAt g 8) (wordAt g 0)) (placeOf (λ i. wordAt g (7 + 2 * i)) (byteAt g 8) (wordAt g 0)) 21 (λ k. place-same (byteAt g 8) (wordAt g 0) k),
+      )
+      refl
+
+module _ (bs out : List ℕ) (e : out ≡ sets (replicate 50 0) 0 bs) where
+  pub kind-stored : getD out 0 0 ≡ kindOf bs
+  kind-stored = rw e (byte-stored 50 0 bs (omega arith))
+
+  all-of-it : take 49 (drop 1 out) ≡ drop 1 out
+  all-of-it = take-all 49 (drop 1 out) (omega (arith, length-drop 1 out, ap length e, length-sets (replicate 50 0) 0 bs))
+
+  pub hull-stored : hullOf (take 49 (drop 1 out)) ≡ hullOf (fieldsOf bs)
+  hull-stored =
+      rw all-of-it
+      (hull-same (drop 1 out) (drop 1 bs)
+      (λ i h. getD-drop 1 out i 0 ∙ rw e (byte-stored 50 (1 + i) bs (omega arith)) ∙ sym (getD-drop 1 bs i 0)))
+
+-- ---- the line
+
+module _ (l : Line) where
+  badly : badlyWritten l ≡ true → judgementOf (refused 2 1) ≡ firstJudged l
+  unfolding firstJudged firstHolds hullChecks
+  badly e = rw e refl
+
+  module _ (written : badlyWritten l ≡ false) where
+    wrong : wrongHullFrame (pairs (l .text)) ≡ true → judgementOf (refused 3 1) ≡ firstJudged l
+    unfolding firstJudged firstHolds hullChecks
+    wrong e = rw (written, e) refl
+
+    right : wrongHullFrame (pairs (l .text)) ≡ false → hullJudged (hullOf (fieldsOf (pairs (l .text)))) (length (pairs (l .text))) ≡ firstJudged l
+    unfolding firstJudged hullJudged hullNumber hullChecks wrongZones
+    right e = rw (first-passed 2 (badlyWritten l) _ written, first-passed 3 (wrongHullFrame (pairs (l .text))) _ e) refl
+
+-- a frame that is none of a hull
+module _ (bs : List ℕ) where
+  too-short : length bs < 10 → wrongHullFrame bs ≡ true
+  unfolding wrongHullFrame
+  too-short h = rw (lt-ltb (length bs) 10 h) (or-true (not (eqb (kindOf bs) 1)))
+
+  other-kind : (kindOf bs ≡ 1 → ⊥) → wrongHullFrame bs ≡ true
+  unfolding wrongHullFrame
+  other-kind f = rw (ne-eqb (kindOf bs) 1 f) refl
+
+  hull-frame : 10 ≤ length bs → kindOf bs ≡ 1 → wrongHullFrame bs ≡ false
+  unfolding wrongHullFrame
+  hull-frame h e = rw (eq-eqb (kindOf bs) 1 e, le-ltb (length bs) 10 h) refl
+
+module _ (text : List ℕ) where
+  pub first-not-closed : judgementOf (refused 2 1) ≡ firstJudged (record { text = text; closed = false })
+  first-not-closed = badly _ (unfold badlyWritten in or-true (not (proper text)))
+
+  pub first-no-digits : proper text ≡ false → judgementOf (refused 2 1) ≡ firstJudged (record { text = text; closed = true })
+  first-no-digits e = badly _ (unfold badlyWritten in rw e refl)
+
+  module _ (n : ℕ) (w : writtenOf text ≡ Bytes n) where
+    count : n ≡ length (pairs text)
+    count = well-written text n w .1
+
+    well : badlyWritten (record { text = text; closed = true }) ≡ false
+    unfolding badlyWritten
+    well = rw (well-written text n w .0) refl
+
+    pub first-short : n < 10 → judgementOf (refused 3 1) ≡ firstJudged (record { text = text; closed = true })
+    first-short h = wrong _ well (too-short (pairs text) (omega (arith, count)))
+
+    pub first-other : (kindOf (pairs text) ≡ 1 → ⊥) → judgementOf (refused 3 1) ≡ firstJudged (record { text = text; closed = true })
+    first-other f = wrong _ well (other-kind (pairs text) f)
+
+    pub first-hull : (h : Hull) (r : Judgement) → 10 ≤ n → kindOf (pairs text) ≡ 1 → h ≡ hullOf (fieldsOf (pairs text)) → r ≡ hullJudged h n → r ≡ firstJudged (record { text = text; closed = true })
+    first-hull h r l e f g = g ∙ rw (f, count) (right _ well (hull-frame (pairs text) (omega (arith, count)) e))

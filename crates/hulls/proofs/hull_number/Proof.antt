@@ -1,0 +1,47 @@
+-- `hull_number` meets its contract. Assumes nothing.
+use mathlib.Core.Path.{sym, _∙_}
+use borrow.Author.Tests.{not-true, not-false}
+use Rattle.hulls.proofs.CodeOpening.{sizes-wrong, zones-wrong, length-wrong, hull-right, few-zones}
+use borrow.Author.Needs.{needs}
+use native.Mathlib.Omega.{arith}
+use Rattle.hulls.proofs.hull_number.Statement.{statement}
+use Rattle.hulls.proofs.hull_number.Tie as tie
+
+sizes-fit-requires : tie.Need-sizes-fit-requires
+sizes-fit-requires c κs = search needs
+
+returns : tie.Need-returns
+returns c = sizes-wrong _ _ (sym (c .before .sizes-fit .ensures) ∙ not-true _ (c .if1 .taken))
+
+zones-fit-requires : tie.Need-zones-fit-requires
+zones-fit-requires c κs = search needs
+
+returns-2 : tie.Need-returns-2
+returns-2 c = zones-wrong _ _ (sym (c .before .before .before .sizes-fit .ensures) ∙ not-false _ (c .before .before .if1 .left)) (sym (c .before .zones-fit .ensures) ∙ not-true _ (c .if2 .taken))
+
+mul-if3 : tie.Need-mul-if3
+mul-if3 c = omega (arith, few-zones _ (sym (c .before .zones-fit .ensures) ∙ not-false _ (c .if2 .left)))
+
+add-if3 : tie.Need-add-if3
+add-if3 c = omega (arith, few-zones _ (sym (c .before .zones-fit .ensures) ∙ not-false _ (c .if2 .left)))
+
+returns-3 : tie.Need-returns-3
+returns-3 c =
+    length-wrong _ _ (sym (c .before .before .before .before .sizes-fit .ensures) ∙ not-false _ (c .before .before .before .if1 .left)) (sym (c .before .before .zones-fit .ensures) ∙ not-false _ (c .before .if2 .left)) (c .if3 .taken)
+
+returns-4 : tie.Need-returns-4
+returns-4 c =
+    hull-right _ _ (sym (c .before .before .before .before .sizes-fit .ensures) ∙ not-false _ (c .before .before .before .if1 .left)) (sym (c .before .before .zones-fit .ensures) ∙ not-false _ (c .before .if2 .left)) (c .if3 .left)
+
+pub hull-number-spec : {M : Type 1} → statement M
+hull-number-spec =
+    tie.close
+    (tie.spec
+    sizes-fit-requires
+    returns
+    zones-fit-requires
+    returns-2
+    mul-if3
+    add-if3
+    returns-3
+    returns-4)

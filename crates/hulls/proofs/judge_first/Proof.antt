@@ -1,0 +1,100 @@
+-- `judge_first` meets its contract: what a hull record has goes into the buffer. Assumes nothing.
+use mathlib.Core.Path.{sym, _∙_}
+use borrow.Author.Tests.{not-true, not-false}
+use denote.Ref.{now}
+use Rattle.frames.specs.Hex.{pairs}
+use Rattle.frames.proofs.CodeDecoding.{badly-written}
+use Rattle.hulls.proofs.CodeOpening.{first-not-closed, first-no-digits, first-short, first-other, first-hull, kind-stored, hull-stored}
+use borrow.Author.Needs.{needs}
+use native.Mathlib.Omega.{arith}
+use Rattle.hulls.proofs.judge_first.Statement.{statement}
+use Rattle.hulls.proofs.judge_first.Tie as tie
+
+refusal-requires : tie.Need-refusal-requires
+refusal-requires c κs = search needs
+
+returns : tie.Need-returns
+returns c = c .refusal .ensures ∙ rw (not-true (c .before .before .before .args .closed) (c .before .if1 .taken)) (first-not-closed _)
+
+slice-aggregate-decode-text : tie.Need-slice-aggregate-decode-text
+slice-aggregate-decode-text c = search needs
+
+decode-text-requires : tie.Need-decode-text-requires
+decode-text-requires c κs = search needs
+
+enum-known-n : tie.Need-enum-known-n
+enum-known-n c = search needs
+
+enum-told : tie.Need-enum-told
+enum-told c = search needs
+
+refusal-requires-2 : tie.Need-refusal-requires-2
+refusal-requires-2 c κs = search needs
+
+returns-2 : tie.Need-returns-2
+returns-2 c =
+    c .refusal2 .ensures
+    ∙ rw (not-false (c .before .before .before .before .before .before .before .before .args .closed) (c .before .before .before .before .before .before .if1 .left)) (first-no-digits _ (badly-written _ (sym (c .before .before .before .before .decode-text .ensures .0) ∙ c .before .enum-told .given .1)))
+
+refusal-requires-3 : tie.Need-refusal-requires-3
+refusal-requires-3 c κs = search needs
+
+returns-3 : tie.Need-returns-3
+returns-3 c =
+    c .refusal3 .ensures
+    ∙ rw (not-false (c .before .before .before .before .before .before .before .before .before .before .args .closed) (c .before .before .before .before .before .before .before .before .if1 .left)) (first-short _ _ (sym (c .before .before .before .before .before .before .decode-text .ensures .0) ∙ c .before .before .before .n .given .1) (c .before .if2 .taken))
+
+array-read-kind : tie.Need-array-read-kind
+array-read-kind c = search needs
+
+sub-judge-hull : tie.Need-sub-judge-hull
+sub-judge-hull c = search needs
+
+part-judge-hull-start : tie.Need-part-judge-hull-start
+part-judge-hull-start c = search needs
+
+part-judge-hull-end : tie.Need-part-judge-hull-end
+part-judge-hull-end c = search needs
+
+judge-hull-requires : tie.Need-judge-hull-requires
+judge-hull-requires c κs = search needs
+
+refusal-requires-4 : tie.Need-refusal-requires-4
+refusal-requires-4 c κs = search needs
+
+returns-4 : tie.Need-returns-4
+returns-4 c =
+    let w = sym (c .before .before .before .before .before .before .before .before .before .decode-text .ensures .0) ∙ c .before .before .before .before .before .before .n .given .1 in
+    let bs = pairs (now (c .before .before .before .before .before .before .before .before .before .before .before .before .before .args .text)) in
+    let stored = c .before .before .before .before .before .before .before .before .before .decode-text .ensures .1 in
+    rw (not-false (c .before .before .before .before .before .before .before .before .before .before .before .before .before .args .closed) (c .before .before .before .before .before .before .before .before .before .before .before .if1 .left)) (first-hull _ _ w _ _ (omega arith) (sym (kind-stored bs _ stored) ∙ c .before .before .before .match2 .keys1) (hull-stored bs _ stored) (c .judge-hull .ensures))
+
+returns-5 : tie.Need-returns-5
+returns-5 c =
+    let w = sym (c .before .before .before .before .before .before .before .decode-text .ensures .0) ∙ c .before .before .before .before .n .given .1 in
+    let bs = pairs (now (c .before .before .before .before .before .before .before .before .before .before .before .args .text)) in
+    c .refusal4 .ensures
+    ∙ rw (not-false (c .before .before .before .before .before .before .before .before .before .before .before .args .closed) (c .before .before .before .before .before .before .before .before .before .if1 .left)) (first-other _ _ w (λ f. c .before .match2 .rest .1 (kind-stored bs _ (c .before .before .before .before .before .before .before .decode-text .ensures .1) ∙ f)))
+
+pub judge-first-spec : {M : Type 1} → statement M
+judge-first-spec =
+    tie.close
+    (tie.spec
+    refusal-requires
+    returns
+    slice-aggregate-decode-text
+    decode-text-requires
+    enum-known-n
+    enum-told
+    refusal-requires-2
+    returns-2
+    refusal-requires-3
+    returns-3
+    array-read-kind
+    sub-judge-hull
+    part-judge-hull-start
+    part-judge-hull-end
+    judge-hull-requires
+    refusal-requires-4
+    returns-4
+    returns-5)

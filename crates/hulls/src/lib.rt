@@ -1,0 +1,87 @@
+// Line 1: the hull that it gives, or a refusal.
+ghost use mathlib.Core.Path.{_≡_};
+ghost use Rattle.casefile.specs.Layout.{hullOf};
+ghost use Rattle.casefile.specs.Reading.{refused};
+ghost use Rattle.casefile.specs.Answer.{judgementOf};
+ghost use Rattle.casefile.specs.Judging.{hullNumber, hullJudged, firstJudged};
+use casefile::Judgement;
+use frames::Written;
+use records::Hull;
+use rules::limits;
+
+mod readers; // the hull's record from fields
+
+// A refusal's number and line, and zeros.
+pub fn refusal(number: u64, line: u64) -> Judgement
+    ensures { λ r. ⌜ r ≡ judgementOf (refused number line) ⌝ }
+{
+    let none = Hull {
+        length: 0,
+        breadth: 0,
+        deepest: 0,
+        light: 0,
+        zones: 0,
+        places: [0; 21],
+    };
+    Judgement {
+        number,
+        line,
+        rows: 0,
+        hull: none,
+    }
+}
+
+// A hull on its record, with the bytes of its frame: the number of the first check that holds, or 0.
+pub fn hull_number(h: Hull, n: usize) -> u64
+    ensures { λ r. ⌜ r ≡ hullNumber h n ⌝ }
+{
+    let m = h.zones;
+    if !limits::sizes_fit(h) {
+        return 4;
+    }
+    if !limits::zones_fit(h) {
+        return 5;
+    }
+    if n != 8 + 2 * m {
+        return 5;
+    }
+    0
+}
+
+// The hull from the fields of its frame, which has n bytes.
+fn judge_hull(f: &[u8], n: usize) -> Judgement
+    ensures { λ r. ⌜ r ≡ hullJudged (hullOf (now (f .entry))) n ⌝ }
+{
+    let h = readers::hull(f);
+    let number = hull_number(h, n);
+    if number != 0 {
+        return refusal(number, 1);
+    }
+    Judgement {
+        number: 0,
+        line: 0,
+        rows: 0,
+        hull: h,
+    }
+}
+
+// However long the line is, 50 bytes hold all that a hull record has.
+pub fn judge_first(text: &[u8], closed: bool) -> Judgement
+    ensures { λ r. ⌜ r ≡ firstJudged (record { text = now (text .entry); closed = closed }) ⌝ }
+{
+    if !closed {
+        return refusal(2, 1);
+    }
+    let mut bytes = [0u8; 50];
+    let Written::Bytes(n) = frames::decode_text(text, &mut bytes) else {
+        return refusal(2, 1);
+    };
+    if n < 10 {
+        return refusal(3, 1);
+    }
+    let kind = bytes[0];
+    match kind {
+        1 => judge_hull(&bytes[1..], n),
+        _ => refusal(3, 1),
+    }
+}

@@ -1,0 +1,118 @@
+// The lines after the hull in turn, and the entry: any bytes whatever are refused or counted.
+ghost use mathlib.Core.Path.{_≡_};
+ghost use Prim.Native.Nat.{_≤_};
+ghost use lib.ListN.{drop};
+ghost use Rattle.frames.specs.Lines.{lines};
+ghost use Rattle.casefile.specs.Limits.{mostRows};
+ghost use Rattle.casefile.specs.Reading.{inside, start, readFrom, reading};
+ghost use Rattle.casefile.specs.Answer.{judgementOf};
+ghost use Rattle.casefile.specs.Judging.{stepped, judgementAt};
+use casefile::Frame;
+use casefile::Judgement;
+use casefile::Progress;
+use casefile::Step;
+use records::Hull;
+use records::RowHead;
+
+// What a line's frame adds to what is known, or the refusal with the line's number.
+fn step(frame: Frame, p: Progress, line: u64) -> Step
+    requires { ⌜ p .rows ≤ mostRows ⌝ }
+    ensures { λ r. ⌜ r ≡ stepped frame p line ⌝ }
+{
+    let rows = p.rows;
+    let last = p.last;
+    match frame {
+        Frame::Row(head) => Step::Next(Progress {
+            rows: rows + 1,
+            last: head,
+            ended: false,
+        }),
+        Frame::End(_) => Step::Next(Progress {
+            rows,
+            last,
+            ended: true,
+        }),
+        Frame::Wrong(number) => Step::Refused(number, line),
+    }
+}
+
+// No row is read yet.
+fn at_start() -> Progress
+    ensures { λ r. ⌜ r ≡ start ⌝ }
+{
+    let none = RowHead {
+        kind: 0,
+        first: 0,
+        count: 0,
+        depth: 0,
+        height: 0,
+    };
+    Progress {
+        rows: 0,
+        last: none,
+        ended: false,
+    }
+}
+
+// The lines from a place on, the first of which has the number that is given: the last step, or the first refusal.
+fn run(input: &[u8], h: Hull, from: usize, first: u64) -> Step
+    requires { ⌜ first ≤ 4294967296 ⌝ }
+    ensures { λ r. ⌜ judgementAt h r ≡ judgementOf (readFrom (inside h start) first (lines (drop from (now (input .entry))))) ⌝ }
+{
+    let mut p = at_start();
+    let mut at = from;
+    let mut line = first;
+    while at < input.len() {
+        let end = frames::line_end(input, at);
+        let closed = end < input.len();
+        let frame = rowlines::judge_line(&input[at..end], closed, h, p);
+        let after = step(frame, p, line);
+        let Step::Next(next) = after else {
+            return after;
+        };
+        p = next;
+        at = end + 1;
+        line = line + 1;
+    }
+    if p.ended {
+        return Step::Next(p);
+    }
+    Step::Refused(10, line)
+}
+
+// The rows and the end of a file whose hull is known, from a place on.
+pub fn judge_rows(input: &[u8], h: Hull, from: usize, first: u64) -> Judgement
+    requires { ⌜ first ≤ 4294967296 ⌝ }
+    ensures { λ r. ⌜ r ≡ judgementOf (readFrom (inside h start) first (lines (drop from (now (input .entry))))) ⌝ }
+{
+    match run(input, h, from, first) {
+        Step::Next(p) => Judgement {
+            number: 0,
+            line: 0,
+            rows: p.rows,
+            hull: h,
+        },
+        Step::Refused(number, line) => hulls::refusal(number, line),
+    }
+}
+
+// Any bytes whatever: a refusal's number and line, or the row count and the hull.
+pub fn judge(input: &[u8]) -> Judgement
+    ensures { λ r. ⌜ r ≡ judgementOf (reading (now (input .entry))) ⌝ }
+{
+    let n = input.len();
+    if 32768 < n {
+        return hulls::refusal(1, 0);
+    }
+    if n == 0 {
+        return hulls::refusal(10, 1);
+    }
+    let end = frames::line_end(input, 0);
+    let closed = end < n;
+    let opened = hulls::judge_first(&input[..end], closed);
+    if opened.number != 0 {
+        return opened;
+    }
+    let h = opened.hull;
+    judge_rows(input, h, end + 1, 2)
+}

@@ -1,0 +1,3 @@
+pub mod CodeReaders
+pub mod CodeJudging
+pub mod CodeWalking

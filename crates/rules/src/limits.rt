@@ -1,0 +1,104 @@
+// Document 01's limits on records: of a hull (refusals 4 and 5) and of a row (refusal 7).
+ghost use mathlib.Core.Path.{_≡_};
+ghost use mathlib.Core.Bool.{_&&_};
+ghost use Prim.Native.Nat.{_+_, _-_, _%_, _≤_};
+ghost use lib.Dec.{leb, eqb};
+ghost use Rattle.casefile.specs.Limits.{between, sizesFit, risingTo, zonesFit, headFits, findingFits, rowFits};
+use records::Finding;
+use records::Hull;
+use records::RowHead;
+
+fn is_between(low: u64, high: u64, x: u64) -> bool
+    ensures { λ r. ⌜ r ≡ between low high x ⌝ }
+{
+    (low <= x) & (x <= high)
+}
+
+// Whether the draughts differ by a multiple of 5; where the light one is above the deepest, the difference is taken as 0.
+fn differ_by_fifths(deepest: u64, light: u64) -> bool
+    ensures { λ r. ⌜ r ≡ eqb ((deepest - light) % 5) 0 ⌝ }
+{
+    if deepest < light {
+        return true;
+    }
+    (deepest - light) % 5 == 0
+}
+
+// Refusal 4 is given where this does not hold.
+pub fn sizes_fit(h: Hull) -> bool
+    ensures { λ r. ⌜ r ≡ sizesFit h ⌝ }
+{
+    is_between(8000, 19800, h.length)
+        & ((h.breadth % 2 == 0) & is_between(1000, 6000, h.breadth))
+        & is_between(1000, 30000, h.deepest)
+        & (is_between(500, h.deepest, h.light) & differ_by_fifths(h.deepest, h.light))
+}
+
+fn is_rising(places: [u64; 21], m: usize) -> bool
+    requires { ⌜ m ≤ 20 ⌝ }
+    ensures { λ r. ⌜ r ≡ risingTo places m ⌝ }
+{
+    let mut rising = true;
+    let mut k: usize = 0;
+    while k < m {
+        rising = rising & (places[k] < places[k + 1]);
+        k = k + 1;
+    }
+    rising
+}
+
+// Refusal 5 is given where this does not hold.
+pub fn zones_fit(h: Hull) -> bool
+    ensures { λ r. ⌜ r ≡ zonesFit h ⌝ }
+{
+    let m = h.zones;
+    let places = h.places;
+    if m < 1 {
+        return false;
+    }
+    if 20 < m {
+        return false;
+    }
+    (places[0] == 0) & (places[m] == h.length) & is_rising(places, m)
+}
+
+// Whether the zones from the first on are among those of the ship: nothing wraps, whatever the numbers.
+fn group_fits(first: u64, count: u64, zones: usize) -> bool
+    ensures { λ r. ⌜ r ≡ (leb 1 first && leb 1 count && leb (first + count - 1) zones) ⌝ }
+{
+    let m = zones as u64;
+    if first < 1 {
+        return false;
+    }
+    if count < 1 {
+        return false;
+    }
+    if m < first {
+        return false;
+    }
+    count - 1 <= m - first
+}
+
+fn head_fits(h: Hull, r: RowHead) -> bool
+    ensures { λ b. ⌜ b ≡ headFits h r ⌝ }
+{
+    group_fits(r.first, r.count, h.zones)
+        & is_between(1, h.breadth / 2, r.depth)
+        & is_between(1, 60000, r.height)
+}
+
+fn finding_fits(r: Finding) -> bool
+    ensures { λ b. ⌜ b ≡ findingFits r ⌝ }
+{
+    (r.lever <= 5000) & (r.range <= 9000) & (r.heel <= 9000) & (r.given <= 10000)
+}
+
+// Refusal 7 is given where this does not hold.
+pub fn row_fits(h: Hull, head: RowHead, results: [Finding; 3]) -> bool
+    ensures { λ r. ⌜ r ≡ rowFits h (record { head = head; results = results }) ⌝ }
+{
+    let deepest = results[0];
+    let partial = results[1];
+    let light = results[2];
+    head_fits(h, head) & (finding_fits(deepest) & (finding_fits(partial) & finding_fits(light)))
+}

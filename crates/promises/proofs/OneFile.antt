@@ -26,7 +26,7 @@ use Rattle.survival.specs.Survival.{factorOf, scaledOf, roundedOf, factorsOf, s
 use Rattle.survival.specs.Index.{addsOf, rowAdds, partials, attainedOf}
 use Rattle.survival.specs.Verdict.{reaches, allReach, verdictOf}
 use Rattle.frames.specs.Lines.{lines}
-use Rattle.frames.specs.Hex.{digitOf, pairOf, pairs, digitsOnly, proper, badlyWritten, digit, hex}
+use Rattle.frames.specs.Hex.{digitOf, pairOf, pairs, digitsOnly, proper, badlyWritten, digit, hex, lineOf}
 use Rattle.frames.specs.Fields.{wordAt}
 use Rattle.casefile.specs.Record.{Row, Case}
 use Rattle.casefile.specs.Layout.{frameLength, placeOf, hullOf, headOf, findingOf, resultsOf}
@@ -34,7 +34,7 @@ use Rattle.casefile.specs.Limits.{between, sizesFit, risingTo, zonesFit, headFi
 use Rattle.casefile.specs.Order.{atTop, closesGroup, sameGroup, sameLayer, earlierGroup, outOfOrder, leavesOpen, endsOpen}
 use Rattle.casefile.specs.Table.{firstHolds, wrongHullFrame, wrongFrame, wrongZones, hullChecks, rowChecks, endChecks, lineChecks}
 use Rattle.casefile.specs.Reading.{accepted, readFrom, reading}
-use Rattle.printing.specs.Printed.{printed, lineOf, figuresFrame, refusalFrame, shareFrame, shareLines, endsField, partialField, partialsField}
+use Rattle.printing.specs.Printed.{printed, figuresFrame, refusalFrame, shareFrame, shareLines, endsField, partialField, partialsField}
 use Rattle.index.specs.Standing.{stands}
 use Rattle.index.specs.Work.{shareAt, addsAt, sharesFrom, addsFrom}
 use Rattle.index.specs.Answer.{partialsOf, figures, answer, shares, answered}

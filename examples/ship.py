@@ -46,10 +46,10 @@ class Ship(NamedTuple):
 
 
 def whole(figure, parts):
-    """A figure in whole parts of a unit: centimetres, millimetres, ten-thousandths."""
+    """A length in whole parts of a metre, centimetres or millimetres."""
     count = exact(figure) * parts
     if count.denominator != 1:
-        raise ValueError(f"{figure} is not whole in parts of 1/{parts}")
+        raise ValueError(f"{figure} m is not whole in parts of 1/{parts}")
     return int(count)
 
 

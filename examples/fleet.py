@@ -1,0 +1,128 @@
+"""The six ships of the examples, in metres: each zone by its name and forward end, from aft forward."""
+
+from ship import Ship, Zone
+
+CARGO, CONTAINERS, MACHINERY = 0.7, 0.8, 0.85  # permeabilities; peaks and voids have 0.95
+
+
+def alongside(width):
+    """The hold of the coaster behind side tanks of that width."""
+    return {"tanks": (width,), "hold": "hold", "permeability": CARGO}
+
+
+COASTER = Ship(
+    name="coaster", what="single-hold coaster, 84.6 m", verdict="meets",
+    shows="one hold behind three pairs of side tanks: damage that stays within a tank is survived, damage into the hold is not",
+    length=84.6, breadth=13.6, depth=7.6, deepest=5.4, light=3.1, block=0.78, gm=(0.9, 1.1, 1.4),
+    zones=(
+        Zone("aft peak", 5.4, decks=(6.2,)),
+        Zone("engine room", 18.0, decks=(6.2,), permeability=MACHINERY),
+        Zone("side tanks 3", 37.2, **alongside(1.8)),
+        Zone("side tanks 2", 56.4, **alongside(1.8)),
+        Zone("side tanks 1", 74.4, **alongside(1.8)),
+        Zone("bow thruster", 79.2),
+        Zone("fore peak", 84.6),
+    ),
+)
+
+DOUBLE_SIDED = {"tanks": (1.6, 5.2), "decks": (11.8,), "permeability": CARGO}
+
+BULK_CARRIER = Ship(
+    name="bulk-carrier", what="bulk carrier with double sides, 179.8 m", verdict="meets",
+    shows="side tanks in two layers, topside tanks as a height of their own",
+    length=179.8, breadth=30.4, depth=14.8, deepest=10.1, light=6.4, block=0.82, gm=(1.3, 1.8, 2.8),
+    zones=(
+        Zone("aft peak", 9.6, decks=(12.0,)),
+        Zone("engine room", 32.8, tanks=(3.2,), decks=(12.0,), permeability=MACHINERY),
+        Zone("hold 5", 59.2, **DOUBLE_SIDED),
+        Zone("hold 4", 86.4, **DOUBLE_SIDED),
+        Zone("hold 3", 113.6, **DOUBLE_SIDED),
+        Zone("hold 2", 140.8, **DOUBLE_SIDED),
+        Zone("hold 1", 168.0, **DOUBLE_SIDED),
+        Zone("fore peak", 179.8, decks=(13.4,)),
+    ),
+)
+
+CELLS = {"tanks": (2.4,), "decks": (14.4,), "permeability": CONTAINERS}
+ENGINES = {"tanks": (2.8,), "decks": (14.4,), "permeability": MACHINERY}
+
+CONTAINER_SHIP = Ship(
+    name="container-ship", what="container ship of 20 zones, 197.6 m", verdict="meets",
+    shows="as many zones as a file may have; groups of up to five zones, the longer ones left out",
+    length=197.6, breadth=32.2, depth=17.6, deepest=11.2, light=7.7, block=0.66, gm=(0.6, 0.8, 1.2),
+    adjacent=5,
+    zones=(
+        Zone("aft peak", 6.4),
+        Zone("steering gear", 14.4),
+        Zone("hold 9 aft", 21.6, **CELLS),
+        Zone("hold 9 forward", 28.8, **CELLS),
+        Zone("engine room aft", 40.0, **ENGINES),
+        Zone("engine room forward", 51.2, **ENGINES),
+        Zone("hold 8 aft", 60.8, **CELLS),
+        Zone("hold 8 forward", 70.4, **CELLS),
+        Zone("hold 7 aft", 80.0, **CELLS),
+        Zone("hold 7 forward", 89.6, **CELLS),
+        Zone("hold 6 aft", 99.2, **CELLS),
+        Zone("hold 6 forward", 108.8, **CELLS),
+        Zone("hold 5 aft", 118.4, **CELLS),
+        Zone("hold 5 forward", 128.0, **CELLS),
+        Zone("hold 4 aft", 137.6, **CELLS),
+        Zone("hold 4 forward", 147.2, **CELLS),
+        Zone("hold 3", 158.4, **CELLS),
+        Zone("hold 2", 171.2, tanks=(3.2,), decks=(14.4,), permeability=CONTAINERS),
+        Zone("hold 1", 184.0, decks=(14.4,), permeability=CONTAINERS),
+        Zone("fore peak", 197.6),
+    ),
+)
+
+TWEEN_DECKED = {"tanks": (2.6,), "decks": (9.2,), "permeability": CARGO}
+
+HEAVY_LIFT = Ship(
+    name="heavy-lift", what="heavy-lift ship, 132.4 m", verdict="meets",
+    shows="a tween deck and side tanks: A and all three partial indices are well above their marks",
+    length=132.4, breadth=22.8, depth=11.6, deepest=7.6, light=5.1, block=0.72, gm=(0.8, 1.0, 1.5),
+    zones=(
+        Zone("aft peak", 7.2, decks=(9.2,)),
+        Zone("engine room", 26.4, decks=(9.2,), permeability=MACHINERY),
+        Zone("hold 3", 45.6, **TWEEN_DECKED),
+        Zone("hold 2 aft", 64.8, **TWEEN_DECKED),
+        Zone("hold 2 forward", 84.0, **TWEEN_DECKED),
+        Zone("hold 1 aft", 101.6, **TWEEN_DECKED),
+        Zone("hold 1 forward", 116.8, **TWEEN_DECKED),
+        Zone("bow thruster", 124.0, decks=(9.2,)),
+        Zone("fore peak", 132.4, decks=(9.2,)),
+    ),
+)
+
+TIMBER_CARRIER = Ship(
+    name="timber-carrier", what="timber carrier with little freeboard, 104 m", verdict="fails",
+    shows="A reaches R, and the ship fails all the same: at the deepest draught As is below R/2",
+    length=104.0, breadth=17.2, depth=8.6, deepest=6.9, light=3.2, block=0.75, gm=(0.6, 1.6, 2.6),
+    zones=(
+        Zone("aft peak", 6.0),
+        Zone("engine room", 22.4, permeability=MACHINERY),
+        Zone("hold 3", 44.8, tanks=(1.4,), permeability=CARGO),
+        Zone("hold 2", 67.2, tanks=(1.4,), permeability=CARGO),
+        Zone("hold 1", 89.6, tanks=(1.4,), permeability=CARGO),
+        Zone("chain locker", 97.6),
+        Zone("fore peak", 104.0),
+    ),
+)
+
+REEFER = Ship(
+    name="reefer", what="refrigerated cargo ship, 141.6 m", verdict="unsettled",
+    shows="GM drawn down a millimetre at a time until R lies between the ends of A: one more meets, one less fails",
+    length=141.6, breadth=21.6, depth=11.8, deepest=8.4, light=5.9, block=0.62, gm=(0.436, 0.536, 0.836),
+    zones=(
+        Zone("aft peak", 8.0, decks=(10.2,)),
+        Zone("hold 4", 28.0, decks=(10.2,), permeability=CARGO),
+        Zone("engine room", 48.8, permeability=MACHINERY),
+        Zone("hold 3", 70.4, decks=(7.6, 10.2), permeability=CARGO),
+        Zone("hold 2", 92.0, decks=(7.6, 10.2), permeability=CARGO),
+        Zone("hold 1", 112.8, decks=(7.6, 10.2), permeability=CARGO),
+        Zone("deep tank", 124.8, decks=(10.2,)),
+        Zone("fore peak", 141.6, decks=(10.2,)),
+    ),
+)
+
+FLEET = (COASTER, BULK_CARRIER, CONTAINER_SHIP, HEAVY_LIFT, TIMBER_CARRIER, REEFER)

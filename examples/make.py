@@ -1,0 +1,163 @@
+"""Writes the example files, their answers and the table of README.md anew; --check says whether they are just what is made."""
+
+import argparse
+import subprocess
+import sys
+from functools import lru_cache
+from pathlib import Path
+
+HERE = Path(__file__).resolve().parent
+ROOT = HERE.parent
+sys.path[:0] = [str(HERE), str(ROOT / "tests")]
+
+from fleet import FLEET  # noqa: E402
+from independent import answer, reading  # noqa: E402
+from independent.regulation import R, group_share, s_fourth  # noqa: E402
+from ship import case_file, exact, groups  # noqa: E402
+
+VERDICTS = {1: "meets", 2: "fails", 3: "unsettled"}
+PROGRAMS = {"damindex": [str(ROOT / "damindex")], "the independent program": [sys.executable, str(ROOT / "tests" / "independent")]}
+PRINTED = (
+    b"0126ac064017700fa00205dc\n"
+    b"02010103204844001e01900000001e01900000001e01900000\n"
+    b"03010203204844000000000000\n"
+    b"03020103204844271027102710\n"
+    b"0f0003\n"
+)
+PRINTED_WHAT = "a ship of two zones, 99 m"
+PRINTED_SHOWS = "the case that the scope prints, byte for byte"
+HEAD = ("| file | ship | what it shows | rows | A | R | verdict |", "|---|---|---|---|---|---|---|")
+
+found = lru_cache(maxsize=None)(answer)
+
+
+@lru_cache(maxsize=None)
+def made(ship):
+    """The ship's case file, which must be one."""
+    data = case_file(ship)
+    if found(data).number:
+        sys.exit(f"{ship.name} is refused: {found(data).number} at line {found(data).line}")
+    return data
+
+
+def cases():
+    """Each example's name, what the ship is, what it shows, and its case file."""
+    yield "printed", PRINTED_WHAT, PRINTED_SHOWS, PRINTED
+    for ship in FLEET:
+        yield ship.name, ship.what, ship.shows, made(ship)
+
+
+def run(program, data):
+    return subprocess.run(PROGRAMS[program], input=data, stdout=subprocess.PIPE, timeout=60).stdout
+
+
+def verdict(data):
+    return VERDICTS[found(data).verdict]
+
+
+def millionths(count):
+    return f"0.{count:06d}"
+
+
+def table_line(name, what, shows, data):
+    """A line of the table: the ends of A to six places, the lower cut off and the upper rounded up."""
+    told, required = found(data), R(reading(data).hull.L)
+    lower, upper = told.ends[0].lower // 1000, -(-told.ends[0].upper // 1000)
+    return (f"| [{name}]({name}.case) | {what} | {shows} | {told.rows} | {millionths(lower)} to {millionths(upper)} "
+            f"| {millionths(round(required * 10**6))} | {verdict(data)} |")
+
+
+def with_table(text):
+    """README.md with the table of the examples as they are made now."""
+    before, _, rest = text.partition(HEAD[0] + "\n")
+    after = rest[rest.index("\n\n"):]
+    return before + "\n".join([*HEAD, *(table_line(*case) for case in cases())]) + after
+
+
+def survivals(row):
+    """The fourth powers of a row's survival: those of the results; a given survival here is 0."""
+    return row.given or [s_fourth(*result) for result in row.results]
+
+
+def rising(case):
+    """Rows of a group that do better than those of a shorter group inside it, at the same layer and height."""
+    rows = {(row.a, row.n, row.b, row.H): row for row in case.rows}
+    for (a, n, b, h), row in rows.items():
+        for aft in range(1, a + 1):
+            for more in range(n + 1, len(case.hull.zones) + 1):
+                longer = rows.get((aft, more, b, h))
+                if longer and aft + more >= a + n and any(s > t for s, t in zip(survivals(longer), survivals(row))):
+                    yield aft, more, b, h
+
+
+def every_group(ship, hull):
+    """The groups whose share is not 0, up to the ship's number of adjacent zones."""
+    zones = len(hull.zones)
+    return [(a, n) for a in range(1, zones + 1) for n in range(1, min(ship.adjacent, zones - a + 1) + 1) if group_share(hull, a, n)]
+
+
+def file_faults():
+    """For each example: whether its files are what is made, and what both programs print."""
+    for name, _, _, data in cases():
+        path = HERE / f"{name}.case"
+        kept = path.read_bytes() if path.exists() else None
+        yield None if kept == data else f"{name}.case is not what is made"
+        for program in PROGRAMS:
+            wanted = path.with_suffix(".answer")
+            same = wanted.exists() and run(program, kept or b"") == wanted.read_bytes()
+            yield None if same else f"{name}.answer is not what {program} prints"
+
+
+def with_gm(ship, more):
+    """The ship with so many millimetres more of GM at each draught."""
+    return ship._replace(gm=tuple(float(exact(gm) + exact(more) / 1000) for gm in ship.gm))
+
+
+def ship_faults():
+    """For each ship: its verdict, its list of groups, and that no longer damage is survived better; what a millimetre of GM does."""
+    for ship in FLEET:
+        case = reading(made(ship))
+        yield None if verdict(made(ship)) == ship.verdict else f"{ship.name}: the verdict is not {ship.verdict}"
+        yield None if list(groups(ship)) == every_group(ship, case.hull) else f"{ship.name}: the groups are not those of a share above 0"
+        yield None if not any(rising(case)) else f"{ship.name}: a longer damage is survived better"
+        if ship.verdict == "unsettled":
+            told = [verdict(made(with_gm(ship, more))) for more in (1, -1)]
+            yield None if told == ["meets", "fails"] else f"{ship.name}: a millimetre of GM more and less gives {told}"
+
+
+def page_faults():
+    """The table of README.md, and files that nothing makes."""
+    page = HERE / "README.md"
+    text = page.read_text(encoding="utf-8")
+    yield None if text == with_table(text) else "the table of README.md is not what is made"
+    names = {name for name, *_ in cases()}
+    for path in sorted([*HERE.glob("*.case"), *HERE.glob("*.answer")]):
+        yield None if path.stem in names else f"{path.name} is made by nothing"
+
+
+def check():
+    looked_at = [*file_faults(), *ship_faults(), *page_faults()]
+    faults = [fault for fault in looked_at if fault]
+    for fault in faults:
+        print(fault)
+    print(f"{len(looked_at) - len(faults)} passed, {len(faults)} failed")
+    return 1 if faults or not looked_at else 0
+
+
+def write():
+    for name, _, _, data in cases():
+        (HERE / f"{name}.case").write_bytes(data)
+        (HERE / f"{name}.answer").write_bytes(run("damindex", data))
+    page = HERE / "README.md"
+    page.write_text(with_table(page.read_text(encoding="utf-8")), encoding="utf-8")
+    return 0
+
+
+def main():
+    parser = argparse.ArgumentParser(prog="python3 examples/make.py", description=__doc__)
+    parser.add_argument("--check", action="store_true", help="compare and write nothing")
+    return check() if parser.parse_args().check else write()
+
+
+if __name__ == "__main__":
+    sys.exit(main())

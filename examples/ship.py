@@ -1,0 +1,106 @@
+"""A ship in metres, and the lines of its case file: hull, zones, side tanks, decks, and a row for each damage."""
+
+from fractions import Fraction
+from typing import NamedTuple, Optional, Tuple
+
+from flooding import exact, results
+
+LONGEST_DAMAGE = Fraction(10, 33)  # of the ship's length
+ABOVE_THE_WATER = 12.5             # metres above the deepest draught that close a layer
+DRAUGHTS = range(3)                # deepest, partial, light
+
+
+class Zone(NamedTuple):
+    """A zone from the bulkhead aft of it to its own forward one, and what divides it inside."""
+
+    name: str
+    forward: float                   # its forward end, in metres from the aft end of the ship
+    tanks: Tuple[float, ...] = ()    # inner sides of its side tanks, in metres from the shell, outermost first
+    decks: Tuple[float, ...] = ()    # its watertight decks, in metres above the keel, lowest first
+    permeability: float = 0.95
+    hold: Optional[str] = None       # zones along one and the same hold name it alike
+
+
+class Ship(NamedTuple):
+    """A ship: sizes and draughts in metres, its GM at the deepest, the partial and the light draught."""
+
+    name: str
+    what: str                        # the ship in a few words
+    shows: str                       # what its file shows
+    verdict: str                     # what the answer must be
+    length: float
+    breadth: float
+    depth: float                     # to the deck that the bulkheads reach
+    deepest: float
+    light: float
+    block: float
+    gm: Tuple[float, float, float]
+    zones: Tuple[Zone, ...]
+    adjacent: int = 20               # groups of more zones than that are left out
+
+    @property
+    def draughts(self):
+        """The deepest, partial and light draught."""
+        ds, dl = exact(self.deepest), exact(self.light)
+        return ds, dl + (ds - dl) * Fraction(3, 5), dl
+
+
+def whole(figure, parts):
+    """A length in whole parts of a metre, centimetres or millimetres."""
+    count = exact(figure) * parts
+    if count.denominator != 1:
+        raise ValueError(f"{figure} m is not whole in parts of 1/{parts}")
+    return int(count)
+
+
+def digits(count, size=2):
+    """A number as hexadecimal digits of so many bytes, the high byte first."""
+    return count.to_bytes(size, "big").hex()
+
+
+def groups(ship):
+    """The groups (a, n) that damage can reach just so: their inner zones are shorter than the longest damage."""
+    ends = [Fraction(0), *(exact(zone.forward) for zone in ship.zones)]
+    for a in range(1, len(ends)):
+        for n in range(1, min(ship.adjacent, len(ends) - a) + 1):
+            if n < 3 or ends[a + n - 2] - ends[a] < LONGEST_DAMAGE * exact(ship.length):
+                yield a, n
+
+
+def layers(ship, zones):
+    """How far in damage may reach: to each inner side of a tank, and to the centre line."""
+    return sorted({exact(tank) for zone in zones for tank in zone.tanks}) + [exact(ship.breadth) / 2]
+
+
+def heights(ship, zones):
+    """How high damage may reach: to each deck, and over everything."""
+    return sorted({exact(deck) for zone in zones for deck in zone.decks}) + [exact(ship.deepest) + exact(ABOVE_THE_WATER)]
+
+
+def row_line(head, found):
+    """A row of three results; where the ship is lost at every draught, a row of given survivals 0."""
+    if not any(found):
+        return "03" + head + 3 * digits(0)
+    return "02" + head + "".join(digits(number) for result in found for number in (result or (0, 0, 0)))
+
+
+def group_rows(ship, a, n):
+    """The rows of one group: layer by layer inwards, in each layer height by height upwards."""
+    zones = ship.zones[a - 1:a - 1 + n]
+    for b in layers(ship, zones):
+        for h in heights(ship, zones):
+            head = digits(a, 1) + digits(n, 1) + digits(whole(b, 100)) + digits(whole(h, 1000))
+            yield row_line(head, [results(ship, a, n, b, h, at) for at in DRAUGHTS])
+
+
+def hull_line(ship):
+    sizes = whole(ship.length, 100), whole(ship.breadth, 100), whole(ship.deepest, 1000), whole(ship.light, 1000)
+    bulkheads = [whole(zone.forward, 100) for zone in ship.zones[:-1]]
+    return "01" + "".join(map(digits, sizes)) + digits(len(ship.zones), 1) + "".join(map(digits, bulkheads))
+
+
+def case_file(ship):
+    """The bytes of the ship's case file."""
+    rows = [row for a, n in groups(ship) for row in group_rows(ship, a, n)]
+    lines = [hull_line(ship), *rows, "0f" + digits(len(rows))]
+    return "".join(line + "\n" for line in lines).encode("ascii")

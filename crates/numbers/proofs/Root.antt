@@ -1,8 +1,8 @@
 -- What holds of the fourth roots, rounded down and up: each is one number, and they are at most one apart. Assumes nothing.
 use mathlib.Core.Path.{_≡_, sym}
 use mathlib.Core.Logic.{_↔_}
-use Prim.Native.Nat.{ℕ, _+_, _*_, _/_, _^_, _≤_, _<_}
-use native.Mathlib.Nat.{le-of-lt, le-of-eq, lt-of-not-le, le-antisymm, le-trans, le-div-iff-mul-le}
+use Prim.Native.Nat.{ℕ, _+_, _-_, _*_, _/_, _^_, _≤_, _<_}
+use native.Mathlib.Nat.{le-of-lt, le-of-eq, lt-of-not-le, lt-of-lt-of-le, le-antisymm, le-trans, le-div-iff-mul-le}
 use native.Mathlib.Omega.{arith}
 use Rattle.laws.specs.Rounding.{ceil}
 use Rattle.laws.proofs.Roots.{powers-ordered, powers-strict}
@@ -21,6 +21,33 @@ pub down-between : {n s : ℕ} → s ^ 4 ≤ n → n < (s + 1) ^ 4 → RootDown 
 down-between {n} {s} low high =
     record { within = low; greatest = λ t h. let below : t < s + 1 = below-of-fourth (omega arith) in omega arith }
 
+-- ---- the root lies in a stretch of so many numbers from `low` on
+
+pub record Stretch (n low width : ℕ) : Type 0 where
+  pub some : 1 ≤ width
+  pub short : low + width ≤ 10001
+  pub from : low ^ 4 ≤ n
+  pub to : n < (low + width) ^ 4
+
+-- its upper part, or its lower one
+module _ {n low width half : ℕ} (s : Stretch n low width) (h : 2 * half ≤ width) (less : half < width) where
+  pub upper-part : (low + half) ^ 4 ≤ n → Stretch n (low + half) (width - half)
+  upper-part p =
+      let e : low + half + (width - half) ≡ low + width = omega arith in
+      record { some = omega arith; short = omega (arith, s .short); from = p; to = rw e (s .to) }
+
+  pub lower-part : n < (low + half) ^ 4 → Stretch n low (width - half)
+  lower-part p =
+      record {
+        some = omega arith;
+        short = omega (arith, s .short);
+        from = s .from;
+        to = lt-of-lt-of-le p (powers-ordered 3 (low + half) (low + (width - half)) .1 (omega arith));
+      }
+
+pub down-in-stretch : {n s : ℕ} → Stretch n s 1 → RootDown n s × (s ≤ 10000)
+down-in-stretch h = (down-between (h .from) (h .to), omega (arith, h .short))
+
 pub below-next : {n s : ℕ} → RootDown n s → n < (s + 1) ^ 4
 below-next {n} {s} p = lt-of-not-le (λ g. omega (arith, p .greatest (s + 1) g))
 
@@ -35,13 +62,10 @@ down-at-most k h p = within-of-fourth (le-trans (p .within) h)
 pub up-exact : {n s : ℕ} → s ^ 4 ≡ n → RootUp n s
 up-exact {n} {s} e = record { reaches = omega arith; least = λ t h. within-of-fourth (omega arith) }
 
-pub up-next : {n s : ℕ} → RootDown n s → (s ^ 4 ≡ n → ⊥) → RootUp n (s + 1)
-up-next {n} {s} p e =
-    let low : s ^ 4 < n = omega (arith, p .within) in
-    record {
-      reaches = le-of-lt (below-next p);
-      least = λ t h. let above : s < t = below-of-fourth (omega arith) in omega arith;
-    }
+pub up-next : (n s : ℕ) → s ^ 4 ≤ n → n ≤ (s + 1) ^ 4 → (s ^ 4 ≡ n → ⊥) → RootUp n (s + 1)
+up-next n s p q e =
+    let low : s ^ 4 < n = omega (arith, p) in
+    record { reaches = q; least = λ t h. let above : s < t = below-of-fourth (omega arith) in omega arith }
 
 pub up-unique : {n s t : ℕ} → RootUp n s → RootUp n t → s ≡ t
 up-unique {n} {s} {t} p q = le-antisymm (p .least t (q .reaches)) (q .least s (p .reaches))

@@ -2,12 +2,12 @@
 use mathlib.Core.Bool.{Bool, true, false, cond}
 use mathlib.Core.Path.{_≡_, refl}
 use Prim.Native.Nat.{ℕ, zero, suc, _+_, _*_, _^_, _≤_, _<_}
-use native.Mathlib.Nat.{pow-suc}
+use native.Mathlib.Nat.{pow-suc, le-of-lt}
 use native.Mathlib.Omega.{arith}
 use borrow.Author.Tests.{leb-true, leb-false, eqb-true, eqb-false}
 use lib.Dec.{leb, eqb}
 use Rattle.numbers.specs.Root.{RootDown, RootUp, withDigits, rootDown, rootUp}
-use Rattle.numbers.proofs.Root.{down-between, up-exact, up-next, down-unique, up-unique}
+use Rattle.numbers.proofs.Root.{down-between, below-next, up-exact, up-next, down-unique, up-unique}
 
 digits-root : (n k s : ℕ) → s ^ 4 ≤ n → n < (s + 2 ^ k) ^ 4 → RootDown n (withDigits n k s)
 unfolding withDigits
@@ -32,7 +32,7 @@ up-root n h = chosen (eqb (rootDown n ^ 4) n) refl
   where
     chosen : (b : Bool) → eqb (rootDown n ^ 4) n ≡ b → RootUp n (cond b (rootDown n) (rootDown n + 1))
     chosen true e = up-exact (eqb-true _ _ e)
-    chosen false e = up-next (down-root n h) (eqb-false _ _ e)
+    chosen false e = let p = down-root n h in up-next n (rootDown n) (p .within) (le-of-lt (below-next p)) (eqb-false _ _ e)
 
 -- so whatever is a root is that number
 pub down-value : {n s : ℕ} → n < 2 ^ 56 → RootDown n s → s ≡ rootDown n

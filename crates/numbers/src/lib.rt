@@ -1,7 +1,7 @@
 // Machine numbers: quotients rounded up, billionths of a fraction rounded both ways, portions, halves, and fourth roots.
 use records::Ends;
 ghost use mathlib.Core.Path.{_≡_};
-ghost use Prim.Native.Nat.{_*_, _^_, _≤_, _<_};
+ghost use Prim.Native.Nat.{_+_, _*_, _^_, _≤_, _<_};
 ghost use Rattle.laws.specs.Rounding.{ceil};
 ghost use Rattle.numbers.specs.Division.{Division, Carries, dividend};
 ghost use Rattle.numbers.specs.Figures.{Proper, billionthsOf, portionOf, halvesOf};
@@ -126,29 +126,30 @@ fn fourth_power(s: u64) -> u64
     square * square
 }
 
-// The fourth root rounded down: what lies between 0 and 10,001 is halved 14 times.
+// The fourth root rounded down: it lies in a stretch from 0 to 10,000, which is halved 14 times, whatever n is.
 pub fn root_down(n: u64) -> u64
     requires { ⌜ n ≤ 10 ^ 16 ⌝ }
     ensures { λ r. ⌜ RootDown n r × (r ≤ 10000) ⌝ }
 {
     let mut low: u64 = 0;
-    let mut high: u64 = 10_001;
-    while low + 1 < high {
-        let middle = (low + high) / 2;
-        if fourth_power(middle) <= n {
-            low = middle;
+    let mut width: u64 = 10_001;
+    while 1 < width {
+        let half = width / 2;
+        let middle = low + half;
+        low = if fourth_power(middle) <= n {
+            middle
         } else {
-            high = middle;
-        }
+            low
+        };
+        width = width - half;
     }
     low
 }
 
-// The fourth root rounded up.
-pub fn root_up(n: u64) -> u64
-    requires { ⌜ n ≤ 10 ^ 16 ⌝ }
-    ensures { λ r. ⌜ RootUp n r × (r ≤ 10000) ⌝ }
+// The fourth root rounded up, where s or the next number is: s is the root of n, or of the number before it, rounded down.
+pub fn root_up(s: u64, n: u64) -> u64
+    requires { ⌜ (s ≤ 10000) × (s ^ 4 ≤ n) × (n ≤ (s + 1) ^ 4) ⌝ }
+    ensures { λ r. ⌜ RootUp n r ⌝ }
 {
-    let s = root_down(n);
     if fourth_power(s) == n { s } else { s + 1 }
 }

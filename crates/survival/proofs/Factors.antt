@@ -5,8 +5,9 @@ use native.Mathlib.Nat.{div-add-mod', mod-lt, mul-add-div-right, div-le-of-le-mu
 use native.Mathlib.Omega.{arith}
 use borrow.Author.Tests.{eq-eqb, ne-eqb}
 use Rattle.laws.specs.Rounding.{ceil}
-use Rattle.laws.proofs.Rounding.{ceil-least}
+use Rattle.laws.proofs.Rounding.{ceil-least, floor-not-above-ceil, ceil-near-floor}
 use Rattle.numbers.specs.Root.{RootDown, RootUp}
+use Rattle.numbers.proofs.Root.{below-next}
 use Rattle.numbers.proofs.RootValue.{down-value, up-value}
 use Rattle.records.specs.declared.Finding.{Finding}
 use Rattle.records.specs.declared.Survival.{Survival}
@@ -50,6 +51,14 @@ same-multiple p q = cc
 pub scaled-down-fits : {f : Ratio} → Proper (10 ^ 8) f → scaledOf f .down ≤ 10 ^ 16
 unfolding scaledOf
 scaled-down-fits p = times-down (10 ^ 16) (p .positive) (p .at-most-one)
+
+-- the bottom is the top's root too, or one less
+pub top-after : {f : Ratio} {m : Multiple} {a : ℕ} → Proper (10 ^ 8) f → m ≡ scaledOf f → RootDown (m .down) a → (a ≤ 10000) → (a ≤ 10000) × (a ^ 4 ≤ m .up) × (m .up ≤ (a + 1) ^ 4)
+unfolding scaledOf
+top-after {f} {m} {a} p e r l =
+    let d : m .down ≡ 10 ^ 16 * f .num / f .den = ap (λ s. s .down) e in
+    let u : m .up ≡ ceil (10 ^ 16 * f .num) (f .den) = ap (λ s. s .up) e in
+    (l, omega (arith, d, u, r .within, floor-not-above-ceil (10 ^ 16 * f .num) (f .den)), omega (arith, d, u, below-next r, ceil-near-floor (10 ^ 16 * f .num) (f .den) (p .positive)))
 
 pub scaled-up-fits : {f : Ratio} → Proper (10 ^ 8) f → scaledOf f .up ≤ 10 ^ 16
 unfolding scaledOf

@@ -91,7 +91,7 @@ fn rounded(f: Ratio) -> Survival
 {
     let s = scaled(f);
     let bottom = root_down(s.down);
-    let top = root_up(s.up);
+    let top = root_up(bottom, s.up);
     Survival { bottom, top }
 }
 

@@ -1,35 +1,77 @@
 -- What the loop over a line's pairs of digits keeps: the bytes of the pairs that are left go on behind those that are stored. Assumes nothing.
-use Prim.Native.Nat.{ℕ, zero, suc, _+_, _*_, _/_, _≤_, _<_}
+use Prim.Native.Nat.{ℕ, zero, suc, _+_, _-_, _*_, _/_, _≤_, _<_}
 use mathlib.Core.Path.{_≡_, refl, sym, _∙_, ap}
 use mathlib.Core.Bool.{Bool, true, false, cond, _&&_}
 use mathlib.Core.List.{List, [], _∷_}
+use mathlib.Core.Logic.{_⊎_, inl, inr}
 use native.Mathlib.Numerals.{add-one}
 use native.Mathlib.Omega.{arith}
 use lib.Dec.{ltb}
 use lib.ListN.{length, getD, take, drop, set, replicate, length-set, getD-replicate}
 use lib.Seq.{sets, sets-eq, take-at}
-use borrow.Author.Tests.{lt-ltb, eq-eqb, ne-eqb}
+use borrow.Author.Tests.{ltb-true, ltb-false, lt-ltb, le-leb, lt-leb, eq-eqb, ne-eqb}
+use Rattle.frames.specs.declared.Digit.{Digit}
 use Rattle.frames.specs.declared.Digit.the-variants.{Value, Bad}
 use Rattle.frames.specs.declared.Written.the-variants.{Bytes, Badly}
-use Rattle.frames.specs.Hex.{digitOf, pairOf, pairs, proper}
+use Rattle.frames.specs.Hex.{digitOf, markOf, joined, pairOf, pairs, proper}
 use Rattle.frames.specs.Decoding.{writtenOf}
+use Rattle.frames.proofs.Tests.{both, one-fails}
+use Rattle.frames.proofs.Hex.{digit-below}
 use Rattle.frames.proofs.Pairs.{length-pairs, pairs-some}
 use Rattle.frames.proofs.Decode.{pairs-go-on, proper-by-count}
 
--- ---- a pair by its digits
+-- ---- a byte by its value as a digit
 
-module _ (a b : ℕ) where
-  pub high-bad : digitOf a ≡ Bad → Bad ≡ pairOf a b
-  unfolding pairOf
-  high-bad e = rw e refl
+module _ (b : ℕ) where
+  pub mark-decimal : 48 ≤ b → b ≤ 57 → b - 48 ≡ markOf (digitOf b)
+  unfolding digitOf
+  mark-decimal h k = rw (le-leb 48 b h, le-leb b 57 k) refl
 
-  pub low-bad : (h : ℕ) → digitOf a ≡ Value h → digitOf b ≡ Bad → Bad ≡ pairOf a b
-  unfolding pairOf
-  low-bad h e f = rw (e, f) refl
+  pub mark-letter : 97 ≤ b → b ≤ 102 → b - 87 ≡ markOf (digitOf b)
+  unfolding digitOf
+  mark-letter h k = rw (le-leb 48 b (omega arith), lt-leb b 57 (omega arith), le-leb 97 b h, le-leb b 102 k) refl
 
-  pub pair-value : (h l : ℕ) → digitOf a ≡ Value h → digitOf b ≡ Value l → Value (h * 16 + l) ≡ pairOf a b
+  pub mark-below : b < 48 → 16 ≡ markOf (digitOf b)
+  unfolding digitOf
+  mark-below h = rw (lt-leb 48 b h, lt-leb 97 b (omega arith)) refl
+
+  pub mark-between : 57 < b → b < 97 → 16 ≡ markOf (digitOf b)
+  unfolding digitOf
+  mark-between h k = rw (le-leb 48 b (omega arith), lt-leb b 57 h, lt-leb 97 b k) refl
+
+  pub mark-above : 102 < b → 16 ≡ markOf (digitOf b)
+  unfolding digitOf
+  mark-above h = rw (le-leb 48 b (omega arith), lt-leb b 57 (omega arith), le-leb 97 b (omega arith), lt-leb b 102 h) refl
+
+-- ---- a pair by its digits' values
+
+marked-pair : (d e : Digit) → markOf d < 16 → markOf e < 16 → Value (markOf d * 16 + markOf e) ≡ joined d e
+marked-pair (Value h) (Value l) p q = refl
+marked-pair (Value h) Bad p q = absurd (omega (arith, q))
+marked-pair Bad e p q = absurd (omega (arith, p))
+
+marked-none : (d e : Digit) → ((v : ℕ) → d ≡ Value v → v < 16) → ((v : ℕ) → e ≡ Value v → v < 16) → (ltb (markOf d) 16 && ltb (markOf e) 16) ≡ false → Bad ≡ joined d e
+marked-none (Value h) (Value l) p q t = absurd (one-way (one-fails (ltb h 16) (ltb l 16) t))
+  where
+    one-way : ((ltb h 16 ≡ false) ⊎ (ltb l 16 ≡ false)) → ⊥
+    one-way (inl f) = omega (arith, ltb-false h 16 f, p h refl)
+    one-way (inr f) = omega (arith, ltb-false l 16 f, q l refl)
+marked-none (Value h) Bad p q t = refl
+marked-none Bad e p q t = refl
+
+module _ (a b h l : ℕ) (e : h ≡ markOf (digitOf a)) (f : l ≡ markOf (digitOf b)) where
+  pub pair-value : (ltb h 16 && ltb l 16) ≡ true → Value (h * 16 + l) ≡ pairOf a b
   unfolding pairOf
-  pair-value h l e f = rw (e, f) refl
+  pair-value t =
+      let (p, q) = both (ltb h 16) (ltb l 16) t in
+      rw (e, f) (marked-pair (digitOf a) (digitOf b) (rw e at (ltb-true h 16 p)) (rw f at (ltb-true l 16 q)))
+
+  pub pair-none : (ltb h 16 && ltb l 16) ≡ false → Bad ≡ pairOf a b
+  unfolding pairOf
+  pair-none t = marked-none (digitOf a) (digitOf b) (digit-below a) (digit-below b) (rw (e, f) at t)
+
+pub both-small : (h l : ℕ) → (ltb h 16 && ltb l 16) ≡ true → (h < 16) × (l < 16)
+both-small h l t = let (p, q) = both (ltb h 16) (ltb l 16) t in (ltb-true h 16 p, ltb-true l 16 q)
 
 pub too-few : (text : List ℕ) → length text < 2 → Badly ≡ writtenOf text
 unfolding writtenOf proper

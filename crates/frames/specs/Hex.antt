@@ -21,6 +21,11 @@ abbrev pub valueOf : Digit → ℕ
 valueOf (Value v) = v
 valueOf Bad = 0
 
+-- the value of a digit, and for what is none a number that no digit has
+abbrev pub markOf : Digit → ℕ
+markOf (Value v) = v
+markOf Bad = 16
+
 abbrev pub joined : Digit → Digit → Digit
 joined (Value h) (Value l) = Value (h * 16 + l)
 joined (Value h) Bad = Bad

@@ -4,11 +4,11 @@ ghost use Prim.Native.Nat.{_+_, _<_};
 ghost use lib.ListN.{drop, set};
 ghost use lib.Seq.{sets};
 ghost use Rattle.frames.specs.Lines.{lineLength};
-ghost use Rattle.frames.specs.Hex.{digitOf, pairOf, pairs};
+ghost use Rattle.frames.specs.Hex.{digitOf, markOf, pairOf, pairs};
 ghost use Rattle.frames.specs.Decoding.{writtenOf};
 ghost use Rattle.frames.specs.Fields.{byteAt, wordAt};
 
-// What a byte is in a line of digits: the value of a digit, or no digit.
+// What a pair of bytes is in a line of digits: the byte that it writes, or no pair of digits.
 pub enum Digit {
     Value(u8),
     Bad,
@@ -34,13 +34,14 @@ pub fn line_end(input: &[u8], at: usize) -> usize
     i
 }
 
-pub fn digit_of(b: u8) -> Digit
-    ensures { λ r. ⌜ r ≡ digitOf b ⌝ }
+// A byte's value as a digit, or 16, which no digit has: a number, so that telling a digit takes no jump.
+fn value_of(b: u8) -> u8
+    ensures { λ r. ⌜ r ≡ markOf (digitOf b) ⌝ }
 {
     match b {
-        b'0'..=b'9' => Digit::Value(b - 48),
-        b'a'..=b'f' => Digit::Value(b - 87),
-        _ => Digit::Bad,
+        b'0'..=b'9' => b - 48,
+        b'a'..=b'f' => b - 87,
+        _ => 16,
     }
 }
 
@@ -48,13 +49,12 @@ pub fn digit_of(b: u8) -> Digit
 pub fn pair_of(high: u8, low: u8) -> Digit
     ensures { λ r. ⌜ r ≡ pairOf high low ⌝ }
 {
-    let Digit::Value(h) = digit_of(high) else {
-        return Digit::Bad;
-    };
-    let Digit::Value(l) = digit_of(low) else {
-        return Digit::Bad;
-    };
-    Digit::Value(h * 16 + l)
+    let h = value_of(high);
+    let l = value_of(low);
+    if (h < 16) & (l < 16) {
+        return Digit::Value(h * 16 + l);
+    }
+    Digit::Bad
 }
 
 // A store that a short buffer does not take.

@@ -4,6 +4,7 @@
  *   s kind lever range heel given   -> bottom top
  *   v below height draught          -> v
  *   j length, then so many bytes    -> number line rows
+ *   q hull (26 numbers) a n b' b    -> rows lower upper
  * Standard output: the answers' numbers, eight bytes each, low byte first. */
 #include <stddef.h>
 #include <stdint.h>
@@ -16,6 +17,7 @@ uint64_t probe_height(uint64_t below, uint64_t height, uint64_t draught);
 uint64_t probe_number(const uint8_t *input, size_t length);
 uint64_t probe_line(const uint8_t *input, size_t length);
 uint64_t probe_rows(const uint8_t *input, size_t length);
+size_t probe_shares(const uint64_t *hull, size_t numbers, const uint64_t *rows, size_t fields, uint64_t *out, size_t room);
 
 static uint64_t ask(void) {
     uint64_t n = 0;
@@ -52,11 +54,21 @@ static void judgement(void) {
     free(input);
 }
 
+static void share(void) {
+    uint64_t hull[26], row[4], out[2] = {0, 0};
+    for (int i = 0; i < 26; i++) hull[i] = ask();
+    for (int i = 0; i < 4; i++) row[i] = ask();
+    tell(probe_shares(hull, 26, row, 4, out, 2));
+    tell(out[0]);
+    tell(out[1]);
+}
+
 int main(void) {
     for (int question; (question = getchar()) != EOF;) {
         if (question == 's') survival();
         else if (question == 'v') height();
         else if (question == 'j') judgement();
+        else if (question == 'q') share();
         else return 2;
     }
     return 0;

@@ -7,6 +7,7 @@
  *
  * A turn runs the proved library, the plain C, the same with a span table and the same without a square root of the processor's one after the
  * other, each for a millisecond or more, so that a slow moment meets all of them. What is printed: the best and the middle of the turns of each. */
+#define _POSIX_C_SOURCE 200809L
 #include <stdint.h>
 #include <stdio.h>
 #include <stdlib.h>

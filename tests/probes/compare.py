@@ -1,10 +1,7 @@
 """Compares single figures of the proved crates with the independent program, through a host in C: `python3 tests/probes/compare.py`."""
 
 import argparse
-import os
-import platform
 import random
-import shutil
 import struct
 import subprocess
 import sys
@@ -12,7 +9,6 @@ from pathlib import Path
 
 HERE = Path(__file__).resolve().parent
 ROOT = HERE.parent.parent
-TARGET = ROOT / "target" / "probes"
 sys.path.insert(0, str(HERE.parent))
 
 from generator.dice import Dice  # noqa: E402
@@ -22,21 +18,9 @@ from independent import Row, judge, reading  # noqa: E402
 from independent.casefile import hull_of, row_is_within  # noqa: E402
 from independent.regulation import s_fourth, v  # noqa: E402
 from independent.rounding import share_ends, survival_ends  # noqa: E402
+from linking import linked  # noqa: E402
 
 PLACES = 21  # of a hull record: 0, the inner bulkheads, Ls, and zeros after it
-
-
-def built():
-    """The host, linked with the proved library; where this machine is no x86-64 one, with the emulator before it."""
-    subprocess.run(["rt", "staticlib", "probes"], cwd=ROOT, check=True, stdout=subprocess.DEVNULL)
-    TARGET.mkdir(parents=True, exist_ok=True)
-    host, library = TARGET / "host", ROOT / "target" / "staticlib" / "libprobes.a"
-    if platform.machine() == "x86_64":
-        subprocess.run(["cc", "-O2", "-o", host, HERE / "host.c", library], check=True)
-        return [str(host)]
-    subprocess.run(["x86_64-linux-gnu-gcc", "-O2", "-static", "-o", host, HERE / "host.c", library], check=True)
-    kit = Path(os.environ.get("RATTLE_HOME") or Path(shutil.which("rt")).resolve().parent.parent)
-    return [str(kit / "on" / platform.machine() / "toolchain" / "bin" / "qemu-x86_64"), str(host)]
 
 
 def survivals(dice, count):
@@ -162,7 +146,7 @@ def main():
     parser.add_argument("--files", type=int, default=20_000)
     wanted = parser.parse_args()
     asked = list(questions(random.Random(wanted.seed), wanted))
-    told = subprocess.run(built(), input=b"".join(question for _, question, _ in asked), stdout=subprocess.PIPE, check=True).stdout
+    told = subprocess.run(linked(HERE / "host.c", "probes"), input=b"".join(question for _, question, _ in asked), stdout=subprocess.PIPE, check=True).stdout
     passed = failed = at = 0
     for words, _, expected in asked:
         answer = struct.unpack_from("<%dQ" % len(expected), told, at)

@@ -1,15 +1,11 @@
 /* Answers questions about single figures of the proved crates, many in one process.
  *
- * Standard input: a letter and its numbers, each number eight bytes, low byte first.
+ * A question is a letter and what `asking.h` says of its numbers and files:
  *   s kind lever range heel given   -> bottom top
  *   v below height draught          -> v
- *   j length, then so many bytes    -> number line rows
- *   q hull (26 numbers) a n b' b    -> rows lower upper
- * Standard output: the answers' numbers, eight bytes each, low byte first. */
-#include <stddef.h>
-#include <stdint.h>
-#include <stdio.h>
-#include <stdlib.h>
+ *   j file                          -> number line rows
+ *   q hull (26 numbers) a n b' b    -> rows lower upper */
+#include "asking.h"
 
 uint64_t probe_bottom(uint64_t kind, uint64_t lever, uint64_t range, uint64_t heel, uint64_t given);
 uint64_t probe_top(uint64_t kind, uint64_t lever, uint64_t range, uint64_t heel, uint64_t given);
@@ -18,20 +14,6 @@ uint64_t probe_number(const uint8_t *input, size_t length);
 uint64_t probe_line(const uint8_t *input, size_t length);
 uint64_t probe_rows(const uint8_t *input, size_t length);
 size_t probe_shares(const uint64_t *hull, size_t numbers, const uint64_t *rows, size_t fields, uint64_t *out, size_t room);
-
-static uint64_t ask(void) {
-    uint64_t n = 0;
-    for (int i = 0; i < 8; i++) {
-        int byte = getchar();
-        if (byte == EOF) exit(2);
-        n |= (uint64_t)byte << (8 * i);
-    }
-    return n;
-}
-
-static void tell(uint64_t n) {
-    for (int i = 0; i < 8; i++) putchar((int)(n >> (8 * i) & 255));
-}
 
 static void survival(void) {
     uint64_t kind = ask(), lever = ask(), range = ask(), heel = ask(), given = ask();
@@ -45,9 +27,8 @@ static void height(void) {
 }
 
 static void judgement(void) {
-    size_t length = (size_t)ask();
-    uint8_t *input = malloc(length + 1);
-    if (!input || fread(input, 1, length, stdin) != length) exit(2);
+    size_t length;
+    uint8_t *input = ask_file(&length);
     tell(probe_number(input, length));
     tell(probe_line(input, length));
     tell(probe_rows(input, length));

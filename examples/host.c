@@ -1,0 +1,61 @@
+/* A program that calls the library: reads a case file from standard input and tells its answer in words.
+ *
+ *     rt staticlib host
+ *     cc -I include -o host examples/host.c target/staticlib/libhost.a
+ *     ./host < FILE
+ *
+ * Exit status: 0 meets, 2 fails, 3 unsettled, 4 refused; 1 where the input could not be read. */
+#include "damindex.h"
+#include <inttypes.h>
+#include <stdio.h>
+
+static const char *const verdicts[] = {
+    [DAMINDEX_MEETS] = "meets the required index",
+    [DAMINDEX_FAILS] = "fails the required index",
+    [DAMINDEX_UNSETTLED] = "unsettled: a mark lies between the ends",
+};
+
+static const char *const refusals[] = {
+    [DAMINDEX_TOO_LONG] = "the input is too long",
+    [DAMINDEX_NOT_HEXADECIMAL] = "not a line of hexadecimal digits",
+    [DAMINDEX_WRONG_FRAME] = "no frame that may stand here",
+    [DAMINDEX_HULL_LIMITS] = "length, breadth or a draught is outside its limits",
+    [DAMINDEX_ZONES] = "zone count or bulkheads are wrong",
+    [DAMINDEX_ROW_COUNT] = "too many rows, or they are counted wrongly",
+    [DAMINDEX_ROW_LIMITS] = "a number of the row is outside its limits",
+    [DAMINDEX_ROW_ORDER] = "the row is out of order",
+    [DAMINDEX_NOT_CLOSED] = "the layer or group before is not closed",
+    [DAMINDEX_END_FRAME] = "the end frame is missing, or not the last line",
+    [DAMINDEX_SHEET_TOO_SHORT] = "the sheet is too short",
+};
+
+/* How a program ends by verdict. */
+static const int statuses[] = {[DAMINDEX_MEETS] = 0, [DAMINDEX_FAILS] = 2, [DAMINDEX_UNSETTLED] = 3};
+
+static void tell_index(const char *name, const uint64_t ends[2]) {
+    printf("%-2s %10" PRIu64 " to %10" PRIu64 " billionths\n", name, ends[0], ends[1]);
+}
+
+int main(void) {
+    static uint8_t input[DAMINDEX_LONGEST_INPUT + 1];
+    static uint64_t sheet[DAMINDEX_LONGEST_SHEET];
+    uint64_t figures[DAMINDEX_FIGURES];
+
+    size_t length = fread(input, 1, sizeof input, stdin);
+    if (ferror(stdin)) return 1;
+    damindex_figures(input, length, sheet, DAMINDEX_LONGEST_SHEET, figures, DAMINDEX_FIGURES);
+
+    uint64_t number = figures[DAMINDEX_NUMBER];
+    if (number != 0) {
+        printf("refused, number %" PRIu64 " at line %" PRIu64 ": %s\n", number, figures[DAMINDEX_LINE], refusals[number]);
+        return 4;
+    }
+    printf("%s\n", verdicts[figures[DAMINDEX_VERDICT]]);
+    tell_index("A", figures + DAMINDEX_A_LOWER);
+    tell_index("As", figures + DAMINDEX_AS_LOWER);
+    tell_index("Ap", figures + DAMINDEX_AP_LOWER);
+    tell_index("Al", figures + DAMINDEX_AL_LOWER);
+    for (uint64_t row = 0; row < figures[DAMINDEX_ROWS]; row++)
+        printf("row %3" PRIu64 ": share %10" PRIu64 " to %10" PRIu64 " billionths\n", row + 1, sheet[2 * row], sheet[2 * row + 1]);
+    return statuses[figures[DAMINDEX_VERDICT]];
+}

@@ -1,0 +1,99 @@
+/* The damage subdivision index for programs in C: two functions, which the archive of crate `host` defines.
+ *
+ *     rt staticlib host        proves the library and writes target/staticlib/libhost.a (x86-64)
+ *     cc program.c target/staticlib/libhost.a
+ *
+ * Slices. Whatever is lent goes as two arguments: a pointer to the first element, and how many elements there are. The length is all that
+ * the library knows of the room behind the pointer, and it neither reads nor writes outside of it.
+ *
+ * What both functions promise, of any bytes whatever (proved of the library's own text): they return; they read `input` and never write it;
+ * they write what is said below and leave every other element as it was; the same input with the same lengths gives the same answer. They
+ * keep nothing between calls, take no memory from the heap and call nothing of the C library but memcpy and memset. 64 kilobytes of stack
+ * are enough.
+ *
+ * What the caller keeps, because no proof reaches into C:
+ *   - no pointer is NULL, also where the length is 0; numbers of 64 bits are aligned as C aligns them;
+ *   - each length is at most the number of elements that are there;
+ *   - what is written (`out`, `sheet`, `figures`) overlaps nothing else that is lent in the same call;
+ *   - nobody else writes what is lent until the call returns. Calls on slices of their own may run at the same time.
+ */
+#ifndef DAMINDEX_H
+#define DAMINDEX_H
+
+#include <stddef.h>
+#include <stdint.h>
+
+#ifdef __cplusplus
+extern "C" {
+#endif
+
+/* Sizes that serve every input (proved). A longer input than the longest is refused for its length, whatever it holds: to read one byte more
+ * than that is enough to tell. */
+enum {
+    DAMINDEX_LONGEST_INPUT = 32768, /* bytes */
+    DAMINDEX_LONGEST_REPORT = 9569, /* bytes: 500 rows */
+    DAMINDEX_LONGEST_SHEET = 1000,  /* numbers: two a row */
+    DAMINDEX_FIGURES = 12           /* numbers */
+};
+
+/* Where each of the twelve figures stands. Ends are in billionths: the exact index is not below the lower and not above the upper end. */
+enum {
+    DAMINDEX_NUMBER = 0, /* the refusal's number, 0 where the file is accepted */
+    DAMINDEX_LINE,       /* the refusal's line, 0 where it has none */
+    DAMINDEX_VERDICT,    /* 0 at a refusal */
+    DAMINDEX_ROWS,       /* how many rows the file has, 0 at a refusal */
+    DAMINDEX_A_LOWER,    /* the attained index; this and what follows is 0 at a refusal */
+    DAMINDEX_A_UPPER,
+    DAMINDEX_AS_LOWER, /* the partial index at the deepest draught */
+    DAMINDEX_AS_UPPER,
+    DAMINDEX_AP_LOWER, /* at the partial draught */
+    DAMINDEX_AP_UPPER,
+    DAMINDEX_AL_LOWER, /* at the light draught */
+    DAMINDEX_AL_UPPER
+};
+
+/* Verdicts. */
+enum {
+    DAMINDEX_MEETS = 1,    /* every lower end reaches its mark: A the required index R, each partial index half of R */
+    DAMINDEX_FAILS = 2,    /* some upper end is below its mark */
+    DAMINDEX_UNSETTLED = 3 /* neither: some mark lies between the ends */
+};
+
+/* Refusals. A file is judged line by line, and the first line that breaks a rule gives number and line. */
+enum {
+    DAMINDEX_TOO_LONG = 1,        /* more than 32,768 bytes; line 0 */
+    DAMINDEX_NOT_HEXADECIMAL = 2, /* an empty line, an odd number of digits, a byte that is no digit, or no closing line feed */
+    DAMINDEX_WRONG_FRAME = 3,     /* a frame of another kind or length than may stand there */
+    DAMINDEX_HULL_LIMITS = 4,     /* length, breadth or a draught outside its limits; line 1 */
+    DAMINDEX_ZONES = 5,           /* the zone count, the hull frame's length or the bulkheads; line 1 */
+    DAMINDEX_ROW_COUNT = 6,       /* a 501st row, or an end frame that counts other rows than there were */
+    DAMINDEX_ROW_LIMITS = 7,      /* a number of a row outside its limits */
+    DAMINDEX_ROW_ORDER = 8,       /* a row that does not come after the row before it */
+    DAMINDEX_NOT_CLOSED = 9,      /* a layer or group that ends before its top or before half the breadth */
+    DAMINDEX_END_FRAME = 10,      /* a line after the end frame; or no end frame, at the line after the last */
+    DAMINDEX_SHEET_TOO_SHORT = 11 /* fewer than two numbers a row on the sheet, in a file that is accepted otherwise; line 0 */
+};
+
+/* The printed answer, as the program damindex writes it.
+ *
+ * Takes a case file in `input`, and a buffer `out`. Writes the answer's text to the front of `out`, with no closing zero: the verdict and the
+ * indices in a line and a line for each row, or the one line of a refusal. Returns how many bytes that is, at least 9 and at most
+ * DAMINDEX_LONGEST_REPORT. Where `out` is shorter than the text it returns 0 and writes nothing. */
+size_t damindex_report(const uint8_t *input, size_t input_length, uint8_t *out, size_t out_length);
+
+/* The figures of the answer, and each row's share.
+ *
+ * Takes a case file in `input`, a `sheet` for the shares and room for twelve `figures`. Writes the figures in the order above to the front of
+ * `figures`, and, where the file is accepted, each row's share to the front of `sheet`: lower end, then upper end, in the order of the rows.
+ * Returns DAMINDEX_FIGURES.
+ *
+ * Where `figures` has fewer than twelve numbers it returns 0 and writes nothing at all, on the sheet neither. Where the file is refused the
+ * sheet stays as it was, also for refusal 11, which a sheet of DAMINDEX_LONGEST_SHEET numbers never gets. */
+size_t damindex_figures(const uint8_t *input, size_t input_length, uint64_t *sheet, size_t sheet_length, uint64_t *figures,
+                        size_t figures_length);
+
+#ifdef __cplusplus
+}
+#endif
+
+#endif

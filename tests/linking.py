@@ -20,13 +20,19 @@ def archive(crate):
     return made
 
 
-def linked(source, crate):
-    """The words that run a program in C, linked with a crate's archive; where this machine is no x86-64 one, the emulator's come first."""
+def kit_tool(name):
+    """A program of the kit's toolchain for this machine."""
+    kit = Path(os.environ.get("RATTLE_HOME") or Path(shutil.which("rt")).resolve().parent.parent)
+    return str(kit / "on" / platform.machine() / "toolchain" / "bin" / name)
+
+
+def linked(source, crate, *others):
+    """The words that run a program in C, linked with a crate's archive and with other objects and archives; where this machine is no x86-64 one,
+    the emulator's come first."""
     library, program = archive(crate), ROOT / "target" / "linked" / crate / source.stem
     program.parent.mkdir(parents=True, exist_ok=True)
     if platform.machine() == "x86_64":
-        subprocess.run(["cc", *FLAGS, "-o", program, source, library], check=True)
+        subprocess.run(["cc", *FLAGS, "-o", program, source, library, *others], check=True)
         return [str(program)]
-    subprocess.run(["x86_64-linux-gnu-gcc", *FLAGS, "-static", "-o", program, source, library], check=True)
-    kit = Path(os.environ.get("RATTLE_HOME") or Path(shutil.which("rt")).resolve().parent.parent)
-    return [str(kit / "on" / platform.machine() / "toolchain" / "bin" / "qemu-x86_64"), str(program)]
+    subprocess.run(["x86_64-linux-gnu-gcc", *FLAGS, "-static", "-o", program, source, library, *others], check=True)
+    return [kit_tool("qemu-x86_64"), str(program)]

@@ -13,10 +13,14 @@ sys.path.insert(0, str(HERE.parent))
 
 from generator.dice import Dice  # noqa: E402
 from generator.fresh import seeded_file  # noqa: E402
-from independent import judge, reading  # noqa: E402
+from generator.shapes import seeded_hull, seeded_layers  # noqa: E402
+from independent import Row, judge, reading  # noqa: E402
+from independent.casefile import hull_of, row_is_within  # noqa: E402
 from independent.regulation import s_fourth, v  # noqa: E402
-from independent.rounding import survival_ends  # noqa: E402
+from independent.rounding import share_ends, survival_ends  # noqa: E402
 from linking import linked  # noqa: E402
+
+PLACES = 21  # of a hull record: 0, the inner bulkheads, Ls, and zeros after it
 
 
 def survivals(dice, count):
@@ -52,6 +56,58 @@ def files(dice, count):
         yield seeded_file(Dice(first + number))[0]
 
 
+def layer(dice, hull):
+    """The penetrations before a row and at it: a group's first layer, its last, the whole depth, or two layers of the group."""
+    inner = seeded_layers(dice, hull, 2) or [hull.half]
+    way = dice.below(4)
+    if way == 0:
+        return 0, hull.half
+    if way == 1:
+        return 0, inner[0]
+    if way == 2:
+        return (inner[-1] if inner[-1] < hull.half else 0), hull.half
+    return inner[0] - dice.below(inner[0] + 1), inner[-1]
+
+
+def group(dice, zones):
+    """A group's first zone and zone count: at the stern, at the bow, both, or anywhere."""
+    count = min(dice.pick((1, 2, 3, zones, dice.between(1, zones))), zones)
+    return dice.pick((1, zones + 1 - count, dice.between(1, zones + 1 - count))), count
+
+
+def rows(dice, count):
+    """Rows in hulls of many shapes; now and then one that the hull does not have, or a hull that is none."""
+    for _ in range(count):
+        hull = seeded_hull(dice, 20 if dice.one_in(4) else None)
+        (a, n), (before, b) = group(dice, hull.zones), layer(dice, hull)
+        places = (0,) + hull.bulkheads + (hull.ls,)
+        numbers = [hull.ls, hull.breadth, hull.ds, hull.dl, hull.zones, *places] + [0] * (PLACES - len(places))
+        asked = [a, n, before, b]
+        if dice.one_in(20):
+            asked[dice.below(4)] = dice.pick((0, hull.zones + 1, hull.half + 1, 2**63, 2**64 - 1, 2**64 - hull.zones))
+        if dice.one_in(50):
+            numbers[dice.below(5 + len(places))] = dice.pick((0, 1, 7999, 19801, 6001, 2**64 - 1))
+        yield tuple(numbers), tuple(asked)
+
+
+def hull_read(ls, breadth, ds, dl, zones, *places):
+    """The hull that the independent program reads from a frame of these numbers, or None where it refuses it or no frame has them."""
+    if max(ls, breadth, ds, dl, *places) > 65_535 or not 1 <= zones <= 20 or places[0] != 0 or places[zones] != ls:
+        return None
+    words = [number.to_bytes(2, "big") for number in (ls, breadth, ds, dl) + places[1:zones]]
+    read = hull_of(b"\x01" + b"".join(words[:4]) + bytes([zones]) + b"".join(words[4:]))
+    return None if isinstance(read, int) else read
+
+
+def share_expected(numbers, asked):
+    hull = hull_read(*numbers)
+    if hull is None:
+        return 0, 0, 0
+    a, n, before, b = asked
+    row = Row(a, n, b, 1, None, (0, 0, 0), before)
+    return 1, *(share_ends(hull, row) if row_is_within(row, hull) and before <= b else (0, 0))
+
+
 def survival_expected(kind, lever, reach, heel, given):
     return (given, given) if kind == 3 else tuple(survival_ends(s_fourth(lever, reach, heel)))
 
@@ -75,6 +131,8 @@ def questions(dice, wanted):
         yield "survival of kind %d, lever %d, range %d, heel %d, given %d" % asked, b"s" + numbers(asked), survival_expected(*asked)
     for asked in heights(dice, wanted.heights):
         yield "v of a row from %d to %d at draught %d" % asked, b"v" + numbers(asked), height_expected(*asked)
+    for hull, row in rows(Dice(wanted.seed), wanted.rows):
+        yield "share of %s in the hull %s" % (row, hull), b"q" + numbers(hull + row), share_expected(hull, row)
     for data in files(dice, wanted.files):
         yield "judgement of %r" % data[:60], b"j" + numbers([len(data)]) + data, judgement_expected(data)
 
@@ -84,6 +142,7 @@ def main():
     parser.add_argument("--seed", type=int, default=1)
     parser.add_argument("--survivals", type=int, default=10_000)
     parser.add_argument("--heights", type=int, default=10_000)
+    parser.add_argument("--rows", type=int, default=10_000)
     parser.add_argument("--files", type=int, default=20_000)
     wanted = parser.parse_args()
     asked = list(questions(random.Random(wanted.seed), wanted))

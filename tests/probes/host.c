@@ -3,7 +3,8 @@
  * A question is a letter and what `asking.h` says of its numbers and files:
  *   s kind lever range heel given   -> bottom top
  *   v below height draught          -> v
- *   j file                          -> number line rows */
+ *   j file                          -> number line rows
+ *   q hull (26 numbers) a n b' b    -> rows lower upper */
 #include "asking.h"
 
 uint64_t probe_bottom(uint64_t kind, uint64_t lever, uint64_t range, uint64_t heel, uint64_t given);
@@ -12,6 +13,7 @@ uint64_t probe_height(uint64_t below, uint64_t height, uint64_t draught);
 uint64_t probe_number(const uint8_t *input, size_t length);
 uint64_t probe_line(const uint8_t *input, size_t length);
 uint64_t probe_rows(const uint8_t *input, size_t length);
+size_t probe_shares(const uint64_t *hull, size_t numbers, const uint64_t *rows, size_t fields, uint64_t *out, size_t room);
 
 static void survival(void) {
     uint64_t kind = ask(), lever = ask(), range = ask(), heel = ask(), given = ask();
@@ -33,11 +35,21 @@ static void judgement(void) {
     free(input);
 }
 
+static void share(void) {
+    uint64_t hull[26], row[4], out[2] = {0, 0};
+    for (int i = 0; i < 26; i++) hull[i] = ask();
+    for (int i = 0; i < 4; i++) row[i] = ask();
+    tell(probe_shares(hull, 26, row, 4, out, 2));
+    tell(out[0]);
+    tell(out[1]);
+}
+
 int main(void) {
     for (int question; (question = getchar()) != EOF;) {
         if (question == 's') survival();
         else if (question == 'v') height();
         else if (question == 'j') judgement();
+        else if (question == 'q') share();
         else return 2;
     }
     return 0;

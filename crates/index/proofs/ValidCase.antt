@@ -25,10 +25,11 @@ use Rattle.index.specs.Standing.{nowhere, stands}
 use Rattle.index.specs.Running.{Stood, Follow}
 use Rattle.index.proofs.Stands.{inGroup, in-layer, in-next-layer, in-new-group, head-is}
 
-pub hulled : (h : Hull) → ValidHull h → Hulled h
-hulled h v =
-    let s = sizes-are h (holds (sizesFit h) (v .sizes)) in
-    let z = zones-are h (holds (zonesFit h) (v .zones)) in
+-- a hull within the limits
+pub fits-hulled : (h : Hull) → sizesFit h ≡ true → zonesFit h ≡ true → Hulled h
+fits-hulled h e f =
+    let s = sizes-are h e in
+    let z = zones-are h f in
     record {
       long = s .long;
       short = s .short;
@@ -40,6 +41,9 @@ hulled h v =
       bow = z .bow;
       rising = λ k l. rw add-one (rising-step (h .places) (h .zones) k (z .rising) l);
     }
+
+pub hulled : (h : Hull) → ValidHull h → Hulled h
+hulled h v = fits-hulled h (holds (sizesFit h) (v .sizes)) (holds (zonesFit h) (v .zones))
 
 given-within : (fs : List Finding) → Every Found fs → (i : ℕ) → getD fs i nothing .given ≤ 10 ^ 4
 given-within [] e i = omega arith

@@ -6,6 +6,8 @@ ghost use Rattle.casefile.specs.Answer.{judgementOf};
 ghost use Rattle.casefile.specs.Reading.{reading};
 ghost use Rattle.survival.specs.Survival.{survivalOf};
 
+pub mod shares; // rows' shares by the one span table
+
 // The bottom of a result's survival.
 #[no_mangle]
 pub extern "C" fn probe_bottom(kind: u64, lever: u64, range: u64, heel: u64, given: u64) -> u64

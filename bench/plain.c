@@ -1,0 +1,340 @@
+/* The whole job of damindex in plain C, to time the proved program against: reads a case file, judges it, works it out and prints the answer.
+ *
+ * Numbers of 64 bits, and of 128 where those are too few. With TABLE defined, the chances of a hull's spans are worked out once for each file;
+ * with WHOLE, the fourth root is found by halving and not from the processor's square root. The names of the two functions that a caller sees
+ * are given by REPORT and SHARES. No header is needed. */
+typedef unsigned char u8;
+typedef unsigned long u64;
+typedef unsigned __int128 u128;
+
+#define BILLION 1000000000ul
+enum { LONGEST = 32768, MOST_ROWS = 500, MOST_ZONES = 20, LONGEST_FRAME = 8 + 2 * MOST_ZONES, NUMBERS = 26 };
+
+typedef struct { u64 lower, upper; } Ends;
+typedef struct { u64 length, breadth, deepest, light, zones, places[MOST_ZONES + 1]; } Hull;
+typedef struct { u64 kind, first, count, depth, height, results[9]; } Row;
+typedef struct { u64 number, line; } Refusal;
+
+/* ---- the chance of damage within a span */
+
+typedef struct { Ends inner, chance; } Span;
+
+static Ends billionths(u64 n, u64 d) {
+    u128 scaled = (u128)n * BILLION;
+    u64 down = (u64)(scaled / d);
+    return (Ends){down, down + ((u128)down * d != scaled)};
+}
+
+static Span chances(u64 L, u64 aft, u64 fwd) {
+    u64 x = fwd - aft, n, d;
+    if (33 * x <= 5 * L) {
+        n = 550 * x * x * L - 1089 * x * x * x;
+        d = 100 * L * L * L;
+    } else if (33 * x <= 10 * L) {
+        n = 19800 * x * L * L + 32670 * x * x * L - 1000 * L * L * L - 35937 * x * x * x;
+        d = 29700 * L * L * L;
+    } else {
+        n = 297 * x - 20 * L;
+        d = 297 * L;
+    }
+    Ends p = billionths(n, d);
+    if (aft == 0 && fwd == L) return (Span){p, {BILLION, BILLION}};
+    if (aft == 0 || fwd == L) return (Span){p, billionths(n + x * (d / L), 2 * d)};
+    return (Span){p, p};
+}
+
+#ifdef TABLE
+typedef struct { Span of[MOST_ZONES][MOST_ZONES]; } Spans;
+
+static void work_spans(const Hull *h, Spans *t) {
+    for (u64 a = 0; a < h->zones; a++)
+        for (u64 e = a; e < h->zones; e++) t->of[a][e] = chances(h->length, h->places[a], h->places[e + 1]);
+}
+
+static Span span(const Hull *h, const Spans *t, u64 a, u64 e) {
+    (void)h;
+    return t->of[a - 1][e - 1];
+}
+#else
+typedef struct { u8 none; } Spans;
+
+static void work_spans(const Hull *h, Spans *t) {
+    (void)h;
+    (void)t;
+}
+
+static Span span(const Hull *h, const Spans *t, u64 a, u64 e) {
+    (void)t;
+    return chances(h->length, h->places[a - 1], h->places[e]);
+}
+#endif
+
+/* ---- penetration */
+
+typedef struct { u64 b, c, d; Ends g1, g3; } Layer;
+
+static Layer layer(u64 B, u64 b) {
+    return (Layer){b, 16 * b * B - 12 * b * b, 5 * B * B, billionths(5500 * b * B - 1089 * b * b, 7500 * B * B),
+                   billionths(1375 * b * b * B - 363 * b * b * b, 56250 * B * B * B)};
+}
+
+static u64 up(u64 n, u64 d) { return n / d + (n % d != 0); }
+
+static u64 less(u64 a, u64 b) { return a > b ? a - b : 0; }
+
+static Ends within(const Hull *h, const Spans *t, const Layer *y, u64 a, u64 e) {
+    u64 L = h->length, aft = h->places[a - 1], fwd = h->places[e], x = fwd - aft;
+    Span s = span(h, t, a, e);
+    Ends g;
+    if (aft == 0 && fwd == L) {
+        g = y->g1;
+    } else {
+        int is_short = 15 * h->breadth * x <= y->b * L, one_end = aft == 0 || fwd == L;
+        Ends part = {x * y->g1.lower / L, up(x * y->g1.upper, L)};
+        if (one_end && is_short) g = (Ends){(s.inner.lower + part.lower) / 2, up(s.inner.upper + part.upper, 2)};
+        else if (one_end) g = (Ends){less(part.lower, up(y->g3.upper, 2)), part.upper - y->g3.lower / 2};
+        else if (is_short) g = s.inner;
+        else g = (Ends){less(part.lower, y->g3.upper), part.upper - y->g3.lower};
+    }
+    u64 rest = y->d - y->c;
+    return (Ends){(s.chance.lower * y->c + g.lower * rest) / y->d, up(s.chance.upper * y->c + g.upper * rest, y->d)};
+}
+
+/* ---- shares */
+
+typedef struct { Ends added, taken; } Sums;
+
+static Ends both(Ends f, Ends g) { return (Ends){f.lower + g.lower, f.upper + g.upper}; }
+
+static Sums sums(const Hull *h, const Spans *t, u64 a, u64 n, u64 b) {
+    Layer y = layer(h->breadth, b);
+    u64 e = a + n - 1;
+    if (n == 1) return (Sums){within(h, t, &y, a, a), {0, 0}};
+    if (n == 2) return (Sums){within(h, t, &y, a, e), both(within(h, t, &y, a, a), within(h, t, &y, e, e))};
+    return (Sums){both(within(h, t, &y, a, e), within(h, t, &y, a + 1, e - 1)), both(within(h, t, &y, a, e - 1), within(h, t, &y, a + 1, e))};
+}
+
+static Ends share(Sums before, Sums at) {
+    u64 lower = less(at.added.lower + before.taken.lower, at.taken.upper + before.added.upper);
+    u64 upper = at.added.upper + before.taken.upper - (at.taken.lower + before.added.lower);
+    return (Ends){lower, upper < BILLION ? upper : BILLION};
+}
+
+/* ---- height and survival */
+
+static u64 height_factor(u64 H, u64 d) {
+    u64 h = less(H, d);
+    return h <= 7800 ? 94 * h : h <= 12500 ? 733200 + 39 * (h - 7800) : 916500;
+}
+
+static u64 fourth_power(u64 s) { return s * s * s * s; }
+
+static u64 fourth_root(u64 n) {
+#ifdef WHOLE
+    u64 s = 0, above = 10001;
+    while (s + 1 < above) {
+        u64 middle = (s + above) / 2;
+        if (fourth_power(middle) <= n) s = middle;
+        else above = middle;
+    }
+#else
+    u64 s = (u64)__builtin_sqrt(__builtin_sqrt((double)n));
+    while (fourth_power(s) > n) s--;
+    while (fourth_power(s + 1) <= n) s++;
+#endif
+    return s;
+}
+
+static Ends survival(u64 lever, u64 range, u64 heel) {
+    u64 n = (lever < 120 ? lever : 120) * (range < 1600 ? range : 1600), d = 120 * 1600;
+    if (heel >= 3000) n = 0;
+    if (heel > 2500 && heel < 3000) {
+        n *= (3000 - heel) * (3000 - heel);
+        d *= 500 * 500;
+    }
+    u128 scaled = (u128)n * 10000000000000000ul;
+    u64 s = fourth_root((u64)(scaled / d));
+    return (Ends){s, s + ((u128)fourth_power(s) * d != scaled)};
+}
+
+/* ---- the answer */
+
+typedef struct { u64 verdict; Ends figures[4], *shares; } Answer;
+
+static int reaches(u64 end, u64 n, u64 d) { return (u128)end * d >= (u128)n * BILLION; }
+
+static u64 verdict(u64 L, const Ends *figures) {
+    u64 n = L > 10000 ? L + 2400 : L * (L + 2400), d = L > 10000 ? L + 15200 : n + 128000000;
+    int meets = 1, fails = 0;
+    for (int k = 0; k < 4; k++) {
+        u64 den = k ? 2 * d : d;
+        meets &= reaches(figures[k].lower, n, den);
+        fails |= !reaches(figures[k].upper, n, den);
+    }
+    return meets ? 1 : fails ? 2 : 3;
+}
+
+static void work_out(const Hull *h, const Row *rows, u64 count, Answer *answer) {
+    Spans t;
+    work_spans(h, &t);
+    u64 draughts[3] = {h->deepest, h->light + 3 * (h->deepest - h->light) / 5, h->light};
+    Ends *figures = answer->figures, one = {0, 0};
+    Sums before = {{0, 0}, {0, 0}}, at = before;
+    for (int k = 0; k < 4; k++) figures[k] = (Ends){0, 0};
+    for (u64 i = 0; i < count; i++) {
+        const Row *r = rows + i, *last = i ? r - 1 : 0;
+        int same_group = last && last->first == r->first && last->count == r->count, same_layer = same_group && last->depth == r->depth;
+        if (!same_layer) {
+            before = same_group ? at : (Sums){{0, 0}, {0, 0}};
+            at = sums(h, &t, r->first, r->count, r->depth);
+            one = share(before, at);
+        }
+        answer->shares[i] = one;
+        for (int k = 0; k < 3; k++) {
+            u64 v = height_factor(r->height, draughts[k]) - (same_layer ? height_factor(last->height, draughts[k]) : 0);
+            const u64 *f = r->results + 3 * k;
+            Ends s = r->kind == 3 ? (Ends){f[0], f[0]} : survival(f[0], f[1], f[2]);
+            figures[k + 1].lower += one.lower * v * s.lower / 9165000000ul;
+            figures[k + 1].upper += up(one.upper * v * s.upper, 9165000000ul);
+        }
+    }
+    figures[0].lower = (2 * figures[1].lower + 2 * figures[2].lower + figures[3].lower) / 5;
+    figures[0].upper = up(2 * figures[1].upper + 2 * figures[2].upper + figures[3].upper, 5);
+    answer->verdict = verdict(h->length, figures);
+}
+
+/* ---- the case file */
+
+/* A digit's value and one; 0 for what is no digit. */
+static const u8 DIGITS[256] = {['0'] = 1, 2, 3, 4, 5, 6, 7, 8, 9, 10, ['a'] = 11, 12, 13, 14, 15, 16};
+
+static u64 word(const u8 *f) { return 256ul * f[0] + f[1]; }
+
+/* How many bytes a line writes, 0 where it is badly written; as many as go in are put into the frame. */
+static u64 decode(const u8 *text, u64 digits, u8 *frame) {
+    if (digits % 2) return 0;
+    for (u64 i = 0; i < digits / 2; i++) {
+        int high = DIGITS[text[2 * i]], low = DIGITS[text[2 * i + 1]];
+        if (!high || !low) return 0;
+        if (i < LONGEST_FRAME) frame[i] = (u8)(16 * (high - 1) + low - 1);
+    }
+    return digits / 2;
+}
+
+static u64 read_hull(const u8 *f, u64 size, Hull *h) {
+    if (size < 10 || f[0] != 1) return 3;
+    *h = (Hull){word(f + 1), word(f + 3), word(f + 5), word(f + 7), f[9], {0}};
+    if (h->length < 8000 || h->length > 19800 || h->breadth % 2 || h->breadth < 1000 || h->breadth > 6000) return 4;
+    if (h->deepest < 1000 || h->deepest > 30000 || h->light < 500 || h->light > h->deepest || (h->deepest - h->light) % 5) return 4;
+    if (h->zones < 1 || h->zones > MOST_ZONES || size != 8 + 2 * h->zones) return 5;
+    for (u64 k = 1; k < h->zones; k++) h->places[k] = word(f + 8 + 2 * k);
+    h->places[h->zones] = h->length;
+    for (u64 k = 0; k < h->zones; k++)
+        if (h->places[k] >= h->places[k + 1]) return 5;
+    return 0;
+}
+
+static int at_top(const Hull *h, const Row *r) { return r->height >= h->deepest + 12500; }
+
+static int closes(const Hull *h, const Row *r) { return !r || (r->depth == h->breadth / 2 && at_top(h, r)); }
+
+static u64 read_row(const u8 *f, const Hull *h, const Row *last, Row *r) {
+    u64 fields = f[0] == 2 ? 9 : 3;
+    *r = (Row){f[0], f[1], f[2], word(f + 3), word(f + 5), {0}};
+    if (r->first < 1 || r->count < 1 || r->first + r->count - 1 > h->zones) return 7;
+    if (r->depth < 1 || r->depth > h->breadth / 2 || r->height < 1 || r->height > 60000) return 7;
+    for (u64 k = 0; k < fields; k++) {
+        u64 n = word(f + 7 + 2 * k);
+        if (n > (f[0] == 3 ? 10000 : k % 3 ? 9000 : 5000)) return 7;
+        r->results[f[0] == 3 ? 3 * k : k] = n;
+    }
+    if (!last) return 0;
+    if (r->first < last->first || (r->first == last->first && r->count < last->count)) return 8;
+    if (r->first != last->first || r->count != last->count) return closes(h, last) ? 0 : 9;
+    if (r->depth < last->depth) return 8;
+    if (r->depth > last->depth) return at_top(h, last) ? 0 : 9;
+    return r->height <= last->height || at_top(h, last) ? 8 : 0;
+}
+
+static Refusal read_case(const u8 *input, u64 size, Hull *h, Row *rows, u64 *count) {
+    u64 line = 0, ended = 0;
+    const u8 *at = input, *stop = input + size;
+    *count = 0;
+    if (size > LONGEST) return (Refusal){1, 0};
+    while (at < stop) {
+        const u8 *feed = __builtin_memchr(at, '\n', (u64)(stop - at));
+        u8 f[LONGEST_FRAME];
+        u64 bytes, number = 0;
+        line++;
+        if (ended) return (Refusal){10, line};
+        if (!feed || !(bytes = decode(at, (u64)(feed - at), f))) return (Refusal){2, line};
+        const Row *last = *count ? rows + *count - 1 : 0;
+        if (line == 1) {
+            number = read_hull(f, bytes, h);
+        } else if ((f[0] == 2 && bytes == 25) || (f[0] == 3 && bytes == 13)) {
+            number = *count == MOST_ROWS ? 6 : read_row(f, h, last, rows + *count);
+            ++*count;
+        } else if (f[0] == 15 && bytes == 3) {
+            number = word(f + 1) != *count ? 6 : closes(h, last) ? 0 : 9;
+            ended = 1;
+        } else {
+            number = 3;
+        }
+        if (number) return (Refusal){number, line};
+        at = feed + 1;
+    }
+    return ended ? (Refusal){0, 0} : (Refusal){10, line + 1};
+}
+
+/* ---- the printed answer */
+
+static u8 *put(u8 *out, u64 n, int bytes) {
+    for (int k = 2 * bytes - 1; k >= 0; k--) *out++ = (u8)"0123456789abcdef"[n >> 4 * k & 15];
+    return out;
+}
+
+static u8 *put_ends(u8 *out, Ends e) { return put(put(out, e.lower, 4), e.upper, 4); }
+
+u64 REPORT(const u8 *input, u64 size, u8 *out, u64 room) {
+    Hull h;
+    Row rows[MOST_ROWS];
+    u64 count;
+    u8 *to = out;
+    Refusal no = read_case(input, size, &h, rows, &count);
+    if (room < (no.number ? 9 : 69 + 19 * count)) return 0;
+    if (no.number) {
+        to = put(put(put(to, 0x8f, 1), no.number, 1), no.line, 2);
+        *to++ = '\n';
+        return (u64)(to - out);
+    }
+    Ends shares[MOST_ROWS];
+    Answer answer = {0, {{0, 0}}, shares};
+    work_out(&h, rows, count, &answer);
+    to = put(put(to, 0x81, 1), answer.verdict, 1);
+    for (int k = 0; k < 4; k++) to = put_ends(to, answer.figures[k]);
+    *to++ = '\n';
+    for (u64 i = 0; i < count; i++) {
+        to = put_ends(put(to, 0x82, 1), shares[i]);
+        *to++ = '\n';
+    }
+    return (u64)(to - out);
+}
+
+/* The shares of rows by their numbers, a, n, b' and b, in a hull by its numbers, as probe_shares of the proved crates takes them. */
+u64 SHARES(const u64 *hull, u64 numbers, const u64 *rows, u64 fields, u64 *out, u64 room) {
+    Hull h = {hull[0], hull[1], hull[2], hull[3], hull[4], {0}};
+    u64 count = fields / 4 < room / 2 ? fields / 4 : room / 2;
+    if (numbers != NUMBERS) return 0;
+    for (int k = 0; k <= MOST_ZONES; k++) h.places[k] = hull[5 + k];
+    Spans t;
+    work_spans(&h, &t);
+    for (u64 i = 0; i < count; i++) {
+        const u64 *r = rows + 4 * i;
+        Sums before = {{0, 0}, {0, 0}};
+        if (r[2]) before = sums(&h, &t, r[0], r[1], r[2]);
+        Ends e = share(before, sums(&h, &t, r[0], r[1], r[3]));
+        out[2 * i] = e.lower;
+        out[2 * i + 1] = e.upper;
+    }
+    return count;
+}

@@ -14,7 +14,7 @@ use Rattle.solas.specs.Height.{v, vAt, rowV}
 use Rattle.solas.specs.RegulationIndex as regulation
 use Rattle.solas.specs.RegulationIndex.{millimetres, none, at, uppermost, counted, vOf, held, vm}
 use Rattle.solas.specs.OfSolasIndex.{HeightIs01's, PartedAbove, UppermostParts, RowIs01's, LastRowIs01's}
-use Rattle.solas.proofs.Quotients.{is-millimetres}
+use Rattle.solas.proofs.Units.{is-millimetres}
 use Rattle.solas.proofs.Height.{v-slopes, vAt-full, vAt-short, vAt-top, vAt-waterline, vAt-at-most}
 
 -- document 01's parts

@@ -19,18 +19,18 @@ module _ (s : Ship) (h : Sound s) (b′ b : ℕ) where
   taken-not-above a (suc zero) g = zero-le
   taken-not-above a (suc (suc zero)) g =
       pair-share-not-negative (law (s .L) (s .B)) (layer (s .L) (s .B) b′ b) (s .L) (s .aft a) (s .fwd a) (s .aft (a + 1)) (s .fwd (a + 1))
-      (h .zone a (g .from) (omega (arith, g .fits))) (h .next a (g .from) (omega (arith, g .fits)))
-      (h .zone (a + 1) (omega arith) (omega (arith, g .fits))) (ends-within h (omega arith) (omega (arith, g .fits)))
+      (h .zones .zone a (g .from) (omega (arith, g .fits))) (h .zones .next a (g .from) (omega (arith, g .fits)))
+      (h .zones .zone (a + 1) (omega arith) (omega (arith, g .fits))) (ends-within (h .zones) (omega arith) (omega (arith, g .fits)))
   taken-not-above a (suc (suc (suc k))) g =
       let e : s .fwd (a + k + 1 + 1) ≡ s .fwd (a + k + 2) = ap (λ z. s .fwd z) (omega arith) in
       group-share-not-negative (law (s .L) (s .B)) (layer (s .L) (s .B) b′ b) (s .L) (s .aft a) (s .aft (a + 1)) (s .fwd (a + k + 1)) (s .fwd (a + k + 2))
-      (aft-next h a (g .from) (omega (arith, g .fits)))
-      (omega (arith, fwd-next h (a + k + 1) (omega arith) (omega (arith, g .fits))))
-      (ends-within h (omega arith) (omega (arith, g .fits)))
+      (aft-next (h .zones) a (g .from) (omega (arith, g .fits)))
+      (omega (arith, fwd-next (h .zones) (a + k + 1) (omega arith) (omega (arith, g .fits))))
+      (ends-within (h .zones) (omega arith) (omega (arith, g .fits)))
 
   -- all that is added more, by all groups together, is the whole ship's
   figure-of-ship : figure s b′ b 1 (s .m) ≡ inSpan (law (s .L) (s .B)) (layer (s .L) (s .B) b′ b) (s .L) 0 (s .L)
-  figure-of-ship = rw (h .stern, h .bow) refl
+  figure-of-ship = rw (h .zones .stern, h .zones .bow) refl
 
   module _ (q : b′ ≤ b) (p : 2 * b ≤ s .B) where
     pub ship-not-above : figure s b′ b 1 (s .m) ≤ over s
@@ -42,7 +42,7 @@ module _ (s : Ship) (h : Sound s) (b′ b : ℕ) where
         omega (
           arith,
           ship-not-above,
-          excess-not-above (figure s b′ b) (s .m) (h .some) (λ a n x y z. taken-not-above a n (record { from = x; some = y; fits = z })) a n (g .from) (g .some) (g .fits),
+          excess-not-above (figure s b′ b) (s .m) (h .zones .some) (λ a n x y z. taken-not-above a n (record { from = x; some = y; fits = z })) a n (g .from) (g .some) (g .fits),
         )
 
 -- at the half breadth the whole ship is one

@@ -6,7 +6,7 @@ use native.Mathlib.Omega.{arith}
 use Rattle.laws.specs.Fraction.{Fraction, Is, _≈_, _≺_, whole, _⊹_}
 use Rattle.laws.proofs.Fraction.{is-⊹, is-⊝, is-shifted, is-nothing, is-one, same, strictly-below, numerators-strictly-below}
 use Rattle.laws.proofs.FractionSum.{is-upTo}
-use Rattle.solas.specs.Ship.{Ship, Sound}
+use Rattle.solas.specs.Ship.{Ship, Zoned}
 use Rattle.solas.specs.Share.{within, share}
 use Rattle.solas.specs.Count.{added, taken, groups, Group}
 use Rattle.solas.specs.Total.{overGroups, allShares, middleSpan, allWithoutMiddle, firstOfPair, allWithZoneBack}
@@ -19,7 +19,7 @@ is-overGroups s p h =
     is-upTo (s .m) p (λ i q. is-upTo (s .m - i) p (λ j r. h (suc i) (suc j) (record { from = omega arith; some = omega arith; fits = omega arith })))
 
 -- where the zones from a to e have the figure F over d
-module _ (s : Ship) (h : Sound s) (b : ℕ) (F : ℕ → ℕ → ℕ) (d : ℕ) (p : 0 < d)
+module _ (s : Ship) (h : Zoned s) (b : ℕ) (F : ℕ → ℕ → ℕ) (d : ℕ) (p : 0 < d)
     (within-is : (a e : ℕ) → 1 ≤ a → a ≤ e → e ≤ s .m → Is (within s a e b) (F a e) 0 d)
     (share-is : (a n : ℕ) → Group s a n → Is (share s a n b) (added F a n) (taken F a n) d)
   where

@@ -4,7 +4,7 @@ use mathlib.Core.Path.{_≡_}
 use mathlib.Core.Bool.{Bool, true, false}
 use lib.Dec.{leb}
 use Rattle.laws.specs.Sums.{sumBelow}
-use Rattle.solas.specs.Ship.{Ship, Sound}
+use Rattle.solas.specs.Ship.{Ship, Zoned}
 
 unfoldable pub added : (ℕ → ℕ → ℕ) → ℕ → ℕ → ℕ
 added F a zero = 0
@@ -42,6 +42,6 @@ pub record CountsOnce (s : Ship) (u w : ℕ) : Type 0 where
   pub most : (a n : ℕ) → Group s a n → added (hole s u w) a n ≤ taken (hole s u w) a n + 1
   pub once : groups (added (hole s u w)) (s .m) ≡ groups (taken (hole s u w)) (s .m) + 1
 
--- ONE HOLE: every hole in the side of every sound ship
+-- ONE HOLE: every hole in the side of every ship in zones, whatever its length and breadth
 abbrev pub OneHole : Type 0
-OneHole = (s : Ship) → Sound s → (u w : ℕ) → u < w → w ≤ s .L → CountsOnce s u w
+OneHole = (s : Ship) → Zoned s → (u w : ℕ) → u < w → w ≤ s .L → CountsOnce s u w

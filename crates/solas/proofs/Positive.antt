@@ -1,16 +1,22 @@
--- What a row of a sound ship takes away is never more than what it adds, and what it adds more is at most the whole ship. Assumes nothing.
-use Prim.Native.Nat.{ℕ, zero, suc, _+_, _*_, _≤_, zero-le}
+-- What a row of a sound ship takes away is never more than what it adds, and what it adds more is at most the whole ship; at the half breadth the
+-- ship is one and no span of zones is nothing. Assumes nothing.
+use Prim.Native.Nat.{ℕ, zero, suc, _+_, _*_, _≤_, _<_, zero-le}
 use mathlib.Core.Path.{_≡_, refl, ap, _∙_}
-use native.Mathlib.Nat.{le-refl}
+use native.Mathlib.Nat.{le-refl, le-of-eq}
 use native.Mathlib.Omega.{arith}
+use Rattle.laws.proofs.Fraction.{is-≈, ≈-sym}
+use Rattle.laws.proofs.FractionOrder.{numerator-above-0}
 use Rattle.solas.specs.Ship.{Ship, Sound}
+use Rattle.solas.specs.Share.{within}
 use Rattle.solas.specs.General.{inSpan, law, layer}
 use Rattle.solas.specs.Count.{added, taken, Group}
 use Rattle.solas.proofs.Count.{excess-not-above}
-use Rattle.solas.proofs.Ship.{aft-next, fwd-next, ends-within}
+use Rattle.solas.proofs.Ship.{aft-next, fwd-next, span, ends-within}
 use Rattle.solas.proofs.GeneralSpan.{group-share-not-negative, pair-share-not-negative, whole-ship-at-most-one, whole-ship-one}
-use Rattle.solas.proofs.Figure.{figure, over, falls, rises}
+use Rattle.solas.proofs.Figure.{figure, over, over-positive, falls, rises, within-is}
 use Rattle.solas.proofs.Depth.{no-cut, no-chance, c-one}
+use Rattle.solas.proofs.Chances.{Q-half-breadth}
+use Rattle.solas.proofs.SpanChance.{P-above}
 
 module _ (s : Ship) (h : Sound s) (b′ b : ℕ) where
   pub taken-not-above : (a n : ℕ) → Group s a n → taken (figure s b′ b) a n ≤ added (figure s b′ b) a n
@@ -51,3 +57,11 @@ unfolding layer
 ship-is-one s h b e =
     figure-of-ship s h 0 b
     ∙ whole-ship-one (law (s .L) (s .B)) (layer (s .L) (s .B) 0 b) (s .L) (falls s h) (rises s h 0 b (omega arith) (omega arith)) (no-cut (s .L) (s .B) b) (no-chance (s .L) (s .B) b) (c-one (s .B) b e)
+
+-- and every span of zones has something of it
+pub span-above : (s : Ship) (h : Sound s) (b : ℕ) → 2 * b ≡ s .B → (a e : ℕ) → 1 ≤ a → a ≤ e → e ≤ s .m → 0 < figure s 0 b a e
+unfolding within
+span-above s h b half a e x y z =
+    numerator-above-0 (over-positive s h)
+    (is-≈ (≈-sym (Q-half-breadth (h .broad) (s .L) (s .aft a) (s .fwd e) b half)) (within-is s h b (le-of-eq half) a e))
+    (P-above (s .L) (s .aft a) (s .fwd e) (omega (arith, h .long)) (span (h .zones) x y z))

@@ -48,11 +48,11 @@ middle-lost s h b p = total.middle-lost s (h .zones) b (figure s 0 b) (over s) (
 
 pub middle-missed : MiddleMissed
 middle-missed s h q b e =
-    total.middle-missed s (h .zones) b (figure s 0 b) (over s) (over-positive s h) (zones s h b (le-of-eq e)) (shares s h b (le-of-eq e)) (ship-is-one s h b e) (span-above s h b e) q
+    total.middle-missed s (h .zones) b (figure s 0 b) (over s) (over-positive s h) (zones s h b (le-of-eq e)) (shares s h b (le-of-eq e)) (ship-is-one s h b e) (span-above s h b e) (omega arith)
 
 pub zone-gained : ZoneGained
 zone-gained s h b p = total.zone-gained s (h .zones) b (figure s 0 b) (over s) (over-positive s h) (zones s h b p) (shares s h b p)
 
 pub zone-too-much : ZoneTooMuch
 zone-too-much s h q b e =
-    total.zone-too-much s (h .zones) b (figure s 0 b) (over s) (over-positive s h) (zones s h b (le-of-eq e)) (shares s h b (le-of-eq e)) (ship-is-one s h b e) (span-above s h b e) q
+    total.zone-too-much s (h .zones) b (figure s 0 b) (over s) (over-positive s h) (zones s h b (le-of-eq e)) (shares s h b (le-of-eq e)) (ship-is-one s h b e) (span-above s h b e) (omega arith)

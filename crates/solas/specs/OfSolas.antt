@@ -45,6 +45,16 @@ pub record Chances (Ls : ℕ) (√ : Fraction) (x1 x2 B b : ℕ) : Type 0 where
   pub above-0 : whole 0 ≺ p Ls √ x1 x2
   pub the-pr : p Ls √ x1 x2 ⊛ r Ls √ x1 x2 B b ≈ Q Ls B x1 x2 b
 
+-- why 01 stops at 198 m: in a longer ship the longest damage is one of 60 m, which is less than 10/33 of it
+pub record Longer (Ls : ℕ) : Type 0 where
+  pub the-Jm : Jm Ls ≈ 6000 over Ls
+  pub below-01's : Jm Ls ≺ 10 over 33
+
+-- how far the letters reach that specs/Regulation.antt has, those "when Ls ≤ L*": up to 260 m
+pub record Reach (Ls : ℕ) : Type 0 where
+  pub within : Ls ≤ 26000 → whole Ls ≼ L*
+  pub beyond : 26000 < Ls → L* ≺ whole Ls
+
 -- ---- the promises
 
 -- each of these ships has such a root, so that what follows is said of every one
@@ -53,6 +63,12 @@ RootsAreThere = (Ls : ℕ) → 0 < Ls → Ls ≤ 19800 → UpTo198m Ls (whole 1)
 
 abbrev pub ConstantsAre01's : Type 0
 ConstantsAre01's = (Ls : ℕ) (√ : Fraction) → UpTo198m Ls √ → Constants Ls √
+
+abbrev pub LongerShipsDiffer : Type 0
+LongerShipsDiffer = (Ls : ℕ) → 19800 < Ls → Longer Ls
+
+abbrev pub LettersReach260m : Type 0
+LettersReach260m = (Ls : ℕ) → Reach Ls
 
 abbrev pub SpansAre01's : Type 0
 SpansAre01's = (Ls : ℕ) (√ : Fraction) → UpTo198m Ls √ → (x1 x2 : ℕ) → x1 ≤ x2 → Spans Ls √ x1 x2

@@ -1,7 +1,7 @@
 -- The letters of regulation 7-1 that a ship has for all its spans: document 01's up to 198 m, and not above. Assumes nothing.
 use Prim.Native.Nat.{ℕ, _≤_, _<_}
 use mathlib.Core.Path.{_≡_, refl}
-use mathlib.Core.List.{[], _∷_}
+use mathlib.Core.List.{[]}
 use native.Mathlib.Omega.{arith}
 use lib.Dec.{lit<}
 use Rattle.laws.specs.Polynomial.{C}

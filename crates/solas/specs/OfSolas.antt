@@ -1,4 +1,5 @@
--- What "those of SOLAS" means: the letters of regulation 7-1 come to document 01's forms, for every ship of up to 198 m. Assumes nothing.
+-- What "those of SOLAS" means: the letters of regulation 7-1 come to document 01's forms, for every ship of up to 198 m. Numbers like 2.6.2 are
+-- document 002's. Assumes nothing.
 use Prim.Native.Nat.{ℕ, _+_, _-_, _*_, _≤_, _<_}
 use Rattle.laws.specs.Fraction.{Fraction, _less_over_, _over_, whole, _≈_, _≼_, _≺_, _⊛_}
 use Rattle.solas.specs.Span
@@ -10,7 +11,7 @@ use Rattle.solas.specs.Share.{rowShare}
 use Rattle.solas.specs.Regulation
 use Rattle.solas.specs.Regulation.{IsRoot, L*, Jm, under√, Jk, b0, b11, b12, b21, b22, p1or2, p, r, pi}
 
--- 01 starts at 80 m, which nothing here needs; √ is the root in the ship's Jk
+-- a ship of some length up to 198 m (that 01 starts at 80 m is not needed here), and the root √ in its Jk
 pub record UpTo198m (Ls : ℕ) (√ : Fraction) : Type 0 where
   pub some : 0 < Ls
   pub short : Ls ≤ 19800
@@ -29,12 +30,12 @@ pub record Constants (Ls : ℕ) (√ : Fraction) : Type 0 where
   pub the-b21 : b21 Ls √ ≈ 0 less 363 over 50
   pub the-b22 : b22 Ls √ ≈ 11 over 5
 
--- 2.6.2 and 01's bands; its p and 01's P, by the ends that the span touches
+-- 2.6.2: p1 or p2 is 01's p in its three bands, and p is 01's P, by the ends that the span touches
 pub record Spans (Ls : ℕ) (√ : Fraction) (x1 x2 : ℕ) : Type 0 where
   pub inner : p1or2 Ls √ x1 x2 ≈ Span.p Ls (x2 - x1)
   pub outer : p Ls √ x1 x2 ≈ P Ls x1 x2
 
--- 2.6.3; its G and 01's, by the ends that the span touches
+-- 2.6.3: C, G1, and G by the ends that the span touches
 pub record Penetrations (Ls : ℕ) (√ : Fraction) (x1 x2 B b : ℕ) : Type 0 where
   pub the-C : Regulation.C Ls √ x1 x2 B b ≈ Penetration.C B b
   pub the-G1 : Regulation.G1 Ls √ x1 x2 B b ≈ Penetration.G1 B b

@@ -1,4 +1,4 @@
--- A ship as shares see it: its length and breadth, and where each of its zones begins and ends. Assumes nothing.
+-- A ship as shares see it: its length and breadth, and where each of its zones begins and ends, in centimetres from its aft end. Assumes nothing.
 use Prim.Native.Nat.{ℕ, _+_, _-_, _≤_, _<_}
 use mathlib.Core.Path.{_≡_}
 use mathlib.Core.List.{List}

@@ -46,7 +46,7 @@ pub record Chances (Ls : ℕ) (√ : Fraction) (x1 x2 B b : ℕ) : Type 0 where
   pub above-0 : whole 0 ≺ p Ls √ x1 x2
   pub the-pr : p Ls √ x1 x2 ⊛ r Ls √ x1 x2 B b ≈ Q Ls B x1 x2 b
 
--- why 01 stops at 198 m: in a longer ship the longest damage is one of 60 m, which is less than 10/33 of it
+-- why 01 stops at 198 m: in a longer ship the longest damage is one of 60 m, which is less than 10/33 of it (Jm as it is written up to 260 m)
 pub record Longer (Ls : ℕ) : Type 0 where
   pub the-Jm : Jm Ls ≈ 6000 over Ls
   pub below-01's : Jm Ls ≺ 10 over 33

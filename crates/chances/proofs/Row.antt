@@ -24,14 +24,14 @@ module _ (s : Ship) (sound : Sound s) (narrow : s .B ≤ 6000) where
   unfolding withinEnds within
   span-between zero a e o l p q r = absurd (omega arith)
   span-between (suc b) a e o l p q r =
-      Q-between (s .L) (s .aft a) (s .fwd e) (omega (arith, sound .long)) (sound .short) (ends-within sound (omega arith) r) (s .B) (suc b)
+      Q-between (s .L) (s .aft a) (s .fwd e) (omega (arith, sound .long)) (sound .short) (ends-within (sound .zones) (omega arith) r) (s .B) (suc b)
       (sound .broad, narrow, l)
 
   span-near : (b a e : ℕ) → 2 * b ≤ s .B → 1 ≤ e → e ≤ s .m → high s b a e ≤ low s b a e + 4
   unfolding withinEnds
   span-near zero a e l p r = omega arith
   span-near (suc b) a e l p r =
-      Q-near (s .L) (s .aft a) (s .fwd e) (omega (arith, sound .long)) (sound .short) (ends-within sound p r) (s .B) (suc b) (sound .broad, narrow, l) .near
+      Q-near (s .L) (s .aft a) (s .fwd e) (omega (arith, sound .long)) (sound .short) (ends-within (sound .zones) p r) (s .B) (suc b) (sound .broad, narrow, l) .near
 
   -- ---- a group at one b
 

@@ -45,4 +45,4 @@ all-give s h b e =
     let F = figure s 0 b in
     let split = groups-same (added F) (λ a n. taken F a n + (added F a n - taken F a n)) (s .m)
     (λ a n x y z. let l : taken F a n ≤ added F a n = taken-not-above s h 0 b a n (record { from = x; some = y; fits = z }) in omega arith) in
-    omega (arith, split, groups-add (taken F) (λ a n. added F a n - taken F a n) (s .m), counted-once F (s .m) (h .some), ship-is-one s h b e)
+    omega (arith, split, groups-add (taken F) (λ a n. added F a n - taken F a n) (s .m), counted-once F (s .m) (h .zones .some), ship-is-one s h b e)

@@ -1,6 +1,8 @@
--- Figures worked out twice, by document 01's definitions and by the regulation's own, which must not differ. Assumes nothing.
+-- Figures worked out twice, by document 01's definitions and by the regulation's own, which must not differ; and the regulation's letters for a ship
+-- that document 01 leaves out. Assumes nothing.
 use mathlib.Core.Path.{_≡_, refl}
 use mathlib.Core.List.{[], _∷_}
+use lib.Dec.{leb→le}
 use Rattle.laws.specs.Fraction.{_less_over_, _over_, whole, _≈_, _≼?_, lesser, _⊹_, _⊝_, _⊛_, _⊘_}
 use Rattle.solas.specs.Span as span
 use Rattle.solas.specs.Penetration as penetration
@@ -8,7 +10,7 @@ use Rattle.solas.specs.Ship.{Ship, abutting}
 use Rattle.solas.specs.Share.{within, share, rowShare}
 use Rattle.solas.specs.Height.{v, vAt}
 use Rattle.solas.specs.Index.{dp, attained, R}
-use Rattle.solas.specs.Regulation.{Jmax, Jkn, pk, lmax, b0, Jm, Jk, b11, b12, b21, b22, J, Jn, p1, p2, p1or2, p, Jb, C, G1, J0, G2, G, r, pr, pi}
+use Rattle.solas.specs.Regulation.{IsRoot, Jmax, Jkn, pk, lmax, b0, Jm, under√, Jk, b11, b12, b21, b22, J, Jn, p1, p2, p1or2, p, Jb, C, G1, J0, G2, G, r, pr, pi}
 use Rattle.solas.specs.RegulationIndex as regulation
 use Rattle.solas.specs.RegulationIndex.{millimetres, centimetres}
 use Rattle.solas.proofs.Values.{printed}
@@ -23,6 +25,20 @@ pub rows : (rowShare printed 1 1 160 800 ≈ 45035669 over 585937500) × (pi pri
 unfolding rowShare share within penetration.Q span.P penetration.G span.touch penetration.C penetration.G1 penetration.G3 span.p
     pi pr r G G2 J0 G1 C Jb p p1or2 p2 p1 Jn J b22 b21 b12 b11 Jk Jm b0 lmax pk Jkn Jmax lesser _≼?_ _⊹_ _⊝_ _⊛_ _⊘_ _less_over_
 rows = (record { cross = refl }, record { cross = refl }, record { cross = refl }, record { cross = refl }, record { cross = refl }, record { cross = refl })
+
+-- a ship of 222.75 m, whose root is a fraction: damage is at most 60 m long, 80/297 of it
+pub longer : IsRoot (23 over 27) (under√ 22275) × (Jm 22275 ≈ 80 over 297) × (Jk 22275 (23 over 27) ≈ 4 over 27) × (b11 22275 (23 over 27) ≈ 0 less 2079 over 32)
+    × (b12 22275 (23 over 27) ≈ whole 11) × (b21 22275 (23 over 27) ≈ 0 less 363 over 32) × (b22 22275 (23 over 27) ≈ 55 over 18)
+unfolding under√ b22 b21 b12 b11 Jk Jm b0 lmax pk Jkn Jmax lesser _≼?_ _⊹_ _⊝_ _⊛_ _⊘_ _less_over_
+longer = (
+  record { notNegative = record { cross = leb→le _ _ tt }; square = record { cross = refl } },
+  record { cross = refl },
+  record { cross = refl },
+  record { cross = refl },
+  record { cross = refl },
+  record { cross = refl },
+  record { cross = refl },
+)
 
 -- 7.801 m above a draught of 6 m
 pub height : (vAt 13801 6000 ≡ 733239) × (regulation.v (millimetres 13801) (millimetres 6000) ≈ 733239 over 916500)

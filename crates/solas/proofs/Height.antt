@@ -63,6 +63,10 @@ pub vAt-waterline : {H d : ℕ} → H ≤ d → vAt H d ≡ 0
 unfolding vAt
 vAt-waterline {H} {d} p = omega (arith, v-slopes (H - d))
 
+pub vAt-above : {H d : ℕ} → d < H → 0 < vAt H d
+unfolding vAt
+vAt-above {H} {d} p = omega (arith, v-slopes (H - d))
+
 pub vAt-full : {H : ℕ} (d : ℕ) → d + 12500 ≤ H → vAt H d ≡ 916500
 unfolding vAt
 vAt-full {H} d p = v-full {h = H - d} (omega arith)

@@ -1,4 +1,4 @@
--- Every hole in the side of a sound ship is counted once. Assumes nothing.
+-- Every hole in the side of a ship in zones is counted once. Assumes nothing.
 use Prim.Native.Nat.{ℕ, zero, suc, _+_, _*_, _≤_, _<_, zero-le}
 use mathlib.Core.Path.{_≡_, refl, ap, _∙_}
 use mathlib.Core.Bool.{Bool, true, false}
@@ -7,7 +7,7 @@ use native.Mathlib.Omega.{arith}
 use lib.Dec.{leb}
 use borrow.Author.Tests.{le-leb, lt-leb}
 use Rattle.laws.proofs.Choice.{split}
-use Rattle.solas.specs.Ship.{Ship, Sound}
+use Rattle.solas.specs.Ship.{Ship, Zoned}
 use Rattle.solas.specs.Count.{added, taken, groups, mark, hole, Group, OneHole}
 use Rattle.solas.proofs.Count.{counted-once}
 use Rattle.solas.proofs.Ship.{aft-next, fwd-next}
@@ -35,7 +35,7 @@ corner x y z t h x₁ k z₁ =
     let j₁ : j ≤ 1 = omega arith in
     rw (← e, ← f) (omega arith, omega (arith, mul-le-mul i₁ j₁))
 
-module _ (s : Ship) (h : Sound s) (u w : ℕ) (wide : u < w) where
+module _ (s : Ship) (h : Zoned s) (u w : ℕ) (wide : u < w) where
   -- a hole that begins after zone a + 1 does, or ends before zone a does
   begins : (a : ℕ) → 1 ≤ a → a < s .m → mark (leb (s .aft (a + 1)) u) ≤ mark (leb (s .aft a) u)
   begins a p q = mark-rises (s .aft (a + 1)) u (s .aft a) u (omega (arith, aft-next h a p q)) (le-refl u)
@@ -64,7 +64,7 @@ module _ (s : Ship) (h : Sound s) (u w : ℕ) (wide : u < w) where
       (ends (a + k + 1) (omega arith) (omega (arith, g .fits))) (one-or-none (leb w (s .fwd (a + k + 1 + 1)))) in
       rw e c
 
-whole-ship : (s : Ship) → Sound s → (u w : ℕ) → w ≤ s .L → hole s u w 1 (s .m) ≡ 1
+whole-ship : (s : Ship) → Zoned s → (u w : ℕ) → w ≤ s .L → hole s u w 1 (s .m) ≡ 1
 unfolding hole
 whole-ship s h u w inside = rw (marked (s .aft 1) u (omega (arith, h .stern)), marked w (s .fwd (s .m)) (omega (arith, h .bow))) refl
 

@@ -10,7 +10,7 @@ use Rattle.solas.specs.Share.{within, share}
 use Rattle.solas.specs.Count.{added, taken, Group}
 use Rattle.solas.specs.Promises.{NoShareNegative, NoShareAboveOne, TotalIsTheShip, TotalAtMostOne, TotalIsOne, LayersClose, MiddleLost, MiddleMissed, ZoneGained, ZoneTooMuch}
 use Rattle.solas.proofs.Figure.{figure, over, over-positive, within-is, share-is, row-is, layers-are}
-use Rattle.solas.proofs.Positive.{taken-not-above, added-not-above, ship-not-above, ship-is-one}
+use Rattle.solas.proofs.Positive.{taken-not-above, added-not-above, ship-not-above, ship-is-one, span-above}
 use Rattle.solas.proofs.Total as total
 
 pub no-share-negative : NoShareNegative
@@ -28,7 +28,7 @@ module _ (s : Ship) (h : Sound s) (b : ℕ) (p : 2 * b ≤ s .B) where
   shares a n g = share-is s h a n b g p
 
 pub total-is-the-ship : TotalIsTheShip
-total-is-the-ship s h b p = total.total-is-the-ship s h b (figure s 0 b) (over s) (over-positive s h) (zones s h b p) (shares s h b p)
+total-is-the-ship s h b p = total.total-is-the-ship s (h .zones) b (figure s 0 b) (over s) (over-positive s h) (zones s h b p) (shares s h b p)
 
 pub total-at-most-one : TotalAtMostOne
 total-at-most-one s h b p =
@@ -44,13 +44,15 @@ layers-close s h a n g b bs l e = same (over-positive s h) (layers-are s h a n g
 
 -- ---- two slips
 pub middle-lost : MiddleLost
-middle-lost s h b p = total.middle-lost s h b (figure s 0 b) (over s) (over-positive s h) (zones s h b p) (shares s h b p)
+middle-lost s h b p = total.middle-lost s (h .zones) b (figure s 0 b) (over s) (over-positive s h) (zones s h b p) (shares s h b p)
 
 pub middle-missed : MiddleMissed
-middle-missed s h b e = total.middle-missed s h b (figure s 0 b) (over s) (over-positive s h) (zones s h b (le-of-eq e)) (shares s h b (le-of-eq e)) (ship-is-one s h b e)
+middle-missed s h q b e =
+    total.middle-missed s (h .zones) b (figure s 0 b) (over s) (over-positive s h) (zones s h b (le-of-eq e)) (shares s h b (le-of-eq e)) (ship-is-one s h b e) (span-above s h b e) (omega arith)
 
 pub zone-gained : ZoneGained
-zone-gained s h b p = total.zone-gained s h b (figure s 0 b) (over s) (over-positive s h) (zones s h b p) (shares s h b p)
+zone-gained s h b p = total.zone-gained s (h .zones) b (figure s 0 b) (over s) (over-positive s h) (zones s h b p) (shares s h b p)
 
 pub zone-too-much : ZoneTooMuch
-zone-too-much s h b e = total.zone-too-much s h b (figure s 0 b) (over s) (over-positive s h) (zones s h b (le-of-eq e)) (shares s h b (le-of-eq e)) (ship-is-one s h b e)
+zone-too-much s h q b e =
+    total.zone-too-much s (h .zones) b (figure s 0 b) (over s) (over-positive s h) (zones s h b (le-of-eq e)) (shares s h b (le-of-eq e)) (ship-is-one s h b e) (span-above s h b e) (omega arith)

@@ -1,23 +1,46 @@
--- The letters of regulation 7-1 that a ship of up to 198 m has for all its spans. Assumes nothing.
+-- The letters of regulation 7-1 that a ship has for all its spans: document 01's up to 198 m, and not above. Assumes nothing.
 use Prim.Native.Nat.{ℕ, _≤_, _<_}
 use mathlib.Core.Path.{_≡_, refl}
-use mathlib.Core.List.{[], _∷_}
+use mathlib.Core.List.{[]}
 use native.Mathlib.Omega.{arith}
 use lib.Dec.{lit<}
-use Rattle.laws.specs.Polynomial.{X, C}
-use Rattle.laws.specs.Fraction.{Fraction, _less_over_, whole, Is, _≈_, _⊹_, _⊝_, _⊛_, _⊘_}
-use Rattle.laws.proofs.Fraction.{is-over, is-less-over, is-≈, same, below, below-across, ≈-sym, ≈-trans}
-use Rattle.laws.proofs.FractionTerm.{Term, constant, number, variable, _⊹ᵗ_, _⊝ᵗ_, _⊛ᵗ_, also, agree, quotient, quotient-by}
-use Rattle.laws.proofs.FractionOrder.{lesser-first, one-root}
+use Rattle.laws.specs.Polynomial.{C}
+use Rattle.laws.specs.Fraction.{Fraction, _less_over_, _over_, whole, Is, _≈_, _≺_, _⊹_, _⊝_, _⊛_, _⊘_}
+use Rattle.laws.proofs.Fraction.{is-over, is-less-over, is-written, is-⊘, is-≈, same, below, strictly-below, below-across, strictly-below-across, ≈-sym, ≈-trans}
+use Rattle.laws.proofs.FractionTerm.{Term, constant, number, _⊹ᵗ_, _⊝ᵗ_, _⊛ᵗ_, also, agree, quotient-by}
+use Rattle.laws.proofs.FractionOrder.{lesser-first, lesser-second, one-root}
 use Rattle.solas.specs.Regulation.{¼, _², Jmax, Jkn, pk, lmax, L*, b0, Jm, under√, Jk, b11, b12, b21, b22}
-use Rattle.solas.specs.OfSolas.{UpTo198m, ConstantsAre01's, RootsAreThere}
+use Rattle.solas.specs.OfSolas.{UpTo198m, RootsAreThere, ConstantsAre01's, LongerShipsDiffer, LettersReach260m}
 
--- lmax/Ls is not below 10/33 where Ls is not above 198 m
+-- ---- Jm: lmax/Ls is not below 10/33 where Ls is not above 198 m, and below it where Ls is
+lmax-is : Is lmax 6000 0 1
+unfolding lmax _less_over_
+lmax-is = record { cross = refl }
+
+by-length : {Ls : ℕ} → 0 < Ls → Is (lmax ⊘ whole Ls) 6000 0 Ls
+by-length {Ls} p = is-written (is-⊘ p lmax-is (is-over Ls (lit< tt))) (omega arith) (omega arith) (omega arith)
+
 Jm-is-Jmax : (Ls : ℕ) → 0 < Ls → Ls ≤ 19800 → Jm Ls ≡ Jmax
-unfolding Jm Jmax lmax
-Jm-is-Jmax Ls p h =
-    let by-length = also {ρ = Ls ∷ []} (quotient (number 6000 1 tt) (variable 0) (X 0) (C 1) p tt) (C 6000) (C 0) (X 0) tt in
-    lesser-first (below-across (is-over 10 (lit< tt)) by-length (lit< tt) p (omega arith))
+unfolding Jm Jmax
+Jm-is-Jmax Ls p h = lesser-first (below-across (is-over 10 (lit< tt)) (by-length p) (lit< tt) p (omega arith))
+
+pub longer-ships-differ : LongerShipsDiffer
+unfolding Jm Jmax
+longer-ships-differ Ls h =
+    let p : 0 < Ls = omega arith in
+    let shorter : lmax ⊘ whole Ls ≺ 10 over 33 = strictly-below-across (by-length p) (is-over 10 (lit< tt)) (omega arith) in
+    record { the-Jm = rw (lesser-second shorter) (same p (by-length p) (is-over 6000 p)); below-01's = rw (lesser-second shorter) shorter }
+
+-- ---- L*
+L*-is : Is L* 26000 0 1
+unfolding L* _less_over_
+L*-is = record { cross = refl }
+
+pub letters-reach-260-m : LettersReach260m
+letters-reach-260-m Ls =
+    record { within = λ h. below (lit< tt) (is-over Ls (lit< tt)) L*-is (omega arith); beyond = λ h. strictly-below L*-is (is-over Ls (lit< tt)) (omega arith) }
+
+-- ---- up to 198 m
 
 closed-root : whole 1 ⊹ (whole 1 ⊝ whole 2 ⊛ pk) ⊛ b0 ⊛ Jmax ⊹ ¼ ⊛ b0 ² ⊛ Jmax ² ≈ whole 1
 unfolding Jmax Jkn pk b0 _⊹_ _⊝_ _⊛_ _⊘_ _less_over_
@@ -87,9 +110,8 @@ module _ {Ls : ℕ} {√ : Fraction} (u : UpTo198m Ls √) where
   b22-is = also ((number 0 1 tt ⊝ᵗ constant tt b21-is) ⊛ᵗ Jmᵗ) (C 11) (C 0) (C 5) tt
 
 pub constants-are-01's : ConstantsAre01's
-unfolding L*
 constants-are-01's Ls √ u = record {
-  not-long = below {d = 1} (lit< tt) (is-over Ls (lit< tt)) (is-over 26000 (lit< tt)) (omega (arith, u .short));
+  not-long = letters-reach-260-m Ls .within (omega (arith, u .short));
   the-Jm = same (lit< tt) (Jm-is u) (is-over 10 (lit< tt));
   the-under√ = under√-is-1 Ls (u .some) (u .short);
   the-√ = same (lit< tt) (√-is u) (is-over 1 (lit< tt));

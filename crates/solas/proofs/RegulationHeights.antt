@@ -4,7 +4,7 @@ use mathlib.Core.Path.{_≡_, refl}
 use mathlib.Core.List.{[], _∷_}
 use native.Mathlib.Omega.{arith}
 use lib.Dec.{lit<}
-use Rattle.laws.specs.Fraction.{Fraction, _less_over_, _over_, whole, Is, _≺_, _≼?_, _⊹_, _⊝_, _⊛_, _⊘_}
+use Rattle.laws.specs.Fraction.{Fraction, _less_over_, _over_, whole, Is, _≈_, _≺_, _≼?_, _⊹_, _⊝_, _⊛_, _⊘_}
 use Rattle.laws.specs.Polynomial.{X, C, _:+_, _:*_}
 use Rattle.laws.proofs.Choice.{split}
 use Rattle.laws.proofs.Fraction.{is-over, is-nothing, is-one, is-widened, is-shifted, is-⊝, same, below, strictly-below}
@@ -13,9 +13,9 @@ use Rattle.laws.proofs.FractionOrder.{test-passes, test-fails}
 use Rattle.solas.specs.Height.{v, vAt, rowV}
 use Rattle.solas.specs.RegulationIndex as regulation
 use Rattle.solas.specs.RegulationIndex.{millimetres, none, at, uppermost, counted, vOf, held, vm}
-use Rattle.solas.specs.OfSolasIndex.{HeightIs01's, PartedAbove, UppermostParts, RowIs01's, LastRowIs01's}
-use Rattle.solas.proofs.Quotients.{is-millimetres}
-use Rattle.solas.proofs.Height.{v-slopes, vAt-full, vAt-short, vAt-top, vAt-waterline, vAt-at-most}
+use Rattle.solas.specs.OfSolasIndex.{HeightIs01's, PartedAbove, UppermostParts, vmOfRow, RowsPartAbove, RowIs01's, LastRowIs01's}
+use Rattle.solas.proofs.Units.{is-millimetres}
+use Rattle.solas.proofs.Height.{v-slopes, vAt-above, vAt-full, vAt-short, vAt-top, vAt-waterline, vAt-at-most}
 
 -- document 01's parts
 in-parts : (n : ℕ) → Is (n over 916500) n 0 916500
@@ -105,6 +105,27 @@ unfolding vm rowV
 row-is-01's H′ H d p q =
     same (lit< tt) (is-shifted (vAt H d - vAt H′ d) 0 (omega (arith, vAt-at-most H d)) (is-held (lit< tt) (is-⊝ (is-counted H d q) (is-counted H′ d (omega arith)))))
     (in-parts (vAt H d - vAt H′ d))
+
+-- above 12.5 m the row's own v is above 1, and what is taken off for the row below is at most that row's
+module _ (H′ H d : ℕ) (p : H′ < H) (q : d + 12500 < H) where
+  over-two : d < H′ → rowV H′ H d over 916500 ≺ vmOfRow H′ H d
+  unfolding vm rowV vOf
+  over-two l =
+      rw (above-counts {H = H′} l, above-counts {H = H} {d = d} (omega arith), vAt-full {H = H} d (omega arith))
+      (split H′ (d + 12500)
+      (λ low. strictly-below (in-parts (916500 - vAt H′ d)) (is-held (lit< tt) (is-⊝ (is-v-high H d (omega arith)) (is-vAt H′ d (omega arith) low)))
+      (omega (arith, vAt-above {H = H′} l, vAt-at-most H′ d)))
+      (λ high. strictly-below (in-parts (916500 - vAt H′ d)) (is-held (lit< tt) (is-⊝ (is-v-high H d (omega arith)) (is-v-high H′ d (omega arith))))
+      (omega (arith, vAt-full {H = H′} d (omega arith)))))
+
+  over-none : H′ ≤ d → vmOfRow H′ H d ≈ rowV H′ H d over 916500
+  unfolding vm rowV vOf
+  over-none l =
+      rw (not-above-none {H = H′} l, above-counts {H = H} {d = d} (omega arith), vAt-full {H = H} d (omega arith), vAt-waterline {H = H′} l)
+      (same (lit< tt) (is-shifted 916500 0 (omega arith) (is-held (lit< tt) (is-⊝ (is-v-high H d (omega arith)) (is-nothing (lit< tt))))) (in-parts 916500))
+
+pub rows-part-above : RowsPartAbove
+rows-part-above H′ H d p q = record { less = λ l. over-two H′ H d p (omega arith) (omega arith); alone = λ l. over-none H′ H d p (omega arith) l }
 
 -- where the regulation's v is above 1 below the last row, it is held at 0 there, and document 01 has nothing left
 pub last-row-is-01's : LastRowIs01's

@@ -14,7 +14,7 @@ use Rattle.solas.specs.Index.{attained, dp, partialMark}
 use Rattle.solas.specs.RegulationIndex as regulation
 use Rattle.solas.specs.RegulationIndex.{centimetres}
 use Rattle.solas.specs.OfSolasIndex.{DraughtIs01's, AttainedIs01's, RequiredIs01's, PartialMarkIs01's}
-use Rattle.solas.proofs.Quotients.{is-millimetres, is-centimetres}
+use Rattle.solas.proofs.Units.{is-millimetres, is-centimetres}
 use Rattle.solas.proofs.Height.{dp-whole}
 use Rattle.solas.proofs.Required.{is-R-long, is-R-short}
 

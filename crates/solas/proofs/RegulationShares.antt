@@ -64,7 +64,7 @@ module _ (s : Ship) (o : Sound s) (√ : Fraction) (root : IsRoot √ (under√ 
   module _ (b′ b : ℕ) (k′ : 2 * b′ ≤ s .B) (k : 2 * b ≤ s .B) where
     span : (j e : ℕ) → 1 ≤ j → j ≤ e → e ≤ s .m → pr s √ b′ b j e ≈ withinShell s j e b ⊝ withinShell s j e b′
     unfolding pr
-    span j e h l q = let w = span-of-zones o h l q in ≈-trans (⊛-⊝ _ _ _) (⊝-≈ (at-b j e b w k) (at-b j e b′ w k′))
+    span j e h l q = let w = span-of-zones (o .zones) h l q in ≈-trans (⊛-⊝ _ _ _) (⊝-≈ (at-b j e b w k) (at-b j e b′ w k′))
 
     group : (a n : ℕ) → 1 ≤ a → a + n ≤ s .m + 1 → pi s √ b′ b a n ≈ before s a n b ⊝ before s a n b′
     unfolding pi

@@ -16,7 +16,7 @@ use Rattle.laws.proofs.FractionOrder.{is-lesser}
 use Rattle.solas.specs.Survival.{s⁴}
 use Rattle.solas.specs.RegulationIndex.{millimetres, hundredths, θmin, θmax, underRoot, Numbers, square, fourth, Final}
 use Rattle.solas.specs.OfSolasIndex.{SurvivalIs01's}
-use Rattle.solas.proofs.Quotients.{is-millimetres, is-hundredths}
+use Rattle.solas.proofs.Units.{is-millimetres, is-hundredths}
 use Rattle.solas.proofs.Survival.{is-s⁴}
 
 -- ---- powers of products

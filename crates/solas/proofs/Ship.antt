@@ -1,9 +1,9 @@
--- The places of a sound ship's zones: they rise, and lie within the ship. Assumes nothing.
+-- The places of a ship's zones: they rise, and lie within the ship. Assumes nothing.
 use Prim.Native.Nat.{ℕ, zero, suc, _+_, _≤_, _<_}
 use mathlib.Core.Path.{_≡_, ap}
 use native.Mathlib.Nat.{le-dest, le-refl, add-zero}
 use native.Mathlib.Omega.{arith}
-use Rattle.solas.specs.Ship.{Ship, Sound}
+use Rattle.solas.specs.Ship.{Ship, Zoned}
 
 -- what rises from each zone to the next rises from any zone to a later one
 rises : (g : ℕ → ℕ) {m : ℕ} → ((a : ℕ) → 1 ≤ a → a < m → g a < g (a + 1)) → {a e : ℕ} → 1 ≤ a → a ≤ e → e ≤ m → g a ≤ g e
@@ -17,7 +17,7 @@ rises g {m} next {a} p q r =
         let e : g (a + suc k) ≡ g (a + k + 1) = ap g (omega arith) in
         omega (arith, by-steps k (omega arith), next (a + k) (omega arith) (omega arith))
 
-module _ {s : Ship} (h : Sound s) where
+module _ {s : Ship} (h : Zoned s) where
   -- a zone ends where the next begins, or before
   pub aft-next : (a : ℕ) → 1 ≤ a → a < s .m → s .aft a < s .aft (a + 1)
   aft-next a p q = omega (arith, h .zone a p (omega arith), h .next a p q)

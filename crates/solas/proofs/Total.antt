@@ -4,13 +4,13 @@ use mathlib.Core.Path.{_≡_}
 use native.Mathlib.Nat.{le-refl}
 use native.Mathlib.Omega.{arith}
 use Rattle.laws.specs.Fraction.{Fraction, Is, _≈_, _≺_, whole, _⊹_}
-use Rattle.laws.proofs.Fraction.{is-⊹, is-⊝, is-shifted, is-nothing, is-one, same, strictly-below, numerators-strictly-below}
+use Rattle.laws.proofs.Fraction.{is-⊹, is-⊝, is-shifted, is-nothing, is-one, same, strictly-below}
 use Rattle.laws.proofs.FractionSum.{is-upTo}
-use Rattle.solas.specs.Ship.{Ship, Sound}
+use Rattle.solas.specs.Ship.{Ship, Zoned}
 use Rattle.solas.specs.Share.{within, share}
 use Rattle.solas.specs.Count.{added, taken, groups, Group}
 use Rattle.solas.specs.Total.{overGroups, allShares, middleSpan, allWithoutMiddle, firstOfPair, allWithZoneBack}
-use Rattle.solas.proofs.Count.{counted-once, groups-add, groups-nothing}
+use Rattle.solas.proofs.Count.{counted-once, groups-add, groups-nothing, group-not-above}
 
 pub is-overGroups : (s : Ship) {f : ℕ → ℕ → Fraction} {u w : ℕ → ℕ → ℕ} {d : ℕ} → 0 < d → ((a n : ℕ) → Group s a n → Is (f a n) (u a n) (w a n) d) →
     Is (overGroups f (s .m)) (groups u (s .m)) (groups w (s .m)) d
@@ -19,7 +19,7 @@ is-overGroups s p h =
     is-upTo (s .m) p (λ i q. is-upTo (s .m - i) p (λ j r. h (suc i) (suc j) (record { from = omega arith; some = omega arith; fits = omega arith })))
 
 -- where the zones from a to e have the figure F over d
-module _ (s : Ship) (h : Sound s) (b : ℕ) (F : ℕ → ℕ → ℕ) (d : ℕ) (p : 0 < d)
+module _ (s : Ship) (h : Zoned s) (b : ℕ) (F : ℕ → ℕ → ℕ) (d : ℕ) (p : 0 < d)
     (within-is : (a e : ℕ) → 1 ≤ a → a ≤ e → e ≤ s .m → Is (within s a e b) (F a e) 0 d)
     (share-is : (a n : ℕ) → Group s a n → Is (share s a n b) (added F a n) (taken F a n) d)
   where
@@ -94,8 +94,14 @@ module _ (s : Ship) (h : Sound s) (b : ℕ) (F : ℕ → ℕ → ℕ) (d : ℕ) 
     pub zone-gained : allWithZoneBack s b ≈ within s 1 (s .m) b ⊹ overGroups (λ a n. firstOfPair s a n b) (s .m)
     zone-gained = same p back-is (is-⊹ ship-is all-first)
 
-    pub middle-missed : F 1 (s .m) ≡ d → whole 0 ≺ overGroups (λ a n. middleSpan s a n b) (s .m) → allWithoutMiddle s b ≺ whole 1
-    middle-missed e q = strictly-below without-is (is-one p) (omega (arith, numerators-strictly-below p q (is-nothing p) all-middle))
+    -- where the ship's figure is the whole of d, and no span's is 0: the first three zones have a middle, the first two a zone to put back
+    module _ (all : F 1 (s .m) ≡ d) (above : (a e : ℕ) → 1 ≤ a → a ≤ e → e ≤ s .m → 0 < F a e) where
+      pub middle-missed : 3 ≤ s .m → allWithoutMiddle s b ≺ whole 1
+      unfolding middle
+      middle-missed q =
+          strictly-below without-is (is-one p) (omega (arith, all, above 2 2 (omega arith) (le-refl 2) (omega arith), group-not-above middle (s .m) 0 2 (omega arith)))
 
-    pub zone-too-much : F 1 (s .m) ≡ d → whole 0 ≺ overGroups (λ a n. firstOfPair s a n b) (s .m) → whole 1 ≺ allWithZoneBack s b
-    zone-too-much e q = strictly-below (is-one p) back-is (omega (arith, numerators-strictly-below p q (is-nothing p) all-first))
+      pub zone-too-much : 2 ≤ s .m → whole 1 ≺ allWithZoneBack s b
+      unfolding first
+      zone-too-much q =
+          strictly-below (is-one p) back-is (omega (arith, all, above 1 1 (le-refl 1) (le-refl 1) (omega arith), group-not-above first (s .m) 0 1 (omega arith)))

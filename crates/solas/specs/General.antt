@@ -15,7 +15,7 @@ pub record Falling (l : Law) : Type 0 where
   pub stretch : 0 < l .W
   pub falls : 2 * l .κ ≤ 11 * l .W
 
--- the density's fall, and 6Wκ² times the density, at U: κ² at the knuckle
+-- 6Wκ² times the density at a damage length U up to the knuckle, where it is κ²; and how much that falls with each unit of length
 abbrev pub fall : Law → ℕ
 fall l = 11 * l .W - 2 * l .κ
 
@@ -37,7 +37,7 @@ beyond l X = l .κ ^ 2 * e3 (l .W) (X - l .κ)
 abbrev pub unit : Law → ℕ
 unit l = 36 * l .W ^ 2 * l .κ ^ 2
 
--- ---- one layer, from the penetration that cuts at U′, with C = c′/d, to that which cuts at U, with C = c/d
+-- ---- one layer, from one penetration, for which U′ is the damage length up to which G counts and C is c′/d, to a deeper one with U and c/d
 pub record Layer : Type 0 where
   pub U′ : ℕ
   pub U : ℕ
@@ -45,6 +45,7 @@ pub record Layer : Type 0 where
   pub c : ℕ
   pub d : ℕ
 
+-- what is asked of a layer: U and C rise, U at most to the knuckle, C at most to one
 pub record Rising (l : Law) (y : Layer) : Type 0 where
   pub cut : y .U′ ≤ y .U
   pub shallow : y .U ≤ l .κ

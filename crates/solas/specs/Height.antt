@@ -15,6 +15,6 @@ vAt H d = v (H - d)
 unfoldable pub rowV : ℕ → ℕ → ℕ → ℕ
 rowV H′ H d = vAt H d - vAt H′ d
 
--- the height from which a row is its layer's top
+-- the height from which v is 1 at the draught d; from that of the deepest draught a row is its layer's top
 abbrev pub top : ℕ → ℕ
-top ds = ds + 12500
+top d = d + 12500

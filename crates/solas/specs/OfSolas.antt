@@ -1,4 +1,5 @@
--- What "those of SOLAS" means: the letters of regulation 7-1 come to document 01's forms, for every ship of up to 198 m. Assumes nothing.
+-- What "those of SOLAS" means: the letters of regulation 7-1 come to document 01's forms, for every ship of up to 198 m. Numbers like 2.6.2 are
+-- document 002's. Assumes nothing.
 use Prim.Native.Nat.{ℕ, _+_, _-_, _*_, _≤_, _<_}
 use Rattle.laws.specs.Fraction.{Fraction, _less_over_, _over_, whole, _≈_, _≼_, _≺_, _⊛_}
 use Rattle.solas.specs.Span
@@ -10,7 +11,7 @@ use Rattle.solas.specs.Share.{rowShare}
 use Rattle.solas.specs.Regulation
 use Rattle.solas.specs.Regulation.{IsRoot, L*, Jm, under√, Jk, b0, b11, b12, b21, b22, p1or2, p, r, pi}
 
--- 01 starts at 80 m, which nothing here needs; √ is the root in the ship's Jk
+-- a ship of some length up to 198 m (that 01 starts at 80 m is not needed here), and the root √ in its Jk
 pub record UpTo198m (Ls : ℕ) (√ : Fraction) : Type 0 where
   pub some : 0 < Ls
   pub short : Ls ≤ 19800
@@ -29,12 +30,12 @@ pub record Constants (Ls : ℕ) (√ : Fraction) : Type 0 where
   pub the-b21 : b21 Ls √ ≈ 0 less 363 over 50
   pub the-b22 : b22 Ls √ ≈ 11 over 5
 
--- 2.6.2 and 01's bands; its p and 01's P, by the ends that the span touches
+-- 2.6.2: p1 or p2 is 01's p in its three bands, and p is 01's P, by the ends that the span touches
 pub record Spans (Ls : ℕ) (√ : Fraction) (x1 x2 : ℕ) : Type 0 where
   pub inner : p1or2 Ls √ x1 x2 ≈ Span.p Ls (x2 - x1)
   pub outer : p Ls √ x1 x2 ≈ P Ls x1 x2
 
--- 2.6.3; its G and 01's, by the ends that the span touches
+-- 2.6.3: C, G1, and G by the ends that the span touches
 pub record Penetrations (Ls : ℕ) (√ : Fraction) (x1 x2 B b : ℕ) : Type 0 where
   pub the-C : Regulation.C Ls √ x1 x2 B b ≈ Penetration.C B b
   pub the-G1 : Regulation.G1 Ls √ x1 x2 B b ≈ Penetration.G1 B b
@@ -45,6 +46,16 @@ pub record Chances (Ls : ℕ) (√ : Fraction) (x1 x2 B b : ℕ) : Type 0 where
   pub above-0 : whole 0 ≺ p Ls √ x1 x2
   pub the-pr : p Ls √ x1 x2 ⊛ r Ls √ x1 x2 B b ≈ Q Ls B x1 x2 b
 
+-- why 01 stops at 198 m: in a longer ship the longest damage is one of 60 m, which is less than 10/33 of it (Jm as it is written up to 260 m)
+pub record Longer (Ls : ℕ) : Type 0 where
+  pub the-Jm : Jm Ls ≈ 6000 over Ls
+  pub below-01's : Jm Ls ≺ 10 over 33
+
+-- how far the letters reach that specs/Regulation.antt has, those "when Ls ≤ L*": up to 260 m
+pub record Reach (Ls : ℕ) : Type 0 where
+  pub within : Ls ≤ 26000 → whole Ls ≼ L*
+  pub beyond : 26000 < Ls → L* ≺ whole Ls
+
 -- ---- the promises
 
 -- each of these ships has such a root, so that what follows is said of every one
@@ -53,6 +64,12 @@ RootsAreThere = (Ls : ℕ) → 0 < Ls → Ls ≤ 19800 → UpTo198m Ls (whole 1)
 
 abbrev pub ConstantsAre01's : Type 0
 ConstantsAre01's = (Ls : ℕ) (√ : Fraction) → UpTo198m Ls √ → Constants Ls √
+
+abbrev pub LongerShipsDiffer : Type 0
+LongerShipsDiffer = (Ls : ℕ) → 19800 < Ls → Longer Ls
+
+abbrev pub LettersReach260m : Type 0
+LettersReach260m = (Ls : ℕ) → Reach Ls
 
 abbrev pub SpansAre01's : Type 0
 SpansAre01's = (Ls : ℕ) (√ : Fraction) → UpTo198m Ls √ → (x1 x2 : ℕ) → x1 ≤ x2 → Spans Ls √ x1 x2

@@ -21,35 +21,49 @@ RequiredIs01's = (L : ℕ) → regulation.R (centimetres L) ≈ R L
 abbrev pub PartialMarkIs01's : Type 0
 PartialMarkIs01's = (L : ℕ) → regulation.partialMark (centimetres L) ≈ partialMark L
 
--- ---- heights: v up to 12.5 m above the draught
+-- ---- heights, up to 12.5 m above the draught: v; and the v of a row
 abbrev pub HeightIs01's : Type 0
-HeightIs01's = (H d : ℕ) → d ≤ H → H ≤ d + 12500 → regulation.v (millimetres H) (millimetres d) ≈ vAt H d over 916500
+HeightIs01's = (H d : ℕ) → d ≤ H → H ≤ top d → regulation.v (millimetres H) (millimetres d) ≈ vAt H d over 916500
 
--- above that they part: the regulation's v rises on, document 01's is 1
+-- the regulation's vm of a row at H over the row at H′ (0 where there is none), each with a boundary of its own
+abbrev pub vmOfRow : ℕ → ℕ → ℕ → Fraction
+vmOfRow H′ H d = vm (counted (millimetres H′) (millimetres d)) (counted (millimetres H) (millimetres d)) (millimetres d)
+
+abbrev pub RowIs01's : Type 0
+RowIs01's = (H′ H d : ℕ) → H′ ≤ H → H ≤ top d → vmOfRow H′ H d ≈ rowV H′ H d over 916500
+
+-- the last row of a layer, which document 01 closes at the top of the deepest draught: the uppermost boundary
+abbrev pub LastRowIs01's : Type 0
+LastRowIs01's = (ds d H′ H : ℕ) → d ≤ ds → top ds ≤ H → vm (counted (millimetres H′) (millimetres d)) (uppermost (millimetres H)) (millimetres d) ≈ rowV H′ H d over 916500
+
+-- ---- where the two part, in three places
+
+-- above 12.5 m: the regulation's v rises on, document 01's is 1
 pub record Parted (H d : ℕ) : Type 0 where
   pub uncapped : whole 1 ≺ regulation.v (millimetres H) (millimetres d)
   pub rising : (K : ℕ) → H < K → regulation.v (millimetres H) (millimetres d) ≺ regulation.v (millimetres K) (millimetres d)
   pub capped : vAt H d ≡ 916500
 
 abbrev pub PartedAbove : Type 0
-PartedAbove = (H d : ℕ) → d + 12500 < H → Parted H d
+PartedAbove = (H d : ℕ) → top d < H → Parted H d
 
--- and at the uppermost boundary: the regulation's v is 1 at any height, document 01's only where it is entered 12.5 m above the draught or higher
+-- at the uppermost boundary: the regulation's v is 1 at any height, document 01's only where it is entered 12.5 m above the draught or higher
 pub record Uppermost (H d : ℕ) : Type 0 where
   pub any-height : vOf (uppermost (millimetres H)) (millimetres d) ≈ whole 1
-  pub too-low : H < d + 12500 → vAt H d < 916500
-  pub high : d + 12500 ≤ H → vOf (uppermost (millimetres H)) (millimetres d) ≈ vAt H d over 916500
+  pub too-low : H < top d → vAt H d < 916500
+  pub high : top d ≤ H → vOf (uppermost (millimetres H)) (millimetres d) ≈ vAt H d over 916500
 
 abbrev pub UppermostParts : Type 0
 UppermostParts = (H d : ℕ) → Uppermost H d
 
--- a row at H over the row at H′, 0 where there is none: a boundary of its own; and the last of its layer, as the uppermost one
-abbrev pub RowIs01's : Type 0
-RowIs01's = (H′ H d : ℕ) → H′ ≤ H → H ≤ d + 12500 →
-    vm (counted (millimetres H′) (millimetres d)) (counted (millimetres H) (millimetres d)) (millimetres d) ≈ rowV H′ H d over 916500
+-- in a row below its layer's last that ends above 12.5 m, as one may at a lighter draught: document 01 gives it less than the regulation does;
+-- but where the row under it does not reach above the draught, both give it all of v
+pub record RowParted (H′ H d : ℕ) : Type 0 where
+  pub less : d < H′ → rowV H′ H d over 916500 ≺ vmOfRow H′ H d
+  pub alone : H′ ≤ d → vmOfRow H′ H d ≈ rowV H′ H d over 916500
 
-abbrev pub LastRowIs01's : Type 0
-LastRowIs01's = (ds d H′ H : ℕ) → d ≤ ds → top ds ≤ H → vm (counted (millimetres H′) (millimetres d)) (uppermost (millimetres H)) (millimetres d) ≈ rowV H′ H d over 916500
+abbrev pub RowsPartAbove : Type 0
+RowsPartAbove = (H′ H d : ℕ) → H′ < H → top d < H → RowParted H′ H d
 
 -- ---- survival, of a lever g, a range t and a heel e, among whatever numbers its roots are found
 abbrev pub SurvivalIs01's : Type 1

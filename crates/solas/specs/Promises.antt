@@ -31,16 +31,16 @@ abbrev pub LayersClose : Type 0
 LayersClose = (s : Ship) → Sound s → (a n : ℕ) → Group s a n → (b : ℕ) (bs : List ℕ) → Linked _<_ 0 (b ∷ bs) → 2 * last 0 (b ∷ bs) ≡ s .B →
     total (layerShares s a n 0 (b ∷ bs)) ≈ share s a n (last 0 (b ∷ bs))
 
--- the middle spans left out at three and more zones: just they are lost, so the total falls short unless they are all 0
+-- the middle spans left out at three and more zones: just they are lost, so that in a ship of three zones or more the total falls short of one
 abbrev pub MiddleLost : Type 0
 MiddleLost = (s : Ship) → Sound s → (b : ℕ) → 2 * b ≤ s .B → allWithoutMiddle s b ⊹ overGroups (λ a n. middleSpan s a n b) (s .m) ≈ within s 1 (s .m) b
 
 abbrev pub MiddleMissed : Type 0
-MiddleMissed = (s : Ship) → Sound s → (b : ℕ) → 2 * b ≡ s .B → whole 0 ≺ overGroups (λ a n. middleSpan s a n b) (s .m) → allWithoutMiddle s b ≺ whole 1
+MiddleMissed = (s : Ship) → Sound s → 3 ≤ s .m → (b : ℕ) → 2 * b ≡ s .B → allWithoutMiddle s b ≺ whole 1
 
--- a zone put back at two zones: just that is gained, so the total is too great unless those zones are all 0
+-- a zone put back at two zones: just that is gained, so that in a ship of two zones or more the total is above one
 abbrev pub ZoneGained : Type 0
 ZoneGained = (s : Ship) → Sound s → (b : ℕ) → 2 * b ≤ s .B → allWithZoneBack s b ≈ within s 1 (s .m) b ⊹ overGroups (λ a n. firstOfPair s a n b) (s .m)
 
 abbrev pub ZoneTooMuch : Type 0
-ZoneTooMuch = (s : Ship) → Sound s → (b : ℕ) → 2 * b ≡ s .B → whole 0 ≺ overGroups (λ a n. firstOfPair s a n b) (s .m) → whole 1 ≺ allWithZoneBack s b
+ZoneTooMuch = (s : Ship) → Sound s → 2 ≤ s .m → (b : ℕ) → 2 * b ≡ s .B → whole 1 ≺ allWithZoneBack s b

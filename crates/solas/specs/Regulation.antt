@@ -36,23 +36,26 @@ pub record IsRoot (r f : Fraction) : Type 0 where
   pub square : r ² ≈ f
 
 -- ---- 2.6.2, what is the same for all ships
+-- the greatest damage length, in ship's lengths
 unfoldable pub Jmax : Fraction
 Jmax = 10 over 33
 
+-- the knuckle in the distribution of damage lengths, and the chance of damage up to it
 unfoldable pub Jkn : Fraction
 Jkn = 5 over 33
 
 unfoldable pub pk : Fraction
 pk = 11 over 12
 
--- 60 m
+-- the greatest damage length: 60 m
 unfoldable pub lmax : Fraction
 lmax = whole 6000
 
--- 260 m
+-- the ship's length up to which damage lengths are distributed by it: 260 m
 unfoldable pub L* : Fraction
 L* = whole 26000
 
+-- the density at a damage length of 0
 unfoldable pub b0 : Fraction
 b0 = whole 2 ⊛ (pk ⊘ Jkn ⊝ (whole 1 ⊝ pk) ⊘ (Jmax ⊝ Jkn))
 

@@ -17,7 +17,7 @@ share s a (suc (suc zero)) b = within s a (a + 1) b ⊝ within s a a b ⊝ withi
 share s a (suc (suc (suc k))) b =
     within s a (a + k + 2) b ⊝ within s a (a + k + 1) b ⊝ within s (a + 1) (a + k + 2) b ⊹ within s (a + 1) (a + k + 1) b
 
--- what the layer before b takes: nothing under the first
+-- the share at the layer before, whose penetration is b: nothing at 0, where there is none before
 abbrev pub before : Ship → ℕ → ℕ → ℕ → Fraction
 before s a n zero = whole 0
 before s a n (suc b) = share s a n (suc b)

@@ -1,4 +1,4 @@
--- A ship as shares see it: its length and breadth, and where each of its zones begins and ends. Assumes nothing.
+-- A ship as shares see it: its length and breadth, and where each of its zones begins and ends, in centimetres from its aft end. Assumes nothing.
 use Prim.Native.Nat.{ℕ, _+_, _-_, _≤_, _<_}
 use mathlib.Core.Path.{_≡_}
 use mathlib.Core.List.{List}
@@ -17,13 +17,17 @@ abbrev pub abutting : ℕ → ℕ → ℕ → List ℕ → Ship
 abutting length breadth zones places =
     record { L = length; B = breadth; m = zones; aft = λ a. getD places (a - 1) 0; fwd = λ a. getD places a 0 }
 
--- 80 to 198 m, some breadth, and zones one behind the other from end to end, which may leave gaps between them
-pub record Sound (s : Ship) : Type 0 where
-  pub long : 8000 ≤ s .L
-  pub short : s .L ≤ 19800
-  pub broad : 0 < s .B
+-- zones one behind the other from the ship's one end to its other, which may leave gaps between them
+pub record Zoned (s : Ship) : Type 0 where
   pub some : 1 ≤ s .m
   pub stern : s .aft 1 ≡ 0
   pub bow : s .fwd (s .m) ≡ s .L
   pub zone : (a : ℕ) → 1 ≤ a → a ≤ s .m → s .aft a < s .fwd a
   pub next : (a : ℕ) → 1 ≤ a → a < s .m → s .fwd a ≤ s .aft (a + 1)
+
+-- a ship in such zones that is 80 to 198 m long and has a breadth: what document 01 takes on
+pub record Sound (s : Ship) : Type 0 where
+  pub long : 8000 ≤ s .L
+  pub short : s .L ≤ 19800
+  pub broad : 0 < s .B
+  pub zones : Zoned s

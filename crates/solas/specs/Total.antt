@@ -12,7 +12,7 @@ overGroups f m = upTo (λ i. upTo (λ j. f (suc i) (suc j)) (m - i)) m
 unfoldable pub allShares : Ship → ℕ → Fraction
 allShares s b = overGroups (λ a n. share s a n b) (s .m)
 
--- ---- two slips of the trade, and what they change
+-- ---- two slips of the trade, and what is left out or put back by them
 -- the span that three and more zones put back: the group without its first and its last zone
 unfoldable pub middleSpan : Ship → ℕ → ℕ → ℕ → Fraction
 middleSpan s a zero b = whole 0
@@ -24,7 +24,7 @@ middleSpan s a (suc (suc (suc k))) b = within s (a + 1) (a + k + 1) b
 unfoldable pub allWithoutMiddle : Ship → ℕ → Fraction
 allWithoutMiddle s b = overGroups (λ a n. share s a n b ⊝ middleSpan s a n b) (s .m)
 
--- a zone that a pair does not put back: its first
+-- the zone that the second slip puts back at two zones, where nothing went twice: the first
 unfoldable pub firstOfPair : Ship → ℕ → ℕ → ℕ → Fraction
 firstOfPair s a zero b = whole 0
 firstOfPair s a (suc zero) b = whole 0

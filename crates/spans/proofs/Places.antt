@@ -1,11 +1,12 @@
 -- The places of an accepted hull rise from end to end, and its ship is sound. Assumes nothing.
 use mathlib.Core.Path.{_≡_, ap}
-use Prim.Native.Nat.{ℕ, zero, suc, _+_, _-_, _≤_, _<_}
-use native.Mathlib.Nat.{le-dest, le-refl, add-zero, le-of-eq}
+use Prim.Native.Nat.{ℕ, zero, suc, _+_, _≤_}
+use native.Mathlib.Nat.{le-dest, le-refl, add-zero}
 use native.Mathlib.Omega.{arith}
 use lib.ListN.{getD}
 use Rattle.records.specs.declared.Hull.{Hull}
 use Rattle.solas.specs.Ship.{Sound}
+use Rattle.solas.proofs.Sound.{abutting-sound}
 use Rattle.spans.specs.Hull.{shipOf, Hulled}
 
 module _ {h : Hull} (s : Hulled h) where
@@ -22,13 +23,5 @@ module _ {h : Hull} (s : Hulled h) where
   place-within l = omega (arith, place-below l (le-refl (h .zones)), s .bow)
 
   pub ship-sound : Sound (shipOf h)
-  ship-sound = record {
-    long = s .long;
-    short = s .short;
-    broad = omega (arith, s .broad);
-    some = s .some;
-    stern = s .stern;
-    bow = s .bow;
-    zone = λ a p q. let e : a - 1 + 1 ≡ a = omega arith in rw e at (s .rising (a - 1) (omega arith));
-    next = λ a p q. let e : a + 1 - 1 ≡ a = omega arith in rw e (le-refl (getD (h .places) a 0));
-  }
+  ship-sound =
+      abutting-sound (h .length) (h .breadth) (h .zones) (h .places) (s .long) (s .short) (omega (arith, s .broad)) (s .some) (s .stern) (s .bow) (s .rising)

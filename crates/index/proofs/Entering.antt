@@ -13,9 +13,9 @@ use Rattle.spans.specs.Hull.{Hulled}
 use Rattle.spans.specs.Table.{tableOf}
 use Rattle.survival.specs.Height.{rowVs}
 use Rattle.survival.specs.Survival.{survivalsOf}
-use Rattle.survival.specs.Index.{plus, rowAdds, Share, Given, Within}
-use Rattle.survival.proofs.Rows.{row-weights}
-use Rattle.survival.proofs.Sums.{row-within}
+use Rattle.indices.specs.Index.{plus, rowAdds, Share, Given, Within}
+use Rattle.indices.proofs.Rows.{row-weights}
+use Rattle.indices.proofs.Sums.{row-within}
 use Rattle.index.specs.declared.Standing.{Standing}
 use Rattle.index.specs.declared.Running.{Running}
 use Rattle.index.specs.Standing.{stands}

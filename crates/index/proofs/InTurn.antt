@@ -12,9 +12,9 @@ use Rattle.records.specs.declared.Trio.{Trio}
 use Rattle.solas.specs.Count.{added, taken}
 use Rattle.solas.specs.Index.{draughts}
 use Rattle.chances.specs.Share.{withinEnds, sumsOf, lowest, highest, rowOf, rowEnds}
-use Rattle.survival.specs.Index.{partials, plus, Share, Given, Within}
-use Rattle.survival.proofs.Rows.{row-weights}
-use Rattle.survival.proofs.Sums.{partials-snoc, row-within, plus-within, none-within}
+use Rattle.indices.specs.Index.{partials, plus, Share, Given, Within}
+use Rattle.indices.proofs.Rows.{row-weights}
+use Rattle.indices.proofs.Sums.{partials-snoc, row-within, plus-within, none-within}
 use Rattle.casefile.specs.declared.RowPlace.{RowPlace}
 use Rattle.casefile.specs.Record.{Row}
 use Rattle.casefile.specs.Answer.{rowAt}

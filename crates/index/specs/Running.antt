@@ -8,7 +8,7 @@ use Rattle.records.specs.declared.Finding.{Finding}
 use Rattle.solas.specs.Count.{Group}
 use Rattle.spans.specs.Hull.{shipOf, Hulled}
 use Rattle.spans.specs.Table.{tableOf}
-use Rattle.survival.specs.Index.{plus, partials, Share, Given}
+use Rattle.indices.specs.Index.{plus, partials, Share, Given}
 use Rattle.casefile.specs.Record.{Row}
 use Rattle.index.specs.declared.Standing.{Standing}
 use Rattle.index.specs.declared.Running.{Running}

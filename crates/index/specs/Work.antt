@@ -9,7 +9,7 @@ use Rattle.spans.specs.Hull.{shipOf}
 use Rattle.chances.specs.Share.{rowEnds}
 use Rattle.survival.specs.Height.{rowVs}
 use Rattle.survival.specs.Survival.{survivalsOf}
-use Rattle.survival.specs.Index.{rowAdds}
+use Rattle.indices.specs.Index.{rowAdds}
 use Rattle.casefile.specs.Record.{Row}
 use Rattle.index.specs.declared.Standing.{Standing}
 use Rattle.index.specs.Standing.{stands}

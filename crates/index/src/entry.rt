@@ -3,7 +3,7 @@ ghost use mathlib.Core.Path.{_≡_};
 ghost use mathlib.Core.List.{_++_};
 ghost use Prim.Native.Nat.{_*_, _^_, _≤_};
 ghost use lib.ListN.{length, drop};
-ghost use Rattle.survival.specs.Index.{Within};
+ghost use Rattle.indices.specs.Index.{Within};
 ghost use Rattle.casefile.specs.Reading.{accepted, reading};
 ghost use Rattle.index.specs.Answer.{figures, answer, shares, caseIn, refusal, answered, sheetAfter};
 ghost use Rattle.index.specs.Report.{reportLength, reportedIn};
@@ -37,10 +37,10 @@ fn conclude(size: u64, rows: u64, partials: Trio) -> Answer
     requires { ⌜ (size ≤ 10 ^ 6) × Within (2 ^ 60) partials ⌝ }
     ensures { λ r. ⌜ r ≡ figures size rows partials ⌝ }
 {
-    let attained = survival::index::attained(partials);
-    let required = survival::verdict::required(size);
-    let mark = survival::verdict::partial_mark(size);
-    let verdict = survival::verdict::verdict(attained, partials, required, mark);
+    let attained = indices::index::attained(partials);
+    let required = indices::verdict::required(size);
+    let mark = indices::verdict::partial_mark(size);
+    let verdict = indices::verdict::verdict(attained, partials, required, mark);
     Answer {
         number: 0,
         line: 0,

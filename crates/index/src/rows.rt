@@ -4,7 +4,7 @@ ghost use Prim.Native.Nat.{_^_};
 ghost use Rattle.solas.specs.Index.{draughts};
 ghost use Rattle.spans.specs.Hull.{Hulled};
 ghost use Rattle.spans.specs.Table.{tableOf};
-ghost use Rattle.survival.specs.Index.{Given, Within};
+ghost use Rattle.indices.specs.Index.{Given, Within};
 ghost use Rattle.index.specs.Standing.{stands};
 ghost use Rattle.index.specs.Work.{shareAt};
 ghost use Rattle.index.specs.Running.{Stood, Ready, entered};
@@ -88,8 +88,8 @@ pub fn enter(
     let so_far = s.sums;
     let z = next(y, head);
     let share = share_after(t, h, y, last, z);
-    let adds = survival::index::row(share, z.below, head.height, at, head.kind, results);
-    let sums = survival::index::sum(so_far, adds);
+    let adds = indices::index::row(share, z.below, head.height, at, head.kind, results);
+    let sums = indices::index::sum(so_far, adds);
     Running {
         standing: z,
         share,

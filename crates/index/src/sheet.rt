@@ -3,7 +3,7 @@ ghost use mathlib.Core.Path.{_≡_};
 ghost use mathlib.Core.List.{_++_};
 ghost use Prim.Native.Nat.{_*_, _^_, _≤_, _<_};
 ghost use lib.ListN.{length, drop};
-ghost use Rattle.survival.specs.Index.{partials, Within};
+ghost use Rattle.indices.specs.Index.{partials, Within};
 ghost use Rattle.casefile.specs.Walk.{rowsFrom};
 ghost use Rattle.index.specs.Standing.{nowhere};
 ghost use Rattle.index.specs.Work.{sharesFrom, addsFrom};

@@ -14,11 +14,11 @@ use Rattle.chances.specs.Promises as chance
 use Rattle.chances.proofs.Row.{shares-enclosed, shares-near}
 use Rattle.survival.specs.Height.{rowVs}
 use Rattle.survival.specs.Survival.{Sensible, given, factorsOf, survivalsOf}
-use Rattle.survival.specs.Index.{Given, partials}
-use Rattle.survival.specs.Exact as exact
-use Rattle.survival.specs.Exact.{Sound, Close, Every, AtAll, rowAt, rowsAt, rowTrio}
-use Rattle.survival.proofs.Rows.{found-sensible}
-use Rattle.survival.proofs.Sums.{sums-are-these}
+use Rattle.indices.specs.Index.{Given, partials}
+use Rattle.indices.specs.Exact as exact
+use Rattle.indices.specs.Exact.{Sound, Close, Every, AtAll, rowAt, rowsAt, rowTrio}
+use Rattle.survival.proofs.Factors.{found-sensible}
+use Rattle.indices.proofs.Sums.{sums-are-these}
 use Rattle.casefile.specs.Record.{Row, Case}
 use Rattle.casefile.specs.Valid.{Valid}
 use Rattle.index.specs.declared.Standing.{Standing}

@@ -23,7 +23,7 @@ use Rattle.solas.proofs.Height.{dp-below-deepest}
 use Rattle.spans.specs.Hull.{shipOf, Hulled}
 use Rattle.spans.proofs.Places.{ship-sound}
 use Rattle.survival.specs.Height.{rowVs}
-use Rattle.survival.specs.Exact.{weight, rowAt, AtAll}
+use Rattle.indices.specs.Exact.{weight, rowAt, AtAll}
 use Rattle.casefile.specs.Record.{Row, Case}
 use Rattle.casefile.specs.Limits.{sizesFit}
 use Rattle.casefile.specs.Valid.{Every, Valid}

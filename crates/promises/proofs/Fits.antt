@@ -14,10 +14,10 @@ use Rattle.laws.proofs.Table.{both-hold, every}
 use Rattle.records.specs.declared.Ends.{Ends}
 use Rattle.records.specs.declared.Hull.{Hull}
 use Rattle.frames.specs.Lines.{Line, onto, lines}
-use Rattle.survival.specs.Index.{at, attainedOf, weighed, Share}
-use Rattle.survival.specs.Exact as exact
-use Rattle.survival.specs.Exact.{RowAt, Every, Close, partialEnds}
-use Rattle.survival.proofs.Width.{partial-at-most}
+use Rattle.indices.specs.Index.{at, attainedOf, weighed, Share}
+use Rattle.indices.specs.Exact as exact
+use Rattle.indices.specs.Exact.{RowAt, Every, Close, partialEnds}
+use Rattle.indices.proofs.Width.{partial-at-most}
 use Rattle.casefile.specs.Record.{Row, Case}
 use Rattle.casefile.specs.Valid.{Valid}
 use Rattle.casefile.specs.Reading.{Reading, refused, accepted, reading}

@@ -11,8 +11,8 @@ use Rattle.solas.specs.Regulation.{IsRoot, under√, pi}
 use Rattle.solas.proofs.RegulationShares.{shares-are-the-regulation's}
 use Rattle.spans.specs.Hull.{shipOf, Hulled}
 use Rattle.spans.proofs.Places.{ship-sound}
-use Rattle.survival.specs.Exact as exact
-use Rattle.survival.specs.Exact.{Each}
+use Rattle.indices.specs.Exact as exact
+use Rattle.indices.specs.Exact.{Each}
 use Rattle.casefile.specs.Record.{Row, Case}
 use Rattle.casefile.specs.Order.{sameGroup}
 use Rattle.casefile.specs.Valid.{Follows, higher, deeper, later, Ordered}

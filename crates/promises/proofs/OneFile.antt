@@ -23,8 +23,8 @@ use Rattle.chances.specs.Share.{withinEnds, sumsOf, lowest, highest, rowOf, row
 use Rattle.survival.specs.Ratio.{ratioOf}
 use Rattle.survival.specs.Height.{rowVs}
 use Rattle.survival.specs.Survival.{factorOf, scaledOf, roundedOf, factorsOf, survivalsOf}
-use Rattle.survival.specs.Index.{addsOf, rowAdds, partials, attainedOf}
-use Rattle.survival.specs.Verdict.{reaches, allReach, verdictOf}
+use Rattle.indices.specs.Index.{addsOf, rowAdds, partials, attainedOf}
+use Rattle.indices.specs.Verdict.{reaches, allReach, verdictOf}
 use Rattle.frames.specs.Lines.{lines}
 use Rattle.frames.specs.Hex.{digitOf, pairOf, pairs, digitsOnly, proper, badlyWritten, digit, hex, lineOf}
 use Rattle.frames.specs.Fields.{wordAt}

@@ -13,9 +13,9 @@ use Rattle.laws.proofs.Fraction.{is-over, is-nothing, is-one, is-⊹, is-⊛, i
 use Rattle.laws.proofs.Rounding.{ceil-lower}
 use Rattle.records.specs.declared.Ends.{Ends}
 use Rattle.survival.specs.Survival.{ends}
-use Rattle.survival.specs.Index.{scale, at, addsOf, attainedOf, weighed}
-use Rattle.survival.specs.Exact.{billionths, RowAt, Holds, Sound, Every, weight, rowEnds, partialEnds, Thrice, AtAll, partialsOf}
-use Rattle.survival.specs.Promises.{AtMostOne}
+use Rattle.indices.specs.Index.{scale, at, addsOf, attainedOf, weighed}
+use Rattle.indices.specs.Exact.{billionths, RowAt, Holds, Sound, Every, weight, rowEnds, partialEnds, Thrice, AtAll, partialsOf}
+use Rattle.indices.specs.Promises.{AtMostOne}
 use Rattle.survival.proofs.Bounds.{ends-ordered}
 use Rattle.survival.proofs.Compare.{⊛-rises}
 use Rattle.promises.specs.Rows.{chances}

@@ -8,9 +8,9 @@ use Rattle.laws.specs.Fraction.{Fraction, whole, _≈_, _≼_}
 use Rattle.records.specs.declared.Answer.{Answer}
 use Rattle.records.specs.declared.Ends.{Ends}
 use Rattle.solas.specs.Index.{R, partialMark}
-use Rattle.survival.specs.Index.{at}
-use Rattle.survival.specs.Exact.{billionths, RowAt, NoneAbove, NoneBelow, weightedSum, Thrice, AtEach, exactA}
-use Rattle.survival.specs.Promises.{Meets, Fails, ReachAll, OneShort}
+use Rattle.indices.specs.Index.{at}
+use Rattle.indices.specs.Exact.{billionths, RowAt, NoneAbove, NoneBelow, weightedSum, Thrice, AtEach, exactA}
+use Rattle.indices.specs.Promises.{Meets, Fails, ReachAll, OneShort}
 use Rattle.casefile.specs.Record.{Case}
 use Rattle.casefile.specs.Reading.{accepted, reading}
 use Rattle.index.specs.Answer.{answer, answered}

@@ -11,9 +11,7 @@ use Rattle.laws.proofs.Roots.{powers-ordered, root-below, root-above}
 use Rattle.numbers.proofs.Root.{down-of-fraction, up-of-fraction}
 use Rattle.numbers.proofs.RootValue.{down-root, up-root}
 use Rattle.survival.specs.Ratio.{ratioOf}
-use Rattle.survival.specs.Survival.{Factor, root, given, ends, Sensible, Bottom, Top, scaledOf, roundedOf}
-use Rattle.survival.specs.Exact.{tenThousandths, fourthPower, NotAbove, NotBelow}
-use Rattle.survival.specs.Promises.{BottomAndTop}
+use Rattle.survival.specs.Survival.{Factor, root, given, ends, Sensible, Bottom, Top, BottomAndTop, scaledOf, roundedOf, tenThousandths, fourthPower, NotAbove, NotBelow}
 use Rattle.survival.proofs.Compare.{across-below, ratio-positive, is-ratio, is-times, is-fourth}
 use Rattle.survival.proofs.Factors.{same-survival, times-down, times-up}
 

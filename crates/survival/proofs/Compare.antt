@@ -10,7 +10,7 @@ use Rattle.laws.proofs.Fraction.{positive, is-over, is-whole, is-self, is-⊛, 
 use Rattle.laws.proofs.Polynomial.{_:*_, _:^_, _:=_, _⊢_, poly1}
 use Rattle.laws.proofs.FractionRing.{⊛-comm}
 use Rattle.survival.specs.Ratio.{ratioOf}
-use Rattle.survival.specs.Exact.{fourthPower}
+use Rattle.survival.specs.Survival.{fourthPower}
 
 -- ---- two quotients over any two denominators
 module _ {f g : Fraction} {a b d a′ b′ d′ : ℕ} (h : Is f a b d) (k : Is g a′ b′ d′) where

@@ -1,6 +1,6 @@
 -- `sheet::begin` meets its contract. Assumes nothing.
 use mathlib.Core.Path.{refl}
-use Rattle.survival.specs.Index.{partials}
+use Rattle.indices.specs.Index.{partials}
 use Rattle.index.specs.Running.{begun}
 use Rattle.index.proofs.sheet.begin.Statement.{statement}
 use Rattle.index.proofs.sheet.begin.Tie as tie

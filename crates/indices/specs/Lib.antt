@@ -1,0 +1,4 @@
+pub mod Index
+pub mod Verdict
+pub mod Exact
+pub mod Promises

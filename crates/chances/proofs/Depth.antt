@@ -1,10 +1,10 @@
 -- C, G1 and G3 of a penetration that is at most half of the breadth: not negative, not above one, and small enough for 64 bits. Assumes nothing.
-use mathlib.Core.Path.{_≡_, sym, _∙_}
+use mathlib.Core.Path.{_≡_, refl, sym, _∙_}
 use Prim.Native.Nat.{ℕ, _+_, _-_, _*_, _^_, _≤_, _<_}
 use native.Mathlib.Nat.{mul-le-mul, mul-le-mul-left, mul-le-mul-right, mul-pos}
 use native.Mathlib.Omega.{arith}
 use Rattle.laws.specs.Fraction.{Is, _less_over_}
-use Rattle.laws.proofs.Fraction.{is-less-over, is-rewritten}
+use Rattle.laws.proofs.Fraction.{is-less-over, is-shifted, is-written}
 use Rattle.records.specs.declared.Ends.{Ends}
 use Rattle.numbers.specs.Figures.{Proper, billionthsOf, halvesOf}
 use Rattle.numbers.proofs.Figures.{proper}
@@ -58,11 +58,11 @@ module _ (B b : ℕ) (h : (1 ≤ B) × (B ≤ 6000) × (2 * b ≤ B)) where
 
   pub G1-is : Is (G1 B b) (5500 * b * B - 1089 * b * b) 0 (7500 * B * B)
   unfolding G1
-  G1-is = let q = products B b h in rw (pow-two b, pow-two B) (is-rewritten _ 0 _ (omega arith) (omega arith) (is-less-over (5500 * b * B) (1089 * (b * b)) (omega arith)))
+  G1-is = let q = products B b h in rw (pow-two b, pow-two B) (is-written (is-shifted _ 0 (omega arith) (is-less-over (5500 * b * B) (1089 * (b * b)) (omega arith))) refl refl (omega arith))
 
   pub G3-is : Is (G3 B b) (1375 * b * b * B - 363 * b * b * b) 0 (56250 * B * B * B)
   unfolding G3
-  G3-is = let q = products B b h in rw (pow-two b, cube b, cube B) (is-rewritten _ 0 _ (omega arith) (omega arith) (is-less-over (1375 * (b * b) * B) (363 * (b * b * b)) (omega arith)))
+  G3-is = let q = products B b h in rw (pow-two b, cube b, cube B) (is-written (is-shifted _ 0 (omega arith) (is-less-over (1375 * (b * b) * B) (363 * (b * b * b)) (omega arith))) refl refl (omega arith))
 
   pub G1-proper : Proper (5500 * b * B - 1089 * b * b) (7500 * B * B)
   G1-proper = let q = products B b h in proper (omega arith) (omega arith) (omega arith)

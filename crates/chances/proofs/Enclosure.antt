@@ -9,11 +9,11 @@ use lib.Dec.{leb}
 use Rattle.laws.specs.Fraction.{Fraction, Is, _over_, whole, _≼_, _⊹_, _⊝_, _⊛_}
 use Rattle.laws.proofs.Fraction.{≼-trans, is-over, is-⊛, is-shifted, below-across}
 use Rattle.records.specs.declared.Ends.{Ends}
-use Rattle.numbers.specs.Figures.{halvesOf}
+use Rattle.numbers.specs.Figures.{Between, halvesOf}
 use Rattle.solas.specs.Span.{Touch, neither, one, both, touch, half, p, P}
 use Rattle.solas.specs.Penetration.{C, G1, G3, GAt, G, Q}
 use Rattle.solas.proofs.Within.{is-half}
-use Rattle.spans.specs.Rounded.{Between, Probable, Near}
+use Rattle.spans.specs.Rounded.{Probable, Near}
 use Rattle.spans.specs.Span.{pEnds, PEnds}
 use Rattle.spans.proofs.Rounded.{Enclosed, between, ends-enclose, ends-near, ends-probable}
 use Rattle.spans.proofs.Enclosure.{p-enclosed, p-near, p-probable, P-enclosed, P-near, P-probable}

@@ -23,7 +23,7 @@ use Rattle.chances.proofs.Row.{lower-at-most-one}
 use Rattle.survival.specs.declared.Ratio.{Ratio}
 use Rattle.survival.specs.Ratio.{ratioOf}
 use Rattle.indices.specs.Index.{partials, attainedOf, Share}
-use Rattle.indices.specs.Verdict.{verdictOf}
+use Rattle.verdicts.specs.Verdict.{verdictOf}
 use Rattle.casefile.specs.declared.Judgement.{Judgement}
 use Rattle.casefile.specs.Record.{Case}
 use Rattle.casefile.specs.Limits.{sizesFit}

@@ -11,7 +11,7 @@ use Rattle.records.specs.declared.Trio.{Trio}
 use Rattle.solas.specs.Index.{R, partialMark}
 use Rattle.survival.specs.Ratio.{ratioOf}
 use Rattle.indices.specs.Index.{partials, attainedOf}
-use Rattle.indices.specs.Verdict.{verdictOf}
+use Rattle.verdicts.specs.Verdict.{verdictOf}
 use Rattle.casefile.specs.Record.{Case}
 use Rattle.casefile.specs.Reading.{Reading, refused, accepted}
 use Rattle.casefile.specs.Walk.{afterHull, rowsFrom}

@@ -37,10 +37,10 @@ fn conclude(size: u64, rows: u64, partials: Trio) -> Answer
     requires { ⌜ (size ≤ 10 ^ 6) × Within (2 ^ 60) partials ⌝ }
     ensures { λ r. ⌜ r ≡ figures size rows partials ⌝ }
 {
-    let attained = indices::index::attained(partials);
-    let required = indices::verdict::required(size);
-    let mark = indices::verdict::partial_mark(size);
-    let verdict = indices::verdict::verdict(attained, partials, required, mark);
+    let attained = indices::attained(partials);
+    let required = verdicts::required(size);
+    let mark = verdicts::partial_mark(size);
+    let verdict = verdicts::verdict(attained, partials, required, mark);
     Answer {
         number: 0,
         line: 0,

@@ -88,8 +88,8 @@ pub fn enter(
     let so_far = s.sums;
     let z = next(y, head);
     let share = share_after(t, h, y, last, z);
-    let adds = indices::index::row(share, z.below, head.height, at, head.kind, results);
-    let sums = indices::index::sum(so_far, adds);
+    let adds = indices::row(share, z.below, head.height, at, head.kind, results);
+    let sums = indices::sum(so_far, adds);
     Running {
         standing: z,
         share,

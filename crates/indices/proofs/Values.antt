@@ -1,5 +1,5 @@
--- Document 01, "Proved values" and "One file in full": R, the indices and the verdict, as the definitions of this crate give them. Assumes nothing.
-use Prim.Native.Nat.{ℕ, _*_}
+-- Document 01, "One file in full": its partial indices and A, as the definitions of this crate give them. Assumes nothing.
+use Prim.Native.Nat.{ℕ}
 use mathlib.Core.List.{List, [], _∷_}
 use mathlib.Core.Path.{_≡_, refl}
 use Rattle.laws.specs.Fraction.{_less_over_, _⊛_}
@@ -9,13 +9,12 @@ use Rattle.records.specs.declared.Ends.{Ends}
 use Rattle.records.specs.declared.Finding.{Finding}
 use Rattle.records.specs.declared.Trio.{Trio}
 use Rattle.solas.specs.Height.{v, vAt, rowV}
-use Rattle.solas.specs.Index.{dp, draughts, R, partialMark}
+use Rattle.solas.specs.Index.{dp, draughts}
 use Rattle.solas.specs.Survival.{k, s⁴}
 use Rattle.survival.specs.Ratio.{ratioOf}
 use Rattle.survival.specs.Height.{rowVs}
 use Rattle.survival.specs.Survival.{factorOf, scaledOf, roundedOf, factorsOf, survivalsOf}
 use Rattle.indices.specs.Index.{addsOf, trio, rowAdds, partials, attainedOf}
-use Rattle.indices.specs.Verdict.{reaches, allReach, verdictOf}
 
 abbrev found : ℕ → ℕ → ℕ → Finding
 found lever range heel = record { lever = lever; range = range; heel = heel; given = 0 }
@@ -26,14 +25,7 @@ given s = record { lever = 0; range = 0; heel = 0; given = s }
 abbrev ends : ℕ → ℕ → Ends
 ends lower upper = record { lower = lower; upper = upper }
 
--- ---- R, 13/33 and 31/63
-pub required :
-    (ratioOf (R 8000) .num * 33 ≡ ratioOf (R 8000) .den * 13)
-    × (ratioOf (R 10000) .num * 63 ≡ ratioOf (R 10000) .den * 31)
-unfolding R ratioOf _less_over_
-required = (refl, refl)
-
--- ---- the printed file: its three rows reach from the baseline to 18,500, the top at each draught
+-- its three rows reach from the baseline to 18,500, the top at each draught
 abbrev vs : List ℕ
 vs = rowVs 0 18500 (draughts 6000 4000)
 
@@ -48,9 +40,6 @@ file =
 abbrev printed : Ends
 printed = ends 0x34243ab9 0x34243abb
 
-pub one-file :
-    (file ≡ trio printed printed printed)
-    × (attainedOf file ≡ printed)
-    × (verdictOf (attainedOf file) file (ratioOf (R 9900)) (ratioOf (partialMark 9900)) ≡ 1)
-unfolding rowVs rowV vAt v dp survivalsOf factorsOf factorOf s⁴ k ratioOf scaledOf roundedOf rootDown rootUp withDigits ceil _⊛_ _less_over_ addsOf rowAdds partials attainedOf R partialMark reaches allReach verdictOf
-one-file = (refl, refl, refl)
+pub one-file : (file ≡ trio printed printed printed) × (attainedOf file ≡ printed)
+unfolding rowVs rowV vAt v dp survivalsOf factorsOf factorOf s⁴ k ratioOf scaledOf roundedOf rootDown rootUp withDigits ceil _⊛_ _less_over_ addsOf rowAdds partials attainedOf
+one-file = (refl, refl)

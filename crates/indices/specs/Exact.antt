@@ -1,22 +1,15 @@
 -- What the ends are held to: rows at one draught with their exact share and survival, and the sums over every list of survivals. Assumes nothing.
-use Prim.Native.Nat.{ℕ, _+_, _^_, _≤_}
+use Prim.Native.Nat.{ℕ, _+_, _≤_}
 use mathlib.Core.List.{List, [], _∷_, map}
 use lib.ListN.{getD}
 use Rattle.laws.specs.Fraction.{Fraction, _over_, whole, _≼_, _⊹_, _⊛_}
 use Rattle.laws.specs.Sums.{sumOf}
+use Rattle.numbers.specs.Figures.{Between}
 use Rattle.records.specs.declared.Ends.{Ends}
 use Rattle.records.specs.declared.Trio.{Trio}
 use Rattle.solas.specs.Index.{attained}
 use Rattle.survival.specs.Survival.{Factor, given, ends, Sensible, NotAbove, NotBelow}
 use Rattle.indices.specs.Index.{addsOf, trio, rowAdds}
-
-abbrev pub billionths : ℕ → Fraction
-billionths n = n over 10 ^ 9
-
--- the figure is not below the lower end and not above the upper
-pub record Holds (e : Ends) (figure : Fraction) : Type 0 where
-  pub low : billionths (e .lower) ≼ figure
-  pub high : figure ≼ billionths (e .upper)
 
 -- a row at one draught: its share, exact and in ends, its v, and what its survival is exactly
 pub record RowAt : Type 0 where
@@ -26,7 +19,7 @@ pub record RowAt : Type 0 where
   pub factor : Factor
 
 pub record Sound (r : RowAt) : Type 0 where
-  pub share : Holds (r .shareEnds) (r .share)
+  pub share : Between (r .shareEnds) (r .share)
   pub factor : Sensible (r .factor)
 
 -- the ends of the share are at most w billionths apart

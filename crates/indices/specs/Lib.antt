@@ -1,4 +1,3 @@
 pub mod Index
-pub mod Verdict
 pub mod Exact
 pub mod Promises

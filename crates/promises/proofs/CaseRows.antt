@@ -80,8 +80,7 @@ module _ {h : Hull} (k : Hulled h) (y : Standing) (s : Stood h y) {fs : List Fin
   sound-row : Sound (rowAt i (exactRow h y fs))
   unfolding shareAt
   sound-row =
-      let e = shares-enclosed (shipOf h) (y .head .first) (y .head .count) (y .before) (y .head .depth) layer in
-      record { share = record { low = e .low; high = e .high }; factor = sensible }
+      record { share = shares-enclosed (shipOf h) (y .head .first) (y .head .count) (y .before) (y .head .depth) layer; factor = sensible }
 
   close-row : Close 32 (rowAt i (exactRow h y fs))
   unfolding shareAt

@@ -1,19 +1,18 @@
 -- Every figure of an answer fits its bytes: refusals by the table and the lines of an input, ends by the promised width. Assumes nothing.
 use Prim.Native.Nat.{ℕ, zero, suc, _+_, _*_, _/_, _^_, _≤_, _<_}
 use mathlib.Core.Path.{_≡_, refl}
-use mathlib.Core.Bool.{Bool, true, false, cond}
-use mathlib.Core.List.{List, [], _∷_, List·Memᴰ, List·Memᴰ·head, List·Memᴰ·tail}
+use mathlib.Core.List.{List, [], _∷_, List·Memᴰ}
 use mathlib.Core.Logic.{_⊎_, inl, inr}
 use native.Mathlib.Nat.{le-trans, div-mul-le-self}
 use native.Mathlib.Omega.{arith}
-use lib.Dec.{T, eqb, ltb, ltb→lt}
+use lib.Dec.{ltb, ltb→lt}
 use lib.ListN.{length, getD}
 use borrow.Author.Tests.{le-ltb}
 use Rattle.laws.specs.Fraction.{whole, _≼_}
-use Rattle.laws.proofs.Table.{both-hold, every}
+use Rattle.laws.proofs.Table.{member-passes}
 use Rattle.records.specs.declared.Ends.{Ends}
 use Rattle.records.specs.declared.Hull.{Hull}
-use Rattle.frames.specs.Lines.{Line, onto, lines}
+use Rattle.frames.proofs.Lines.{lines-few}
 use Rattle.indices.specs.Index.{at, attainedOf, weighed, Share}
 use Rattle.indices.specs.Exact as exact
 use Rattle.indices.specs.Exact.{RowAt, Every, Close, partialEnds}
@@ -47,26 +46,8 @@ use Rattle.promises.proofs.Kept.{promise}
 
 -- ---- a refusal's number and line
 
-member-passes : (p : ℕ → Bool) (k : ℕ) (ns : List ℕ) → T (every p ns) → List·Memᴰ k ns → T (p k)
-member-passes p k (n ∷ ns) t (List·Memᴰ·head e) = rw e (both-hold (p n) (every p ns) t .0)
-member-passes p k (n ∷ ns) t (List·Memᴰ·tail m) = member-passes p k ns (both-hold (p n) (every p ns) t .1) m
-
 number-fits : (k : ℕ) → List·Memᴰ k numbers → k < 256
 number-fits k m = ltb→lt k 256 (member-passes (λ n. ltb n 256) k numbers tt m)
-
--- no more lines than bytes
-onto-few : (b : ℕ) (ls : List Line) → length (onto b ls) ≤ length ls + 1
-onto-few b [] = omega arith
-onto-few b (l ∷ ls) = omega arith
-
-lines-few : (f : List ℕ) → length (lines f) ≤ length f
-unfolding lines
-lines-few [] = omega arith
-lines-few (b ∷ f) = by (eqb b 10) (lines-few f)
-  where
-    by : (t : Bool) → length (lines f) ≤ length f → length (cond {A = List Line} t (record { text = []; closed = true } ∷ lines f) (onto b (lines f))) ≤ length (b ∷ f)
-    by true h = omega (arith, h)
-    by false h = omega (arith, h, onto-few b (lines f))
 
 line-fits : (f : List ℕ) (k l : ℕ) → Refusal f k l → l < 65536
 line-fits f k l (inl r) = omega (arith, r .line)

@@ -24,7 +24,7 @@ use Rattle.survival.specs.Ratio.{ratioOf}
 use Rattle.survival.specs.Height.{rowVs}
 use Rattle.survival.specs.Survival.{factorOf, scaledOf, roundedOf, factorsOf, survivalsOf}
 use Rattle.indices.specs.Index.{addsOf, rowAdds, partials, attainedOf}
-use Rattle.indices.specs.Verdict.{reaches, allReach, verdictOf}
+use Rattle.verdicts.specs.Verdict.{reaches, allReach, verdictOf}
 use Rattle.frames.specs.Lines.{lines}
 use Rattle.frames.specs.Hex.{digitOf, pairOf, pairs, digitsOnly, proper, badlyWritten, digit, hex, lineOf}
 use Rattle.frames.specs.Fields.{wordAt}

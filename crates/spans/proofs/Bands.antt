@@ -11,7 +11,7 @@ use lib.IntN.{ℤ, pos}
 use lib.ListN.{getD}
 use lib.Signed.{mag}
 use Rattle.laws.specs.Fraction.{Fraction, _less_over_, Is}
-use Rattle.laws.proofs.Fraction.{is-less-over, is-rewritten}
+use Rattle.laws.proofs.Fraction.{is-less-over, is-shifted, is-written}
 use Rattle.laws.proofs.Table.{every, everyBelow, every-entry, every-number}
 use Rattle.solas.specs.Span.{p}
 use Rattle.laws.proofs.Polynomial.{pow-two}
@@ -114,7 +114,7 @@ module _ (L x : ℕ) (some : 1 ≤ L) (short : L ≤ 19800) (hx : x ≤ L) where
           short = short;
         };
         chance = record {
-          value = rw (pow-two x, cube x, cube L) (is-rewritten _ 0 _ (omega arith) (omega arith) (is-less-over (550 * (x * x) * L) (1089 * (x * x * x)) (omega (arith, room))));
+          value = rw (pow-two x, cube x, cube L) (is-written (is-shifted _ 0 (omega arith) (is-less-over (550 * (x * x) * L) (1089 * (x * x * x)) (omega (arith, room)))) refl refl (omega arith));
           positive = omega (arith, room);
           at-most-one = omega arith;
           centimetre = refl;
@@ -141,7 +141,7 @@ module _ (L x : ℕ) (some : 1 ≤ L) (short : L ≤ 19800) (hx : x ≤ L) where
         };
         chance = record {
           value = rw (pow-two x, pow-two L, cube x, cube L)
-              (is-rewritten _ 0 _ (omega arith) (omega arith) (is-less-over (19800 * x * (L * L) + 32670 * (x * x) * L) (1000 * (L * L * L) + 35937 * (x * x * x)) (omega (arith, room))));
+              (is-written (is-shifted _ 0 (omega arith) (is-less-over (19800 * x * (L * L) + 32670 * (x * x) * L) (1000 * (L * L * L) + 35937 * (x * x * x)) (omega (arith, room)))) refl refl (omega arith));
           positive = omega (arith, room);
           at-most-one = omega arith;
           centimetre = refl;
@@ -162,7 +162,7 @@ module _ (L x : ℕ) (some : 1 ≤ L) (short : L ≤ 19800) (hx : x ≤ L) where
           short = short;
         };
         chance = record {
-          value = is-rewritten _ 0 _ (omega arith) (omega arith) (is-less-over (297 * x) (20 * L) (omega arith));
+          value = is-written (is-shifted _ 0 (omega arith) (is-less-over (297 * x) (20 * L) (omega arith))) refl refl (omega arith);
           positive = omega arith;
           at-most-one = omega arith;
           centimetre = refl;

@@ -1,6 +1,6 @@
 -- `entry::conclude` meets its contract. Assumes nothing.
 use borrow.Author.Needs.{needs}
-use Rattle.indices.proofs.Marks.{required-proper, mark-proper}
+use Rattle.verdicts.proofs.Marks.{required-proper, mark-proper}
 use Rattle.index.proofs.Accepted.{concluded}
 use Rattle.index.proofs.entry.conclude.Statement.{statement}
 use Rattle.index.proofs.entry.conclude.Tie as tie

@@ -34,7 +34,8 @@ use Rattle.casefile.specs.Limits.{between, sizesFit, risingTo, zonesFit, headFi
 use Rattle.casefile.specs.Order.{atTop, closesGroup, sameGroup, sameLayer, earlierGroup, outOfOrder, leavesOpen, endsOpen}
 use Rattle.casefile.specs.Table.{firstHolds, wrongHullFrame, wrongFrame, wrongZones, hullChecks, rowChecks, endChecks, lineChecks}
 use Rattle.casefile.specs.Reading.{accepted, readFrom, reading}
-use Rattle.printing.specs.Printed.{printed, figuresFrame, refusalFrame, shareFrame, shareLines, endsField, partialField, partialsField}
+use Rattle.digits.specs.Fields.{endsField, partialField, partialsField}
+use Rattle.printing.specs.Printed.{printed, figuresFrame, refusalFrame, shareFrame, shareLines}
 use Rattle.index.specs.Standing.{stands}
 use Rattle.index.specs.Work.{shareAt, addsAt, sharesFrom, addsFrom}
 use Rattle.index.specs.Answer.{partialsOf, figures, answer, shares, answered}

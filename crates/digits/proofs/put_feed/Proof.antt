@@ -1,9 +1,9 @@
--- `printing::put_feed` meets its contract. Assumes nothing.
+-- `digits::put_feed` meets its contract. Assumes nothing.
 use borrow.Author.Needs.{needs}
-use Rattle.printing.specs.Splice.{splice}
+use Rattle.digits.specs.Splice.{splice}
 use mathlib.Core.Path.{refl}
-use Rattle.printing.proofs.put_feed.Statement.{statement}
-use Rattle.printing.proofs.put_feed.Tie as tie
+use Rattle.digits.proofs.put_feed.Statement.{statement}
+use Rattle.digits.proofs.put_feed.Tie as tie
 
 slice-write-out : tie.Need-slice-write-out
 slice-write-out c = search needs

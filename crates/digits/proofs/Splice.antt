@@ -7,7 +7,7 @@ use native.Mathlib.Omega.{arith}
 use lib.ListN.{length, take, drop}
 use lib.Seq.{sets-eq, length-sets}
 use Rattle.laws.proofs.Lists.{sets-append}
-use Rattle.printing.specs.Splice.{splice}
+use Rattle.digits.specs.Splice.{splice}
 
 module _ {A : Type 0} where
   pub length-splice : (at : ℕ) (text xs : List A) → length (splice at text xs) ≡ length xs

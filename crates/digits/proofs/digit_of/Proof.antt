@@ -1,9 +1,9 @@
--- `printing::digit_of` meets its contract. Assumes nothing.
+-- `digits::digit_of` meets its contract. Assumes nothing.
 use borrow.Author.Needs.{needs}
 use borrow.Author.Tests.{lt-ltb, le-ltb}
 use Rattle.frames.specs.Hex.{digit}
-use Rattle.printing.proofs.digit_of.Statement.{statement}
-use Rattle.printing.proofs.digit_of.Tie as tie
+use Rattle.digits.proofs.digit_of.Statement.{statement}
+use Rattle.digits.proofs.digit_of.Tie as tie
 
 cast-result : tie.Need-cast-result
 cast-result c = search needs

@@ -1,8 +1,8 @@
--- `printing::put_four` meets its contract: its two halves join. Assumes nothing.
+-- `digits::put_four` meets its contract: its two halves join. Assumes nothing.
 use borrow.Author.Needs.{needs}
-use Rattle.printing.proofs.Frames.{four-written}
-use Rattle.printing.proofs.put_four.Statement.{statement}
-use Rattle.printing.proofs.put_four.Tie as tie
+use Rattle.digits.proofs.Fields.{four-written}
+use Rattle.digits.proofs.put_four.Statement.{statement}
+use Rattle.digits.proofs.put_four.Tie as tie
 
 put-two-requires : tie.Need-put-two-requires
 put-two-requires c κs = search needs

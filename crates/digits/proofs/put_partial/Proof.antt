@@ -1,8 +1,8 @@
--- `printing::put_partial` meets its contract. Assumes nothing.
+-- `digits::put_partial` meets its contract. Assumes nothing.
 use borrow.Author.Needs.{needs}
-use Rattle.printing.specs.Printed.{partialField}
-use Rattle.printing.proofs.put_partial.Statement.{statement}
-use Rattle.printing.proofs.put_partial.Tie as tie
+use Rattle.digits.specs.Fields.{partialField}
+use Rattle.digits.proofs.put_partial.Statement.{statement}
+use Rattle.digits.proofs.put_partial.Tie as tie
 
 mul-put-ends : tie.Need-mul-put-ends
 mul-put-ends c = search needs

@@ -1,8 +1,8 @@
--- `printing::put_ends` meets its contract: its two halves join. Assumes nothing.
+-- `digits::put_ends` meets its contract: its two halves join. Assumes nothing.
 use borrow.Author.Needs.{needs}
-use Rattle.printing.proofs.Frames.{ends-written}
-use Rattle.printing.proofs.put_ends.Statement.{statement}
-use Rattle.printing.proofs.put_ends.Tie as tie
+use Rattle.digits.proofs.Fields.{ends-written}
+use Rattle.digits.proofs.put_ends.Statement.{statement}
+use Rattle.digits.proofs.put_ends.Tie as tie
 
 put-four-requires : tie.Need-put-four-requires
 put-four-requires c κs = search needs

@@ -1,8 +1,8 @@
--- `printing::put_two` meets its contract: its two halves join. Assumes nothing.
+-- `digits::put_two` meets its contract: its two halves join. Assumes nothing.
 use borrow.Author.Needs.{needs}
-use Rattle.printing.proofs.Frames.{two-written}
-use Rattle.printing.proofs.put_two.Statement.{statement}
-use Rattle.printing.proofs.put_two.Tie as tie
+use Rattle.digits.proofs.Fields.{two-written}
+use Rattle.digits.proofs.put_two.Statement.{statement}
+use Rattle.digits.proofs.put_two.Tie as tie
 
 put-byte-requires : tie.Need-put-byte-requires
 put-byte-requires c κs = search needs

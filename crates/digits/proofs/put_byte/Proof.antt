@@ -1,10 +1,10 @@
--- `printing::put_byte` meets its contract: two stores, two digits. Assumes nothing.
+-- `digits::put_byte` meets its contract: two stores, two digits. Assumes nothing.
 use borrow.Author.Needs.{needs}
 use native.Mathlib.Omega.{arith}
 use lib.ListN.{length-set}
-use Rattle.printing.proofs.Frames.{byte-written}
-use Rattle.printing.proofs.put_byte.Statement.{statement}
-use Rattle.printing.proofs.put_byte.Tie as tie
+use Rattle.digits.proofs.Fields.{byte-written}
+use Rattle.digits.proofs.put_byte.Statement.{statement}
+use Rattle.digits.proofs.put_byte.Tie as tie
 
 digit-of-requires : tie.Need-digit-of-requires
 digit-of-requires c κs = search needs

@@ -9,8 +9,8 @@ use lib.ListN.{length, length-append}
 use Rattle.laws.specs.Bytes.{bytes}
 use Rattle.frames.specs.Hex.{digit, hex, lineOf}
 use Rattle.frames.proofs.Pairs.{length-hex}
-use Rattle.printing.specs.Splice.{splice}
-use Rattle.printing.proofs.Splice.{splice-then}
+use Rattle.digits.specs.Splice.{splice}
+use Rattle.digits.proofs.Splice.{splice-then}
 
 pub hex-append : (xs ys : List ℕ) → hex (xs ++ ys) ≡ hex xs ++ hex ys
 unfolding hex

@@ -1,8 +1,8 @@
--- `printing::put_partials` meets its contract: the three draughts join. Assumes nothing.
+-- `digits::put_partials` meets its contract: the three draughts join. Assumes nothing.
 use borrow.Author.Needs.{needs}
-use Rattle.printing.proofs.Frames.{partials-written}
-use Rattle.printing.proofs.put_partials.Statement.{statement}
-use Rattle.printing.proofs.put_partials.Tie as tie
+use Rattle.digits.proofs.Fields.{partials-written}
+use Rattle.digits.proofs.put_partials.Statement.{statement}
+use Rattle.digits.proofs.put_partials.Tie as tie
 
 put-partial-requires : tie.Need-put-partial-requires
 put-partial-requires c κs = search needs

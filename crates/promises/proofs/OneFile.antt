@@ -17,8 +17,8 @@ use Rattle.solas.specs.Survival.{k, s⁴}
 use Rattle.solas.specs.Index.{dp, R, partialMark}
 use Rattle.spans.specs.Rounded as rounded
 use Rattle.spans.specs.Span.{pEnds, PEnds}
-use Rattle.chances.specs.Figures.{plus, minus}
-use Rattle.chances.specs.Penetration.{G1Ends, G3Ends, partEnds, GEnds, c, d, mixed, QEnds}
+use Rattle.penetration.specs.Figures.{plus, minus}
+use Rattle.penetration.specs.Penetration.{G1Ends, G3Ends, partEnds, GEnds, c, d, mixed, QEnds}
 use Rattle.chances.specs.Share.{withinEnds, sumsOf, lowest, highest, rowOf, rowEnds}
 use Rattle.survival.specs.Ratio.{ratioOf}
 use Rattle.survival.specs.Height.{rowVs}

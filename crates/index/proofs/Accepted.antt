@@ -35,13 +35,13 @@ use Rattle.casefile.proofs.Limits.{Sizes, sizes-are}
 use Rattle.casefile.proofs.Refusal.{zero-accepts}
 use Rattle.casefile.proofs.Soundness.{sound}
 use Rattle.casefile.proofs.Walk.{rows-in-turn}
-use Rattle.index.specs.declared.Standing.{Standing}
-use Rattle.index.specs.Standing.{nowhere}
-use Rattle.index.specs.Work.{shareAt, sharesFrom, addsFrom}
-use Rattle.index.specs.Running.{Stood, Follow, Ready}
-use Rattle.index.specs.Answer.{partialsOf, figures, answer, numbers, shares, caseIn, refusal, answered, sheetAfter}
+use Rattle.rows.specs.declared.Standing.{Standing}
+use Rattle.rows.specs.Standing.{nowhere}
+use Rattle.rows.specs.Work.{shareAt, sharesFrom, addsFrom, numbers}
+use Rattle.rows.specs.Running.{Stood, Follow, Ready}
+use Rattle.index.specs.Answer.{partialsOf, figures, answer, shares, caseIn, refusal, answered, sheetAfter}
 use Rattle.index.proofs.ValidCase.{hulled, rows-follow}
-use Rattle.index.proofs.InTurn.{length-rows}
+use Rattle.rows.proofs.InTurn.{length-rows}
 
 -- ---- a hull's rows have shares of at most one
 

@@ -21,10 +21,10 @@ use Rattle.survival.proofs.Factors.{found-sensible}
 use Rattle.indices.proofs.Sums.{sums-are-these}
 use Rattle.casefile.specs.Record.{Row, Case}
 use Rattle.casefile.specs.Valid.{Valid}
-use Rattle.index.specs.declared.Standing.{Standing}
-use Rattle.index.specs.Standing.{nowhere, stands}
-use Rattle.index.specs.Work.{shareAt, addsAt, addsFrom}
-use Rattle.index.specs.Running.{Stood, Follow}
+use Rattle.rows.specs.declared.Standing.{Standing}
+use Rattle.rows.specs.Standing.{nowhere, stands}
+use Rattle.rows.specs.Work.{shareAt, addsAt, addsFrom}
+use Rattle.rows.specs.Running.{Stood, Follow}
 use Rattle.index.specs.Answer.{partialsOf}
 use Rattle.index.proofs.ValidCase.{hulled, rows-follow}
 use Rattle.promises.specs.Rows.{exactRow, exactRows, rowsOf}

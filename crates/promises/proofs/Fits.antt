@@ -26,16 +26,17 @@ use Rattle.casefile.proofs.TableOrder.{of-the-table}
 use Rattle.casefile.proofs.Soundness.{sound}
 use Rattle.printing.specs.ReadBack.{endsOf, Short, Printable}
 use Rattle.printing.proofs.ReadBack.{reads-back}
-use Rattle.index.specs.declared.Standing.{Standing}
-use Rattle.index.specs.Standing.{nowhere, stands}
-use Rattle.index.specs.Work.{shareAt, sharesFrom}
-use Rattle.index.specs.Running.{Stood, Follow}
+use Rattle.rows.specs.declared.Standing.{Standing}
+use Rattle.rows.specs.Standing.{nowhere, stands}
+use Rattle.rows.specs.Work as work
+use Rattle.rows.specs.Work.{shareAt, sharesFrom}
+use Rattle.rows.specs.Running.{Stood, Follow}
 use Rattle.index.specs.Answer.{partialsOf, figures, answer, shares, answered}
 use Rattle.index.specs.Answer as answers
 use Rattle.index.specs.Report.{sharesIn, report}
 use Rattle.index.proofs.ValidCase.{hulled, rows-follow}
 use Rattle.index.proofs.Accepted.{share-small}
-use Rattle.index.proofs.InTurn.{length-numbers}
+use Rattle.rows.proofs.InTurn.{length-numbers}
 use Rattle.promises.specs.Rows.{rowsOf, chances}
 use Rattle.promises.specs.Promises.{Kept}
 use Rattle.promises.specs.Printing.{EveryFigureFits, PrintedReadsBack}
@@ -60,7 +61,7 @@ pub record Small (e : Ends) : Type 0 where
   pub low : e .lower < 4294967296
   pub high : e .upper < 4294967296
 
-ends-short : (es : List Ends) → Every Small es → Short (answers.numbers es)
+ends-short : (es : List Ends) → Every Small es → Short (work.numbers es)
 ends-short [] h i = omega arith
 ends-short (e ∷ es) h zero = h .0 .low
 ends-short (e ∷ es) h (suc zero) = h .0 .high

@@ -18,10 +18,10 @@ use Rattle.casefile.specs.Order.{sameGroup}
 use Rattle.casefile.specs.Valid.{Follows, higher, deeper, later, Ordered}
 use Rattle.casefile.proofs.Groups.{After, after-linked}
 use Rattle.casefile.proofs.Soundness.{sound}
-use Rattle.index.specs.declared.Standing.{Standing}
-use Rattle.index.specs.Standing.{nowhere, stands, standings}
-use Rattle.index.specs.Running.{Follow}
-use Rattle.index.proofs.Stands.{inGroup, in-layer, in-next-layer, in-new-group, head-is}
+use Rattle.rows.specs.declared.Standing.{Standing}
+use Rattle.rows.specs.Standing.{nowhere, stands, standings}
+use Rattle.rows.specs.Running.{Follow}
+use Rattle.rows.proofs.Stands.{inGroup, in-layer, in-next-layer, in-new-group, head-is}
 use Rattle.index.proofs.ValidCase.{hulled, rows-follow}
 use Rattle.promises.specs.Rows.{exactRows}
 use Rattle.promises.specs.OfSolas.{SharesOfSolas}

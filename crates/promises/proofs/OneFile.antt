@@ -36,8 +36,8 @@ use Rattle.casefile.specs.Table.{firstHolds, wrongHullFrame, wrongFrame, wrongZ
 use Rattle.casefile.specs.Reading.{accepted, readFrom, reading}
 use Rattle.digits.specs.Fields.{endsField, partialField, partialsField}
 use Rattle.printing.specs.Printed.{printed, figuresFrame, refusalFrame, shareFrame, shareLines}
-use Rattle.index.specs.Standing.{stands}
-use Rattle.index.specs.Work.{shareAt, addsAt, sharesFrom, addsFrom}
+use Rattle.rows.specs.Standing.{stands}
+use Rattle.rows.specs.Work.{shareAt, addsAt, sharesFrom, addsFrom}
 use Rattle.index.specs.Answer.{partialsOf, figures, answer, shares, answered}
 use Rattle.index.specs.Report.{sharesIn, report}
 use Rattle.promises.specs.OneFile.{file, text, OneFileInFull}

@@ -9,8 +9,8 @@ use Rattle.indices.specs.Exact as exact
 use Rattle.indices.specs.Exact.{Each}
 use Rattle.casefile.specs.Record.{Case}
 use Rattle.casefile.specs.Reading.{accepted, reading}
-use Rattle.index.specs.declared.Standing.{Standing}
-use Rattle.index.specs.Standing.{nowhere, standings}
+use Rattle.rows.specs.declared.Standing.{Standing}
+use Rattle.rows.specs.Standing.{nowhere, standings}
 use Rattle.promises.specs.Rows.{exactRows}
 
 -- √ is the root in the ship's Jk; a row stands in the layer from the one before it to its own b

@@ -14,9 +14,9 @@ use Rattle.survival.specs.Survival.{factorsOf}
 use Rattle.indices.specs.Exact as exact
 use Rattle.indices.specs.Exact.{RowAt, weight, Thrice, rowsAt}
 use Rattle.casefile.specs.Record.{Row, Case}
-use Rattle.index.specs.declared.Standing.{Standing}
-use Rattle.index.specs.Standing.{nowhere, stands}
-use Rattle.index.specs.Work.{shareAt}
+use Rattle.rows.specs.declared.Standing.{Standing}
+use Rattle.rows.specs.Standing.{nowhere, stands}
+use Rattle.rows.specs.Work.{shareAt}
 
 -- ---- rows
 

@@ -11,9 +11,8 @@ use Rattle.numbers.proofs.Figures.{proper}
 use Rattle.solas.specs.Penetration.{C, G1, G3}
 use Rattle.penetration.specs.Penetration.{c, d, G1Ends, G3Ends}
 use Rattle.penetration.specs.Layer.{layerOf}
-use Rattle.laws.proofs.Polynomial.{pow-two}
+use Rattle.laws.proofs.Polynomial.{pow-two, cube}
 use Rattle.solas.proofs.Depth.{C-is, c-at-most, c-one}
-use Rattle.spans.proofs.Powers.{cube}
 use Rattle.spans.proofs.Rounded.{ends-are}
 
 -- products of the breadth and a penetration, in order

@@ -8,7 +8,7 @@ use Rattle.solas.specs.Span.{Touch, neither, one, both, touch, p, PAt, P}
 use Rattle.spans.specs.Rounded.{endsOf, Probable, Near}
 use Rattle.spans.specs.Span.{pEnds, PEnds}
 use Rattle.spans.proofs.Rounded.{Enclosed, between, ends-enclose, ends-near, ends-probable}
-use Rattle.spans.proofs.Bands.{ratio-of}
+use Rattle.bands.proofs.Bands.{ratio-of}
 use Rattle.spans.proofs.Span.{one-end-is, one-end-proper}
 
 -- a chance: not negative, not above one

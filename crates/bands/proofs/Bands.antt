@@ -14,10 +14,9 @@ use Rattle.laws.specs.Fraction.{Fraction, _less_over_, Is}
 use Rattle.laws.proofs.Fraction.{is-less-over, is-shifted, is-written}
 use Rattle.laws.proofs.Table.{every, everyBelow, every-entry, every-number}
 use Rattle.solas.specs.Span.{p}
-use Rattle.laws.proofs.Polynomial.{pow-two}
-use Rattle.spans.proofs.Powers.{cube}
-use Rattle.spans.specs.declared.Ratio.{Ratio}
-use Rattle.spans.specs.Bands.{bands, bandOf, above, entry, counted, valued, quotientOf, Small, Within, Ready, Chance}
+use Rattle.laws.proofs.Polynomial.{pow-two, cube}
+use Rattle.bands.specs.declared.Ratio.{Ratio}
+use Rattle.bands.specs.Bands.{bands, bandOf, above, entry, counted, valued, quotientOf, Small, Within, Ready, Chance}
 
 -- ---- the table, tested entry by entry
 

@@ -8,8 +8,8 @@ use lib.IntN.{ℤ, pos, negsuc, negℤ}
 use lib.ListN.{getD}
 use lib.Signed.{mag}
 use Rattle.laws.specs.Fraction.{Fraction, Is}
-use Rattle.spans.specs.declared.Sides.{Sides}
-use Rattle.spans.specs.declared.Ratio.{Ratio}
+use Rattle.bands.specs.declared.Sides.{Sides}
+use Rattle.bands.specs.declared.Ratio.{Ratio}
 
 -- the coefficients of L³, xL², x²L and x³, and the divisor, which stands with L³
 abbrev pub bands : List (List ℤ)

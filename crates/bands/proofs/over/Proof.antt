@@ -1,10 +1,10 @@
--- `spans::over` meets its contract, by the coefficient's sign. Assumes nothing.
+-- `bands::over` meets its contract, by the coefficient's sign. Assumes nothing.
 use mathlib.Core.Path.{sym}
 use mir.Syntax.{w64}
 use mir.ValLaws.{toZ-ofZ}
-use Rattle.spans.proofs.Coefficient.{not-below, below-nothing-above}
-use Rattle.spans.proofs.over.Statement.{statement}
-use Rattle.spans.proofs.over.Tie as tie
+use Rattle.bands.proofs.Coefficient.{not-below, below-nothing-above}
+use Rattle.bands.proofs.over.Statement.{statement}
+use Rattle.bands.proofs.over.Tie as tie
 
 cast-result : tie.Need-cast-result
 cast-result c =

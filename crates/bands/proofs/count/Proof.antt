@@ -1,14 +1,14 @@
--- `spans::count` meets its contract: neither term wraps. Assumes nothing.
+-- `bands::count` meets its contract: neither term wraps. Assumes nothing.
 use borrow.Author.Needs.{needs}
 use mathlib.Core.Path.{_≡_}
 use Prim.Native.Nat.{_*_, _^_, _≤_}
 use native.Mathlib.Omega.{arith}
 use mir.Syntax.{w64}
 use mir.ValLaws.{toZ-ofZ}
-use Rattle.spans.specs.Bands.{above, beneath, counted}
-use Rattle.spans.proofs.Coefficient.{above-small, beneath-small, term-small}
-use Rattle.spans.proofs.count.Statement.{statement}
-use Rattle.spans.proofs.count.Tie as tie
+use Rattle.bands.specs.Bands.{above, beneath, counted}
+use Rattle.bands.proofs.Coefficient.{above-small, beneath-small, term-small}
+use Rattle.bands.proofs.count.Statement.{statement}
+use Rattle.bands.proofs.count.Tie as tie
 
 over-is : (c : tie.After-over) → c .over .result ≡ above (c .before .args .k)
 over-is c = rw (toZ-ofZ w64 (c .before .args .k) (c .before .fits .k)) at (c .over .ensures)

@@ -1,9 +1,9 @@
--- `spans::band` meets its contract. Assumes nothing.
+-- `bands::band` meets its contract. Assumes nothing.
 use borrow.Author.Needs.{needs}
 use borrow.Author.Tests.{le-leb, lt-leb}
-use Rattle.spans.specs.Bands.{bandOf}
-use Rattle.spans.proofs.band.Statement.{statement}
-use Rattle.spans.proofs.band.Tie as tie
+use Rattle.bands.specs.Bands.{bandOf}
+use Rattle.bands.proofs.band.Statement.{statement}
+use Rattle.bands.proofs.band.Tie as tie
 
 mul-if1 : tie.Need-mul-if1
 mul-if1 c = search needs

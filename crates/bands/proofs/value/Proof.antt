@@ -1,12 +1,12 @@
--- `spans::value` meets its contract, term by term. Assumes nothing.
+-- `bands::value` meets its contract, term by term. Assumes nothing.
 use borrow.Author.Needs.{needs}
 use mathlib.Core.Path.{_≡_}
 use Prim.Native.Nat.{_-_}
 use native.Mathlib.Omega.{arith}
-use Rattle.spans.specs.Bands.{entry}
-use Rattle.spans.proofs.Coefficient.{read-back, Counting, none-counted, one-counted}
-use Rattle.spans.proofs.value.Statement.{statement}
-use Rattle.spans.proofs.value.Tie as tie
+use Rattle.bands.specs.Bands.{entry}
+use Rattle.bands.proofs.Coefficient.{read-back, Counting, none-counted, one-counted}
+use Rattle.bands.proofs.value.Statement.{statement}
+use Rattle.bands.proofs.value.Tie as tie
 
 abbrev Inv-loop : tie.InvT-loop
 Inv-loop row w s₀ i₀ s i = Counting row w i s

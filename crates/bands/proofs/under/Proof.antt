@@ -1,11 +1,11 @@
--- `spans::under` meets its contract, by the coefficient's sign. Assumes nothing.
+-- `bands::under` meets its contract, by the coefficient's sign. Assumes nothing.
 use mathlib.Core.Path.{sym}
 use lib.IntN.{pos, _-ℤ_}
 use mir.Syntax.{w64}
 use mir.ValLaws.{toZ-ofZ}
-use Rattle.spans.proofs.Coefficient.{below, not-below}
-use Rattle.spans.proofs.under.Statement.{statement}
-use Rattle.spans.proofs.under.Tie as tie
+use Rattle.bands.proofs.Coefficient.{below, not-below}
+use Rattle.bands.proofs.under.Statement.{statement}
+use Rattle.bands.proofs.under.Tie as tie
 
 sub-result : tie.Need-sub-result
 sub-result c =

@@ -1,13 +1,13 @@
--- `spans::quotient` meets its contract: the divisor does not wrap. Assumes nothing.
+-- `bands::quotient` meets its contract: the divisor does not wrap. Assumes nothing.
 use borrow.Author.Needs.{needs}
 use mathlib.Core.Path.{_≡_}
 use Prim.Native.Nat.{_*_, _^_, _≤_}
 use native.Mathlib.Nat.{mul-le-mul}
 use native.Mathlib.Omega.{arith}
-use Rattle.spans.specs.Bands.{above, entry, quotientOf}
-use Rattle.spans.proofs.Coefficient.{read-back, above-small}
-use Rattle.spans.proofs.quotient.Statement.{statement}
-use Rattle.spans.proofs.quotient.Tie as tie
+use Rattle.bands.specs.Bands.{above, entry, quotientOf}
+use Rattle.bands.proofs.Coefficient.{read-back, above-small}
+use Rattle.bands.proofs.quotient.Statement.{statement}
+use Rattle.bands.proofs.quotient.Tie as tie
 
 over-is : (c : tie.After-over) → c .over .result ≡ above (entry (c .before .before .before .args .t1) 4)
 over-is c =

@@ -14,8 +14,8 @@ use lib.Signed.{mag, ltZ, nonNeg}
 use mir.Syntax.{w64}
 use mir.Val.{Fits, SFits, toZ, ofZ}
 use mir.ValLaws.{toZ-ofZ}
-use Rattle.spans.specs.declared.Sides.{Sides}
-use Rattle.spans.specs.Bands.{above, beneath, counted, entry, valued, Small, Within}
+use Rattle.bands.specs.declared.Sides.{Sides}
+use Rattle.bands.specs.Bands.{above, beneath, counted, entry, valued, Small, Within}
 
 -- what the machine holds of a coefficient, read back
 pub read-back : (k : ℤ) → mag k ≤ 40000 → toZ w64 (ofZ w64 k) ≡ k

@@ -1,12 +1,12 @@
--- `spans::inner` meets its contract, by the rule of the table. Assumes nothing.
+-- `bands::inner` meets its contract, by the rule of the table. Assumes nothing.
 use borrow.Author.Needs.{needs}
 use Prim.Native.Nat.{_≤_, _<_}
 use native.Mathlib.Nat.{mul-le-mul}
 use native.Mathlib.Omega.{arith}
 use Rattle.solas.specs.Span.{p}
-use Rattle.spans.proofs.Bands.{Chosen, band-below, cube-within, in-band}
-use Rattle.spans.proofs.inner.Statement.{statement}
-use Rattle.spans.proofs.inner.Tie as tie
+use Rattle.bands.proofs.Bands.{Chosen, band-below, cube-within, in-band}
+use Rattle.bands.proofs.inner.Statement.{statement}
+use Rattle.bands.proofs.inner.Tie as tie
 
 below : (c : tie.After-band) → c .band .result < 3
 below c = rw (c .band .ensures) (band-below (c .before .args .l) (c .before .args .x))

@@ -2,26 +2,16 @@
 ghost use mathlib.Core.Path.{_≡_};
 ghost use Prim.Native.Nat.{_<_};
 ghost use lib.ListN.{length};
-ghost use Rattle.casefile.specs.Layout.{frameLength};
 ghost use Rattle.casefile.specs.Answer.{judged};
 ghost use Rattle.casefile.specs.Judging.{frameJudged};
-use super::ends;
-use super::rows;
 use casefile::Frame;
 use casefile::Progress;
 use frames::Written;
 use records::Hull;
+use rowlines::readers::frame_length;
 
-// The bytes of a frame after the hull, by its kind.
-pub fn frame_length(kind: u64) -> usize
-    ensures { λ r. ⌜ r ≡ frameLength kind ⌝ }
-{
-    match kind {
-        2 => 25,
-        3 => 13,
-        _ => 3,
-    }
-}
+mod ends; // the end
+mod rows; // a row
 
 // A frame after the hull: 02 and 03 are rows, 0f the end.
 fn judge_frame(frame: &[u8], h: Hull, p: Progress) -> Frame

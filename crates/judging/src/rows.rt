@@ -5,12 +5,12 @@ ghost use lib.ListN.{length};
 ghost use Rattle.casefile.specs.Layout.{setLength, headOf, resultsOf};
 ghost use Rattle.casefile.specs.Table.{firstHolds, rowChecks};
 ghost use Rattle.casefile.specs.Judging.{rowJudged};
-use super::readers;
 use casefile::Frame;
 use casefile::Progress;
 use records::Finding;
 use records::Hull;
 use records::RowHead;
+use rowlines::readers;
 use rules::limits;
 use rules::order;
 

@@ -1,11 +1,12 @@
 -- `judge_frame` meets its contract. Assumes nothing.
 use mathlib.Core.Path.{sym, _∙_}
 use denote.Ref.{now}
-use Rattle.rowlines.proofs.CodeJudging.{wrong-length, wrong-kind, results-fit, frame-wrong, frame-row, frame-end}
+use Rattle.rowlines.proofs.CodeFrames.{wrong-length, wrong-kind, results-fit}
+use Rattle.judging.proofs.CodeJudging.{frame-wrong, frame-row, frame-end}
 use borrow.Author.Needs.{needs}
 use native.Mathlib.Omega.{arith}
-use Rattle.rowlines.proofs.judging.judge_frame.Statement.{statement}
-use Rattle.rowlines.proofs.judging.judge_frame.Tie as tie
+use Rattle.judging.proofs.judge_frame.Statement.{statement}
+use Rattle.judging.proofs.judge_frame.Tie as tie
 
 byte-at-requires : tie.Need-byte-at-requires
 byte-at-requires c κs = search needs

@@ -27,6 +27,7 @@ use Rattle.casefile.specs.Table.{_when_, firstHolds, wrongFrame, rowChecks, end
 use Rattle.casefile.specs.Answer.{frameOf, judged}
 use Rattle.casefile.specs.Judging.{unlessWrong, rowJudged, endJudged, frameJudged}
 use Rattle.casefile.proofs.Checks.{first-passed}
+use Rattle.rowlines.proofs.CodeFrames.{row-kind, right-row, right-end, part, frame-too-long}
 
 -- ---- the number of a row
 
@@ -90,69 +91,14 @@ module _ (h : Hull) (p : Progress) (count n : ℕ) (k : ℕ) (e : count ≡ n) (
 
 -- ---- a frame by its bytes, of kind k and with n of them
 
-pub row-kind : (k : ℕ) → 2 ≤ k → k ≤ 3 → isRow k ≡ true
-row-kind k a b = by (eqb k 2) refl
-  where
-    by : (t : Bool) → eqb k 2 ≡ t → (t || eqb k 3) ≡ true
-    by true e = refl
-    by false e =
-        let other : k ≡ 2 → ⊥ = eqb-false k 2 e in
-        eq-eqb k 3 (omega arith)
+module _ (bs : List ℕ) (k : ℕ) (e : k ≡ kindOf bs) (n : length bs ≡ frameLength k) (h : Hull) (p : Progress) (r : Frame) where
+  pub frame-row : 2 ≤ k → k ≤ 3 → r ≡ rowJudged h p (record { head = headOf k (part bs k e n); results = resultsOf k (part bs k e n) }) → r ≡ frameJudged h p bs
+  unfolding frameJudged
+  frame-row a b g = g ∙ rw (right-row bs k e n a b, rest-of bs 1, e, rw e at (row-kind k a b)) refl
 
-module _ (bs : List ℕ) (k : ℕ) (e : k ≡ kindOf bs) where
-  pub wrong-length : (length bs ≡ frameLength k → ⊥) → wrongFrame bs ≡ true
-  unfolding wrongFrame
-  wrong-length f = rw (← e, ne-eqb (length bs) (frameLength k) f) (or-true (not (isRow k || isEnd k)))
-
-  pub wrong-kind : (k ≡ 2 → ⊥) → (k ≡ 3 → ⊥) → (k ≡ 15 → ⊥) → wrongFrame bs ≡ true
-  unfolding wrongFrame
-  wrong-kind f g i = rw (← e, ne-eqb k 2 f, ne-eqb k 3 g, ne-eqb k 15 i) refl
-
-  module _ (n : length bs ≡ frameLength k) where
-    pub right-row : 2 ≤ k → k ≤ 3 → wrongFrame bs ≡ false
-    unfolding wrongFrame
-    right-row a b = rw (← e, row-kind k a b, eq-eqb (length bs) (frameLength k) n) refl
-
-    pub right-end : k ≡ 15 → wrongFrame bs ≡ false
-    unfolding wrongFrame
-    right-end f = rw (← e, eq-eqb (length bs) (frameLength k) n, f) refl
-
-    -- the fields after the kind byte, as the part that the code takes
-    abbrev pub part : List ℕ
-    part = take (length bs - 1) (drop 1 bs)
-
-    -- three results go in after a, n, b and H
-    pub results-fit : 2 ≤ k → k ≤ 3 → 6 + 3 * setLength k ≤ length part
-    unfolding frameLength
-    results-fit a b = rw (rest-of bs 1, length-drop 1 bs) (by (eqb k 2) refl n)
-      where
-        by : (t : Bool) → eqb k 2 ≡ t → length bs ≡ cond t 25 (cond (eqb k 3) 13 3) → 6 + 3 * cond t 6 2 ≤ length bs - 1
-        by true g m = omega arith
-        by false g m =
-            let other : k ≡ 2 → ⊥ = eqb-false k 2 g in
-            let three : eqb k 3 ≡ true = eq-eqb k 3 (omega arith) in
-            omega (arith, rw three at m)
-
-    module _ (h : Hull) (p : Progress) (r : Frame) where
-      pub frame-row : 2 ≤ k → k ≤ 3 → r ≡ rowJudged h p (record { head = headOf k part; results = resultsOf k part }) → r ≡ frameJudged h p bs
-      unfolding frameJudged
-      frame-row a b g = g ∙ rw (right-row a b, rest-of bs 1, e, rw e at (row-kind k a b)) refl
-
-      pub frame-end : k ≡ 15 → r ≡ endJudged h p (wordAt part 0) → r ≡ frameJudged h p bs
-      unfolding frameJudged
-      frame-end f g = g ∙ rw (right-end f, rest-of bs 1, ← e, f) refl
-
-longest-frame : (k : ℕ) → frameLength k ≤ 25
-unfolding frameLength
-longest-frame k = by (eqb k 2) (eqb k 3)
-  where
-    by : (t u : Bool) → cond t 25 (cond u 13 3) ≤ 25
-    by true u = omega arith
-    by false true = omega arith
-    by false false = omega arith
-
-pub frame-too-long : (bs : List ℕ) → 25 < length bs → wrongFrame bs ≡ true
-frame-too-long bs l = wrong-length bs (kindOf bs) refl (λ f. omega (arith, longest-frame (kindOf bs)))
+  pub frame-end : k ≡ 15 → r ≡ endJudged h p (wordAt (part bs k e n) 0) → r ≡ frameJudged h p bs
+  unfolding frameJudged
+  frame-end f g = g ∙ rw (right-end bs k e n f, rest-of bs 1, ← e, f) refl
 
 pub frame-wrong : (h : Hull) (p : Progress) (bs : List ℕ) → wrongFrame bs ≡ true → Frame.Wrong 3 ≡ frameJudged h p bs
 unfolding frameJudged

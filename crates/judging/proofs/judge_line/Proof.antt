@@ -3,11 +3,11 @@ use mathlib.Core.Path.{sym, _∙_}
 use borrow.Author.Tests.{not-true, not-false}
 use denote.Ref.{now}
 use Rattle.frames.proofs.CodeDecoding.{badly-written, front-decoded, front-long, some-bytes}
-use Rattle.rowlines.proofs.CodeJudging.{line-after-end, line-not-closed, line-no-digits, line-too-long, line-decoded}
+use Rattle.judging.proofs.CodeJudging.{line-after-end, line-not-closed, line-no-digits, line-too-long, line-decoded}
 use borrow.Author.Needs.{needs}
 use native.Mathlib.Omega.{arith}
-use Rattle.rowlines.proofs.judging.judge_line.Statement.{statement}
-use Rattle.rowlines.proofs.judging.judge_line.Tie as tie
+use Rattle.judging.proofs.judge_line.Statement.{statement}
+use Rattle.judging.proofs.judge_line.Tie as tie
 
 returns : tie.Need-returns
 returns c = line-after-end _ _ _ (c .if1 .taken)

@@ -1,8 +1,8 @@
 -- `judge_end` meets its contract. Assumes nothing.
-use Rattle.rowlines.proofs.CodeJudging.{end-wrong, end-right}
+use Rattle.judging.proofs.CodeJudging.{end-wrong, end-right}
 use borrow.Author.Needs.{needs}
-use Rattle.rowlines.proofs.ends.judge_end.Statement.{statement}
-use Rattle.rowlines.proofs.ends.judge_end.Tie as tie
+use Rattle.judging.proofs.ends.judge_end.Statement.{statement}
+use Rattle.judging.proofs.ends.judge_end.Tie as tie
 
 word-at-requires : tie.Need-word-at-requires
 word-at-requires c κs = search needs

@@ -2,8 +2,8 @@
 use mathlib.Core.Path.{refl}
 use borrow.Author.Tests.{ne-eqb}
 use Rattle.casefile.specs.Layout.{frameLength}
-use Rattle.rowlines.proofs.judging.frame_length.Statement.{statement}
-use Rattle.rowlines.proofs.judging.frame_length.Tie as tie
+use Rattle.rowlines.proofs.readers.frame_length.Statement.{statement}
+use Rattle.rowlines.proofs.readers.frame_length.Tie as tie
 
 returns : tie.Need-returns
 unfolding frameLength

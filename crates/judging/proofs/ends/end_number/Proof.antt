@@ -1,10 +1,10 @@
 -- `end_number` meets its contract. Assumes nothing.
 use mathlib.Core.Path.{sym, _∙_}
-use Rattle.rowlines.proofs.CodeJudging.{end-miscounts, end-by-closure}
+use Rattle.judging.proofs.CodeJudging.{end-miscounts, end-by-closure}
 use borrow.Author.Needs.{needs}
 use native.Mathlib.Omega.{arith}
-use Rattle.rowlines.proofs.ends.end_number.Statement.{statement}
-use Rattle.rowlines.proofs.ends.end_number.Tie as tie
+use Rattle.judging.proofs.ends.end_number.Statement.{statement}
+use Rattle.judging.proofs.ends.end_number.Tie as tie
 
 returns : tie.Need-returns
 returns c = end-miscounts _ _ _ (c .if1 .taken)

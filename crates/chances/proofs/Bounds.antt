@@ -6,7 +6,7 @@ use native.Mathlib.Omega.{arith, sub-cases}
 use Rattle.laws.specs.Fraction.{Fraction, den, Is, whole, _less_over_, _over_, _≼_, _⊹_, _⊝_}
 use Rattle.laws.proofs.Fraction.{positive, is-self, is-whole, is-less-over, is-shifted, is-⊹, is-⊝, over-left, over-right, ≼-trans, ≼-refl, numerators-below}
 use Rattle.records.specs.declared.Ends.{Ends}
-use Rattle.spans.specs.Rounded.{Between}
+use Rattle.numbers.specs.Figures.{Between}
 use Rattle.spans.proofs.Rounded.{not-above, not-below, above-numerators, below-numerators}
 
 -- f is not below u - v, and not above x - y

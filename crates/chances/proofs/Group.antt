@@ -9,12 +9,13 @@ use Rattle.records.specs.declared.Hull.{Hull}
 use Rattle.numbers.proofs.Figures.{both}
 use Rattle.solas.specs.Ship.{Ship}
 use Rattle.solas.specs.Count.{added, taken}
-use Rattle.chances.specs.declared.Layer.{Layer}
+use Rattle.penetration.specs.declared.Layer.{Layer}
 use Rattle.chances.specs.declared.Sums.{Sums}
 use Rattle.spans.specs.Rounded.{Probable}
-use Rattle.chances.specs.Figures.{plus}
-use Rattle.chances.specs.Penetration.{QEnds}
-use Rattle.chances.specs.Layer.{layerOf, Lent}
+use Rattle.penetration.specs.Figures.{plus}
+use Rattle.penetration.specs.Penetration.{QEnds}
+use Rattle.penetration.specs.Layer.{layerOf}
+use Rattle.chances.specs.Lent.{Lent}
 use Rattle.spans.specs.Hull.{Hulled}
 use Rattle.chances.specs.Share.{withinEnds, low, high, sumsOf, Few, lowest, highest, rowOf, rowEnds}
 use Rattle.spans.specs.Table.{tableOf}

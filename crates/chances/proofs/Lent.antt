@@ -8,20 +8,21 @@ use lib.ListN.{length, getD}
 use Rattle.records.specs.declared.Ends.{Ends}
 use Rattle.records.specs.declared.Hull.{Hull}
 use Rattle.solas.specs.Ship.{Ship}
-use Rattle.chances.specs.declared.Layer.{Layer}
+use Rattle.penetration.specs.declared.Layer.{Layer}
 use Rattle.spans.specs.declared.SpanEnds.{SpanEnds}
 use Rattle.spans.specs.Rounded.{Probable}
 use Rattle.spans.specs.Span.{pEnds, PEnds, spanEnds}
-use Rattle.chances.specs.Penetration.{c, d, GEnds, mixed, QEnds}
-use Rattle.chances.specs.Layer.{layerOf, Reached, Lent}
+use Rattle.penetration.specs.Penetration.{c, d, GEnds, mixed, QEnds}
+use Rattle.penetration.specs.Layer.{layerOf, Reached}
+use Rattle.chances.specs.Lent.{Lent}
 use Rattle.spans.specs.Hull.{shipOf, Hulled}
 use Rattle.spans.specs.Table.{spanIn}
 use Rattle.laws.proofs.Polynomial.{pow-two}
-use Rattle.chances.proofs.Depth.{products, C-at-most-one}
+use Rattle.penetration.proofs.Depth.{products, C-at-most-one}
 use Rattle.spans.proofs.Places.{place-below, place-within}
 use Rattle.spans.proofs.Table.{table-long, span-read}
 use Rattle.spans.proofs.Enclosure.{P-probable}
-use Rattle.chances.proofs.Enclosure.{G-probable, Q-probable}
+use Rattle.penetration.proofs.Enclosure.{G-probable, Q-probable}
 
 module _ {t : List ℕ} {h : Hull} {y : Layer} (l : Lent t h y) where
   pub long : length t ≡ 1600

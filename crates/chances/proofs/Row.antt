@@ -5,16 +5,17 @@ use native.Mathlib.Nat.{le-refl, le-trans, min-le-right}
 use native.Mathlib.Omega.{arith}
 use Rattle.laws.specs.Fraction.{Fraction, whole, _≼_, _⊹_, _⊝_}
 use Rattle.records.specs.declared.Ends.{Ends}
+use Rattle.numbers.specs.Figures.{Between}
 use Rattle.solas.specs.Ship.{Ship, Sound}
 use Rattle.solas.specs.Share.{within, share, before, rowShare}
 use Rattle.solas.specs.Count.{added, taken, Group}
 use Rattle.solas.proofs.Ship.{ends-within}
 use Rattle.solas.proofs.Promises.{no-share-negative, no-share-above-one}
-use Rattle.spans.specs.Rounded.{Between, Near}
-use Rattle.chances.specs.Penetration.{QEnds}
+use Rattle.spans.specs.Rounded.{Near}
+use Rattle.penetration.specs.Penetration.{QEnds}
 use Rattle.chances.specs.Share.{withinEnds, low, high, sumsOf, lowest, highest, rowOf, rowEnds}
 use Rattle.chances.specs.Promises.{Row, SharesEnclosed, SharesNear, UpperNotCut, LowerAtMostOne}
-use Rattle.chances.proofs.Enclosure.{Q-between, Q-near}
+use Rattle.penetration.proofs.Enclosure.{Q-between, Q-near}
 use Rattle.chances.proofs.Bounds.{Bounds, bounds-of, bounds-zero, bounds-as, bounds-⊹, bounds-⊝, not-cut, not-over, held}
 
 -- ---- one span

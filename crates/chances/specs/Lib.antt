@@ -1,5 +1,3 @@
-pub mod Figures
-pub mod Penetration
-pub mod Layer
+pub mod Lent
 pub mod Share
 pub mod Promises

@@ -1,9 +1,10 @@
 -- What is promised of a row's ends: the exact share lies between them, they lie at most 32 apart, and nothing is cut off. Assumes nothing.
 use Prim.Native.Nat.{ℕ, _+_, _*_, _^_, _≤_}
+use Rattle.numbers.specs.Figures.{Between}
 use Rattle.solas.specs.Ship.{Ship, Sound}
 use Rattle.solas.specs.Share.{rowShare}
 use Rattle.solas.specs.Count.{added, taken, Group}
-use Rattle.spans.specs.Rounded.{Between, Near}
+use Rattle.spans.specs.Rounded.{Near}
 use Rattle.chances.specs.Share.{low, high, rowEnds}
 
 -- a row of a ship of up to 60 m breadth: a group of zones, and a layer from b′ to b

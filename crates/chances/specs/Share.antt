@@ -4,7 +4,7 @@ use Rattle.records.specs.declared.Ends.{Ends}
 use Rattle.solas.specs.Ship.{Ship}
 use Rattle.solas.specs.Count.{added, taken}
 use Rattle.chances.specs.declared.Sums.{Sums}
-use Rattle.chances.specs.Penetration.{QEnds}
+use Rattle.penetration.specs.Penetration.{QEnds}
 
 -- Q of the zones from a to e, both taken in; "b = 0 gives 0"
 unfoldable pub withinEnds : Ship → ℕ → ℕ → ℕ → Ends

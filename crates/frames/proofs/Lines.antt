@@ -85,6 +85,21 @@ module _ (f : List ℕ) (at : ℕ) where
   pub end-within : at ≤ length f → at + lineLength (drop at f) ≤ length f
   end-within h = omega (arith, length-within (drop at f), length-drop at f)
 
+-- ---- no more lines than bytes
+
+onto-few : (b : ℕ) (ls : List Line) → length (onto b ls) ≤ length ls + 1
+onto-few b [] = omega arith
+onto-few b (l ∷ ls) = omega arith
+
+pub lines-few : (f : List ℕ) → length (lines f) ≤ length f
+unfolding lines
+lines-few [] = omega arith
+lines-few (b ∷ f) = by (eqb b 10) (lines-few f)
+  where
+    by : (t : Bool) → length (lines f) ≤ length f → length (cond {A = List Line} t (record { text = []; closed = true } ∷ lines f) (onto b (lines f))) ≤ length (b ∷ f)
+    by true h = omega (arith, h)
+    by false h = omega (arith, h, onto-few b (lines f))
+
 -- ---- the bytes that lines came from
 
 -- a line with its line feed

@@ -12,10 +12,10 @@ use Rattle.casefile.specs.Reading.{Reading, refused, accepted, reading}
 use Rattle.casefile.proofs.Soundness.{sound}
 use Rattle.printing.specs.Printed.{printedLength}
 use Rattle.printing.proofs.Whole.{length-printed}
-use Rattle.index.specs.Standing.{nowhere}
+use Rattle.rows.specs.Standing.{nowhere}
 use Rattle.index.specs.Answer.{figures, answer, shares, refusal, answered}
 use Rattle.index.specs.Report.{sharesIn, report}
-use Rattle.index.proofs.InTurn.{length-numbers}
+use Rattle.rows.proofs.InTurn.{length-numbers}
 use Rattle.host.specs.Sizes.{shortestReport, longestReport, longestSheet, ReportsFit, SheetsServe}
 
 -- a sheet that is long enough for a case's shares

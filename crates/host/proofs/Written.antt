@@ -9,9 +9,9 @@ use lib.ListN.{length, set, getD, drop}
 use borrow.Author.Tests.{le-leb, lt-leb}
 use Rattle.records.specs.declared.Answer.{Answer}
 use Rattle.casefile.specs.Reading.{Reading}
-use Rattle.printing.specs.Splice.{splice}
+use Rattle.digits.specs.Splice.{splice}
 use Rattle.printing.specs.ReadBack.{endsOf}
-use Rattle.printing.proofs.Splice.{splice-front}
+use Rattle.digits.proofs.Splice.{splice-front}
 use Rattle.index.specs.Answer.{answered, sheetAfter}
 use Rattle.host.specs.Figures.{figuresOf, figureCount, figuresAfter, sheetBeside}
 

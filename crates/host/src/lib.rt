@@ -4,7 +4,7 @@ ghost use mathlib.Core.List.{[], _∷_, _++_};
 ghost use Prim.Native.Nat.{_+_, _≤_};
 ghost use lib.ListN.{length, drop};
 ghost use Rattle.casefile.specs.Reading.{reading};
-ghost use Rattle.printing.specs.Splice.{splice};
+ghost use Rattle.digits.specs.Splice.{splice};
 ghost use Rattle.index.specs.Report.{reportLength, reportedIn};
 ghost use Rattle.host.specs.Figures.{figuresOf, figureCount, figuresAfter, sheetBeside};
 use records::Answer;

@@ -14,10 +14,10 @@ use Rattle.casefile.specs.Reading.{Reading, refused, accepted, reading}
 use Rattle.casefile.proofs.Soundness.{sound}
 use Rattle.printing.specs.Printed.{printed}
 use Rattle.printing.specs.Written.{textOf, canPrint, lengthOf, writtenOf}
-use Rattle.index.specs.Standing.{nowhere}
+use Rattle.rows.specs.Standing.{nowhere}
 use Rattle.index.specs.Answer.{figures, answer, shares, answered, sheetAfter}
 use Rattle.index.specs.Report.{sharesIn, report, reportLength, reportedIn}
-use Rattle.index.proofs.InTurn.{length-numbers}
+use Rattle.rows.proofs.InTurn.{length-numbers}
 
 length-shares : (c : Case) → length (shares c) ≡ 2 * length (c .rows)
 unfolding shares

@@ -20,10 +20,10 @@ use Rattle.casefile.specs.Record.{Row, Case}
 use Rattle.casefile.specs.Limits.{sizesFit, zonesFit, rowFits}
 use Rattle.casefile.specs.Valid.{Every, ValidHull, ValidRow, Ordered, Valid, Follows, higher, deeper, later}
 use Rattle.casefile.proofs.Limits.{sizes-are, zones-are, rising-step, Head, Found, row-is}
-use Rattle.index.specs.declared.Standing.{Standing}
-use Rattle.index.specs.Standing.{nowhere, stands}
-use Rattle.index.specs.Running.{Stood, Follow}
-use Rattle.index.proofs.Stands.{inGroup, in-layer, in-next-layer, in-new-group, head-is}
+use Rattle.rows.specs.declared.Standing.{Standing}
+use Rattle.rows.specs.Standing.{nowhere, stands}
+use Rattle.rows.specs.Running.{Stood, Follow}
+use Rattle.rows.proofs.Stands.{inGroup, in-layer, in-next-layer, in-new-group, head-is}
 
 -- a hull within the limits
 pub fits-hulled : (h : Hull) → sizesFit h ≡ true → zonesFit h ≡ true → Hulled h

@@ -10,13 +10,13 @@ use Rattle.records.specs.declared.Hull.{Hull}
 use Rattle.records.specs.declared.Trio.{Trio}
 use Rattle.solas.specs.Index.{R, partialMark}
 use Rattle.survival.specs.Ratio.{ratioOf}
-use Rattle.survival.specs.Index.{partials, attainedOf}
-use Rattle.survival.specs.Verdict.{verdictOf}
+use Rattle.indices.specs.Index.{partials, attainedOf}
+use Rattle.verdicts.specs.Verdict.{verdictOf}
 use Rattle.casefile.specs.Record.{Case}
 use Rattle.casefile.specs.Reading.{Reading, refused, accepted}
 use Rattle.casefile.specs.Walk.{afterHull, rowsFrom}
-use Rattle.index.specs.Standing.{nowhere}
-use Rattle.index.specs.Work.{sharesFrom, addsFrom}
+use Rattle.rows.specs.Standing.{nowhere}
+use Rattle.rows.specs.Work.{sharesFrom, addsFrom, numbers}
 
 -- ---- a case
 
@@ -38,11 +38,6 @@ figures size rows ps =
 
 unfoldable pub answer : Case → Answer
 answer c = figures (c .hull .length) (length (c .rows)) (partialsOf c)
-
--- "each row's share, lower then upper, in row order"
-abbrev pub numbers : List Ends → List ℕ
-numbers [] = []
-numbers (e ∷ es) = e .lower ∷ e .upper ∷ numbers es
 
 unfoldable pub shares : Case → List ℕ
 shares c = numbers (sharesFrom (c .hull) nowhere (c .rows))

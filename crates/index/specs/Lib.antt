@@ -1,5 +1,2 @@
-pub mod Standing
-pub mod Work
-pub mod Running
 pub mod Answer
 pub mod Report

@@ -1,26 +1,94 @@
-// The service: any input in, the answer and the sheet out.
+// The service: any bytes and any sheet. The file is judged first; only an accepted one with room on the sheet is worked out.
+ghost use mathlib.Core.Path.{_≡_};
+ghost use mathlib.Core.List.{_++_};
+ghost use Prim.Native.Nat.{_*_, _^_, _≤_};
+ghost use lib.ListN.{length, drop};
+ghost use Rattle.indices.specs.Index.{Within};
+ghost use Rattle.casefile.specs.Reading.{accepted, reading};
+ghost use Rattle.index.specs.Answer.{figures, answer, shares, caseIn, refusal, answered, sheetAfter};
+ghost use Rattle.index.specs.Report.{reportLength, reportedIn};
+use records::Answer;
 use records::Ends;
-use records::RowHead;
+use records::Hull;
 use records::Trio;
+use rows::sheet::fill;
 
-pub mod entry; // any input
-mod rows; // a row after those before it
-mod sheet; // the rows in turn
-
-pub use entry::answer;
-pub use entry::report;
-
-// A row's head, the penetration of the layer before its own (0 in the group's first), and the height of the row below it (0 in
-// the layer's first).
-pub struct Standing {
-    pub head: RowHead,
-    pub before: u64,
-    pub below: u64,
+// A refusal's number and line, and zeros.
+fn refuse(number: u64, line: u64) -> Answer
+    ensures { λ r. ⌜ r ≡ refusal number line ⌝ }
+{
+    let attained = Ends { lower: 0, upper: 0 };
+    let partials = Trio {
+        lower: [0, 0, 0],
+        upper: [0, 0, 0],
+    };
+    Answer {
+        number,
+        line,
+        verdict: 0,
+        rows: 0,
+        attained,
+        partials,
+    }
 }
 
-// What is known after some rows: where the last of them stood, its share, and what they added together at the three draughts.
-pub struct Running {
-    pub standing: Standing,
-    pub share: Ends,
-    pub sums: Trio,
+// A and the verdict from the partial indices.
+fn conclude(size: u64, rows: u64, partials: Trio) -> Answer
+    requires { ⌜ (size ≤ 10 ^ 6) × Within (2 ^ 60) partials ⌝ }
+    ensures { λ r. ⌜ r ≡ figures size rows partials ⌝ }
+{
+    let attained = indices::attained(partials);
+    let required = verdicts::required(size);
+    let mark = verdicts::partial_mark(size);
+    let verdict = verdicts::verdict(attained, partials, required, mark);
+    Answer {
+        number: 0,
+        line: 0,
+        verdict,
+        rows,
+        attained,
+        partials,
+    }
+}
+
+// An accepted file whose hull and row count are known, with room for its shares.
+fn complete(input: &[u8], h: Hull, rows: u64, sheet: &mut [u64]) -> Answer
+    requires { ⌜ (reading (now input) ≡ accepted (caseIn (now input) h rows)) × (2 * rows ≤ length (now sheet)) ⌝ }
+    ensures { λ r. ⌜ (r ≡ answer (caseIn (now (input .entry)) h rows)) × (now (sheet .exit) ≡ shares (caseIn (now (input .entry)) h rows) ++ drop (2 * rows) (now (sheet .entry))) ⌝ }
+{
+    let t = spans::span_table(h);
+    let end = frames::line_end(input, 0);
+    let partials = fill(input, end + 1, rows as usize, h, &t, sheet);
+    conclude(h.length, rows, partials)
+}
+
+// Any bytes whatever: a refusal, which leaves the sheet as it is, or the answer, with each row's share on the sheet.
+pub fn answer(input: &[u8], sheet: &mut [u64]) -> Answer
+    ensures { λ r. ⌜ (r ≡ answered (reading (now (input .entry))) (length (now (sheet .entry)))) × (now (sheet .exit) ≡ sheetAfter (reading (now (input .entry))) (now (sheet .entry))) ⌝ }
+{
+    let judged = reader::judge(input);
+    if judged.number != 0 {
+        return refuse(judged.number, judged.line);
+    }
+    if ((sheet.len() / 2) as u64) < judged.rows {
+        return refuse(11, 0);
+    }
+    let h = judged.hull;
+    complete(input, h, judged.rows, sheet)
+}
+
+// A sheet of 1,000 numbers, with room for every case's shares.
+fn blank() -> [u64; 1_000]
+    ensures { λ r. ⌜ length r ≡ 1000 ⌝ }
+{
+    [0u64; 1_000]
+}
+
+// The printed answer of any bytes, in front of the buffer, and how many bytes that is: none where there is too little room.
+pub fn report(input: &[u8], out: &mut [u8]) -> usize
+    ensures { λ r. ⌜ (r ≡ reportLength (reading (now (input .entry))) (now (out .entry))) × (now (out .exit) ≡ reportedIn (reading (now (input .entry))) (now (out .entry))) ⌝ }
+{
+    let mut sheet = blank();
+    let a = answer(input, &mut sheet);
+    printing::write_answer(a, &sheet, out)
 }

@@ -68,10 +68,6 @@ is-written h p q r = rw (← p, ← q, ← r) h
 pub is-widened-behind : {f : Fraction} {a b d : ℕ} (k : ℕ) → Is f a b d → Is f (k * a) (k * b) (d * k)
 is-widened-behind {f} {a} {b} {d} k h = is-written (is-widened k h) refl refl (mul-comm k d)
 
--- another difference that is the same, over the same denominator in other words
-pub is-rewritten : {f : Fraction} {a b d : ℕ} (a′ b′ d′ : ℕ) → a + b′ ≡ a′ + b → d ≡ d′ → Is f a b d → Is f a′ b′ d′
-is-rewritten a′ b′ d′ e k h = rw (← k) (is-shifted a′ b′ e h)
-
 -- over another denominator, by cross multiplication
 pub is-recast : {f : Fraction} {a b d : ℕ} (a′ b′ d′ : ℕ) → 0 < d → a * d′ + b′ * d ≡ a′ * d + b * d′ → Is f a b d → Is f a′ b′ d′
 is-recast {f} {a} {b} {d} a′ b′ d′ p e h =

@@ -22,6 +22,7 @@ pub mod FractionSum
 pub mod FractionTerm
 pub mod FractionRing
 pub mod FractionOrder
+pub mod FractionCompare
 -- span functions
 pub mod Span
 pub mod SpanParts

@@ -34,6 +34,9 @@ module _ {A : Type 0} where
   tabulate-same f g zero h = refl
   tabulate-same f g (suc n) h = ap₂ (λ xs x. xs ++ x ∷ []) (tabulate-same f g n (λ i l. h i (omega arith))) (h n (omega arith))
 
+  pub three-same : {a b c a′ b′ c′ : A} → a ≡ a′ → b ≡ b′ → c ≡ c′ → _≡_ {A = List A} (a ∷ b ∷ c ∷ []) (a′ ∷ b′ ∷ c′ ∷ [])
+  three-same p q r = rw (p, q, r) refl
+
   -- a list is the table of its places
   pub tabulate-places : (d : A) (xs : List A) → tabulate (λ i. getD xs i d) (length xs) ≡ xs
   tabulate-places d xs =

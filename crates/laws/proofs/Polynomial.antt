@@ -72,6 +72,9 @@ cross {a} {b} {c} {d} h k = let (x, e) = le-dest h in let (y, f) = le-dest k in 
     apart : (a x c y : ℕ) → a * (c + y) + (a + x) * c ≤ (a + x) * (c + y) + a * c
     apart a x c y = omega arith
 
--- to `omega` a square is an unknown, a product is not
+-- to `omega` a power is an unknown, a product is not
 pub pow-two : (n : ℕ) → n ^ 2 ≡ n * n
 pow-two = poly1 (λ n. [] ⊢ n :^ 2 := n :* n) tt
+
+pub cube : (n : ℕ) → n ^ 3 ≡ n * n * n
+cube = poly1 (λ n. [] ⊢ n :^ 3 := n :* n :* n) tt

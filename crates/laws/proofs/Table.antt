@@ -2,7 +2,7 @@
 use Prim.Native.Nat.{ℕ, zero, suc, _<_}
 use mathlib.Core.Path.{_≡_}
 use mathlib.Core.Bool.{Bool, true, false, _&&_}
-use mathlib.Core.List.{List, [], _∷_}
+use mathlib.Core.List.{List, [], _∷_, List·Memᴰ, List·Memᴰ·head, List·Memᴰ·tail}
 use mathlib.Core.Logic.{⊎-elim}
 use native.Mathlib.Nat.{le-of-suc-le-suc, not-suc-le-zero, eq-or-lt-of-le}
 use native.Mathlib.Omega.{arith}
@@ -22,6 +22,11 @@ pub every-entry : {A : Type 0} (p : A → Bool) (d : A) (xs : List A) → T (eve
 every-entry p d [] t i h = absurd (not-suc-le-zero h)
 every-entry p d (x ∷ xs) t zero h = both-hold (p x) (every p xs) t .0
 every-entry p d (x ∷ xs) t (suc i) h = every-entry p d xs (both-hold (p x) (every p xs) t .1) i (le-of-suc-le-suc h)
+
+-- and at each member
+pub member-passes : {A : Type 0} (p : A → Bool) (k : A) (ns : List A) → T (every p ns) → List·Memᴰ k ns → T (p k)
+member-passes p k (n ∷ ns) t (List·Memᴰ·head e) = rw e (both-hold (p n) (every p ns) t .0)
+member-passes p k (n ∷ ns) t (List·Memᴰ·tail m) = member-passes p k ns (both-hold (p n) (every p ns) t .1) m
 
 -- the test passes at each number below n
 abbrev pub everyBelow : (ℕ → Bool) → ℕ → Bool

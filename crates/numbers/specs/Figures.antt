@@ -1,5 +1,6 @@
 -- Figures with a lower and an upper end: 01, "Units" and "Rounding". Assumes nothing.
 use Prim.Native.Nat.{ℕ, _*_, _/_, _^_, _≤_, _<_}
+use Rattle.laws.specs.Fraction.{Fraction, _over_, _≼_}
 use Rattle.laws.specs.Rounding.{ceil}
 use Rattle.records.specs.declared.Ends.{Ends}
 
@@ -25,3 +26,11 @@ halvesOf g = record { lower = g .lower / 2; upper = ceil (g .upper) 2 }
 pub record Encloses (g : Ends) (n d : ℕ) : Type 0 where
   pub low : g .lower * d ≤ n
   pub high : n ≤ g .upper * d
+
+abbrev pub billionths : ℕ → Fraction
+billionths n = n over 10 ^ 9
+
+-- the exact figure is not below the lower end of g, and not above the upper
+pub record Between (g : Ends) (f : Fraction) : Type 0 where
+  pub low : billionths (g .lower) ≼ f
+  pub high : f ≼ billionths (g .upper)

@@ -1,7 +1,7 @@
-// Machine numbers: quotients rounded up, billionths of a fraction rounded both ways, portions, halves, and fourth roots.
+// Machine numbers: differences held to be not below 0, quotients rounded up, billionths of a fraction rounded both ways, portions, halves, and fourth roots.
 use records::Ends;
 ghost use mathlib.Core.Path.{_≡_};
-ghost use Prim.Native.Nat.{_+_, _*_, _^_, _≤_, _<_};
+ghost use Prim.Native.Nat.{_+_, _-_, _*_, _^_, _≤_, _<_};
 ghost use Rattle.laws.specs.Rounding.{ceil};
 ghost use Rattle.numbers.specs.Division.{Division, Carries, dividend};
 ghost use Rattle.numbers.specs.Figures.{Proper, billionthsOf, portionOf, halvesOf};
@@ -21,6 +21,13 @@ const THREE_STEPS: u64 = LARGEST / 1_000;
 struct Quotient {
     whole: u64,
     rest: u64,
+}
+
+// How far a lies above b: 0 where it does not.
+pub fn above(a: u64, b: u64) -> u64
+    ensures { λ r. ⌜ r ≡ a - b ⌝ }
+{
+    if a <= b { 0 } else { a - b }
 }
 
 // n/d rounded up.

@@ -1,5 +1,3 @@
-pub mod Splice
-pub mod Text
 pub mod Frames
 pub mod Shares
 pub mod Whole

@@ -13,7 +13,8 @@ use Rattle.records.specs.declared.Answer.{Answer}
 use Rattle.frames.specs.Lines.{lines}
 use Rattle.frames.specs.Hex.{lineOf}
 use Rattle.frames.proofs.Pairs.{octets-cons, octets-rest, pairs-hex, line-in-front}
-use Rattle.printing.specs.Printed.{refusalFrame, endsField, partialField, partialsField, figuresFrame, shareFrame, shareLines, printed}
+use Rattle.digits.specs.Fields.{endsField, partialField, partialsField}
+use Rattle.printing.specs.Printed.{refusalFrame, figuresFrame, shareFrame, shareLines, printed}
 use Rattle.printing.specs.ReadBack.{refusal, figures, endsOf, toldBy, fours, sharesIn, toldIn, frameIn, readBack, Short, Printable, ReadsBack}
 
 -- ---- bytes

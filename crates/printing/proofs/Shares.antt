@@ -7,10 +7,10 @@ use native.Mathlib.Omega.{arith}
 use lib.ListN.{length, getD, take, drop, length-append, drop-of-length-le}
 use lib.Seq.{drop-cons, getD-take, length-take-le}
 use Rattle.frames.specs.Hex.{lineOf}
-use Rattle.printing.specs.Splice.{splice}
+use Rattle.digits.specs.Splice.{splice}
 use Rattle.printing.specs.Printed.{shareFrame, shareLines}
-use Rattle.printing.proofs.Splice.{splice-join, splice-none, length-splice}
-use Rattle.printing.proofs.Text.{length-line}
+use Rattle.digits.proofs.Splice.{splice-join, splice-none, length-splice}
+use Rattle.digits.proofs.Text.{length-line}
 use Rattle.printing.proofs.Frames.{length-share}
 
 length-share-line : (lower upper : ℕ) → length (lineOf (shareFrame lower upper)) ≡ 19

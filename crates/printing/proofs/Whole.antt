@@ -10,11 +10,11 @@ use lib.Seq.{length-take-le}
 use borrow.Author.Tests.{le-leb, lt-leb, eq-eqb, ne-eqb}
 use Rattle.records.specs.declared.Answer.{Answer}
 use Rattle.frames.specs.Hex.{lineOf}
-use Rattle.printing.specs.Splice.{splice}
+use Rattle.digits.specs.Splice.{splice}
 use Rattle.printing.specs.Printed.{refusalFrame, figuresFrame, shareLines, printed, printedLength}
 use Rattle.printing.specs.Written.{textOf, canPrint, lengthOf, writtenOf}
-use Rattle.printing.proofs.Splice.{splice-front, splice-then}
-use Rattle.printing.proofs.Text.{length-line}
+use Rattle.digits.proofs.Splice.{splice-front, splice-then}
+use Rattle.digits.proofs.Text.{length-line}
 use Rattle.printing.proofs.Frames.{length-refusal, length-figures}
 use Rattle.printing.proofs.Shares.{length-shares}
 

@@ -1,4 +1,3 @@
 pub mod Printed
-pub mod Splice
 pub mod Written
 pub mod ReadBack

@@ -3,29 +3,16 @@ use Prim.Native.Nat.{ℕ, _+_, _*_}
 use mathlib.Core.Bool.{cond}
 use mathlib.Core.List.{List, [], _∷_, _++_}
 use lib.Dec.{eqb}
-use lib.ListN.{getD}
 use Rattle.laws.specs.Bytes.{bytes}
-use Rattle.records.specs.declared.Trio.{Trio}
 use Rattle.records.specs.declared.Answer.{Answer}
 use Rattle.frames.specs.Hex.{lineOf}
+use Rattle.digits.specs.Fields.{endsField, partialsField}
 
 -- ---- frames
 
 -- 8f: number (one), line (two)
 unfoldable pub refusalFrame : ℕ → ℕ → List ℕ
 refusalFrame number line = 143 ∷ bytes 1 number ++ bytes 2 line
-
--- a figure's ends, lower and upper: four bytes each
-unfoldable pub endsField : ℕ → ℕ → List ℕ
-endsField lower upper = bytes 4 lower ++ bytes 4 upper
-
--- the ends of the partial index at draught j: 0 deepest, 1 partial, 2 light
-unfoldable pub partialField : Trio → ℕ → List ℕ
-partialField t j = endsField (getD (t .lower) j 0) (getD (t .upper) j 0)
-
--- the ends of As, Ap, Al
-unfoldable pub partialsField : Trio → List ℕ
-partialsField t = partialField t 0 ++ partialField t 1 ++ partialField t 2
 
 -- 81: verdict (one), ends of A, As, Ap, Al
 unfoldable pub figuresFrame : Answer → List ℕ

@@ -14,17 +14,17 @@ use Rattle.chances.specs.Promises as chance
 use Rattle.chances.proofs.Row.{shares-enclosed, shares-near}
 use Rattle.survival.specs.Height.{rowVs}
 use Rattle.survival.specs.Survival.{Sensible, given, factorsOf, survivalsOf}
-use Rattle.survival.specs.Index.{Given, partials}
-use Rattle.survival.specs.Exact as exact
-use Rattle.survival.specs.Exact.{Sound, Close, Every, AtAll, rowAt, rowsAt, rowTrio}
-use Rattle.survival.proofs.Rows.{found-sensible}
-use Rattle.survival.proofs.Sums.{sums-are-these}
+use Rattle.indices.specs.Index.{Given, partials}
+use Rattle.indices.specs.Exact as exact
+use Rattle.indices.specs.Exact.{Sound, Close, Every, AtAll, rowAt, rowsAt, rowTrio}
+use Rattle.survival.proofs.Factors.{found-sensible}
+use Rattle.indices.proofs.Sums.{sums-are-these}
 use Rattle.casefile.specs.Record.{Row, Case}
 use Rattle.casefile.specs.Valid.{Valid}
-use Rattle.index.specs.declared.Standing.{Standing}
-use Rattle.index.specs.Standing.{nowhere, stands}
-use Rattle.index.specs.Work.{shareAt, addsAt, addsFrom}
-use Rattle.index.specs.Running.{Stood, Follow}
+use Rattle.rows.specs.declared.Standing.{Standing}
+use Rattle.rows.specs.Standing.{nowhere, stands}
+use Rattle.rows.specs.Work.{shareAt, addsAt, addsFrom}
+use Rattle.rows.specs.Running.{Stood, Follow}
 use Rattle.index.specs.Answer.{partialsOf}
 use Rattle.index.proofs.ValidCase.{hulled, rows-follow}
 use Rattle.promises.specs.Rows.{exactRow, exactRows, rowsOf}
@@ -80,8 +80,7 @@ module _ {h : Hull} (k : Hulled h) (y : Standing) (s : Stood h y) {fs : List Fin
   sound-row : Sound (rowAt i (exactRow h y fs))
   unfolding shareAt
   sound-row =
-      let e = shares-enclosed (shipOf h) (y .head .first) (y .head .count) (y .before) (y .head .depth) layer in
-      record { share = record { low = e .low; high = e .high }; factor = sensible }
+      record { share = shares-enclosed (shipOf h) (y .head .first) (y .head .count) (y .before) (y .head .depth) layer; factor = sensible }
 
   close-row : Close 32 (rowAt i (exactRow h y fs))
   unfolding shareAt

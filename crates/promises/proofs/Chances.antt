@@ -23,14 +23,14 @@ use Rattle.solas.proofs.Height.{dp-below-deepest}
 use Rattle.spans.specs.Hull.{shipOf, Hulled}
 use Rattle.spans.proofs.Places.{ship-sound}
 use Rattle.survival.specs.Height.{rowVs}
-use Rattle.survival.specs.Exact.{weight, rowAt, AtAll}
+use Rattle.indices.specs.Exact.{weight, rowAt, AtAll}
 use Rattle.casefile.specs.Record.{Row, Case}
 use Rattle.casefile.specs.Limits.{sizesFit}
 use Rattle.casefile.specs.Valid.{Every, Valid}
 use Rattle.casefile.proofs.Limits.{Sizes, sizes-are}
-use Rattle.index.specs.declared.Standing.{Standing}
-use Rattle.index.specs.Standing.{nowhere, stands}
-use Rattle.index.specs.Running.{Stood, Follow}
+use Rattle.rows.specs.declared.Standing.{Standing}
+use Rattle.rows.specs.Standing.{nowhere, stands}
+use Rattle.rows.specs.Running.{Stood, Follow}
 use Rattle.index.proofs.ValidCase.{hulled, rows-follow}
 use Rattle.promises.specs.Rows.{exactRow, exactRows, rowsOf, chances, groupShare, Listed, AllListed}
 use Rattle.promises.proofs.Numerators.{gives, is-gives, is-all, gives-nothing, all-give}

@@ -1,23 +1,22 @@
 -- Every figure of an answer fits its bytes: refusals by the table and the lines of an input, ends by the promised width. Assumes nothing.
 use Prim.Native.Nat.{ℕ, zero, suc, _+_, _*_, _/_, _^_, _≤_, _<_}
 use mathlib.Core.Path.{_≡_, refl}
-use mathlib.Core.Bool.{Bool, true, false, cond}
-use mathlib.Core.List.{List, [], _∷_, List·Memᴰ, List·Memᴰ·head, List·Memᴰ·tail}
+use mathlib.Core.List.{List, [], _∷_, List·Memᴰ}
 use mathlib.Core.Logic.{_⊎_, inl, inr}
 use native.Mathlib.Nat.{le-trans, div-mul-le-self}
 use native.Mathlib.Omega.{arith}
-use lib.Dec.{T, eqb, ltb, ltb→lt}
+use lib.Dec.{ltb, ltb→lt}
 use lib.ListN.{length, getD}
 use borrow.Author.Tests.{le-ltb}
 use Rattle.laws.specs.Fraction.{whole, _≼_}
-use Rattle.laws.proofs.Table.{both-hold, every}
+use Rattle.laws.proofs.Table.{member-passes}
 use Rattle.records.specs.declared.Ends.{Ends}
 use Rattle.records.specs.declared.Hull.{Hull}
-use Rattle.frames.specs.Lines.{Line, onto, lines}
-use Rattle.survival.specs.Index.{at, attainedOf, weighed, Share}
-use Rattle.survival.specs.Exact as exact
-use Rattle.survival.specs.Exact.{RowAt, Every, Close, partialEnds}
-use Rattle.survival.proofs.Width.{partial-at-most}
+use Rattle.frames.proofs.Lines.{lines-few}
+use Rattle.indices.specs.Index.{at, attainedOf, weighed, Share}
+use Rattle.indices.specs.Exact as exact
+use Rattle.indices.specs.Exact.{RowAt, Every, Close, partialEnds}
+use Rattle.indices.proofs.Width.{partial-at-most}
 use Rattle.casefile.specs.Record.{Row, Case}
 use Rattle.casefile.specs.Valid.{Valid}
 use Rattle.casefile.specs.Reading.{Reading, refused, accepted, reading}
@@ -27,16 +26,17 @@ use Rattle.casefile.proofs.TableOrder.{of-the-table}
 use Rattle.casefile.proofs.Soundness.{sound}
 use Rattle.printing.specs.ReadBack.{endsOf, Short, Printable}
 use Rattle.printing.proofs.ReadBack.{reads-back}
-use Rattle.index.specs.declared.Standing.{Standing}
-use Rattle.index.specs.Standing.{nowhere, stands}
-use Rattle.index.specs.Work.{shareAt, sharesFrom}
-use Rattle.index.specs.Running.{Stood, Follow}
+use Rattle.rows.specs.declared.Standing.{Standing}
+use Rattle.rows.specs.Standing.{nowhere, stands}
+use Rattle.rows.specs.Work as work
+use Rattle.rows.specs.Work.{shareAt, sharesFrom}
+use Rattle.rows.specs.Running.{Stood, Follow}
 use Rattle.index.specs.Answer.{partialsOf, figures, answer, shares, answered}
 use Rattle.index.specs.Answer as answers
 use Rattle.index.specs.Report.{sharesIn, report}
 use Rattle.index.proofs.ValidCase.{hulled, rows-follow}
 use Rattle.index.proofs.Accepted.{share-small}
-use Rattle.index.proofs.InTurn.{length-numbers}
+use Rattle.rows.proofs.InTurn.{length-numbers}
 use Rattle.promises.specs.Rows.{rowsOf, chances}
 use Rattle.promises.specs.Promises.{Kept}
 use Rattle.promises.specs.Printing.{EveryFigureFits, PrintedReadsBack}
@@ -47,26 +47,8 @@ use Rattle.promises.proofs.Kept.{promise}
 
 -- ---- a refusal's number and line
 
-member-passes : (p : ℕ → Bool) (k : ℕ) (ns : List ℕ) → T (every p ns) → List·Memᴰ k ns → T (p k)
-member-passes p k (n ∷ ns) t (List·Memᴰ·head e) = rw e (both-hold (p n) (every p ns) t .0)
-member-passes p k (n ∷ ns) t (List·Memᴰ·tail m) = member-passes p k ns (both-hold (p n) (every p ns) t .1) m
-
 number-fits : (k : ℕ) → List·Memᴰ k numbers → k < 256
 number-fits k m = ltb→lt k 256 (member-passes (λ n. ltb n 256) k numbers tt m)
-
--- no more lines than bytes
-onto-few : (b : ℕ) (ls : List Line) → length (onto b ls) ≤ length ls + 1
-onto-few b [] = omega arith
-onto-few b (l ∷ ls) = omega arith
-
-lines-few : (f : List ℕ) → length (lines f) ≤ length f
-unfolding lines
-lines-few [] = omega arith
-lines-few (b ∷ f) = by (eqb b 10) (lines-few f)
-  where
-    by : (t : Bool) → length (lines f) ≤ length f → length (cond {A = List Line} t (record { text = []; closed = true } ∷ lines f) (onto b (lines f))) ≤ length (b ∷ f)
-    by true h = omega (arith, h)
-    by false h = omega (arith, h, onto-few b (lines f))
 
 line-fits : (f : List ℕ) (k l : ℕ) → Refusal f k l → l < 65536
 line-fits f k l (inl r) = omega (arith, r .line)
@@ -79,7 +61,7 @@ pub record Small (e : Ends) : Type 0 where
   pub low : e .lower < 4294967296
   pub high : e .upper < 4294967296
 
-ends-short : (es : List Ends) → Every Small es → Short (answers.numbers es)
+ends-short : (es : List Ends) → Every Small es → Short (work.numbers es)
 ends-short [] h i = omega arith
 ends-short (e ∷ es) h zero = h .0 .low
 ends-short (e ∷ es) h (suc zero) = h .0 .high

@@ -15,15 +15,15 @@ use Rattle.records.specs.declared.Trio.{Trio}
 use Rattle.solas.specs.Index.{R, partialMark}
 use Rattle.survival.specs.declared.Ratio.{Ratio}
 use Rattle.survival.specs.Ratio.{ratioOf}
-use Rattle.survival.specs.Index.{attainedOf}
-use Rattle.survival.specs.Verdict.{allReach, verdictOf}
-use Rattle.survival.specs.Exact as exact
-use Rattle.survival.specs.Exact.{RowAt, Close, Every, Thrice, AtAll, partialEnds}
-use Rattle.survival.specs.Promises.{AtMostOne}
-use Rattle.survival.proofs.Enclosure.{no-more-than-upper, no-less-than-lower, attained-no-more, attained-no-less}
-use Rattle.survival.proofs.Width.{partial-width, attained-width}
-use Rattle.survival.proofs.Verdicts.{verdict-by-ends, meets-is-right, fails-is-right}
-use Rattle.survival.proofs.Marks.{required-not-negative, mark-not-negative}
+use Rattle.indices.specs.Index.{attainedOf}
+use Rattle.verdicts.specs.Verdict.{allReach, verdictOf}
+use Rattle.indices.specs.Exact as exact
+use Rattle.indices.specs.Exact.{RowAt, Close, Every, Thrice, AtAll, partialEnds}
+use Rattle.indices.specs.Promises.{AtMostOne}
+use Rattle.indices.proofs.Enclosure.{no-more-than-upper, no-less-than-lower, attained-no-more, attained-no-less}
+use Rattle.indices.proofs.Width.{partial-width, attained-width}
+use Rattle.verdicts.proofs.Verdicts.{verdict-by-ends, meets-is-right, fails-is-right}
+use Rattle.verdicts.proofs.Marks.{required-not-negative, mark-not-negative}
 use Rattle.casefile.specs.Record.{Row, Case}
 use Rattle.casefile.specs.Valid.{Valid}
 use Rattle.casefile.specs.Reading.{Reading, refused, accepted, reading}

@@ -11,17 +11,17 @@ use Rattle.solas.specs.Regulation.{IsRoot, under√, pi}
 use Rattle.solas.proofs.RegulationShares.{shares-are-the-regulation's}
 use Rattle.spans.specs.Hull.{shipOf, Hulled}
 use Rattle.spans.proofs.Places.{ship-sound}
-use Rattle.survival.specs.Exact as exact
-use Rattle.survival.specs.Exact.{Each}
+use Rattle.indices.specs.Exact as exact
+use Rattle.indices.specs.Exact.{Each}
 use Rattle.casefile.specs.Record.{Row, Case}
 use Rattle.casefile.specs.Order.{sameGroup}
 use Rattle.casefile.specs.Valid.{Follows, higher, deeper, later, Ordered}
 use Rattle.casefile.proofs.Groups.{After, after-linked}
 use Rattle.casefile.proofs.Soundness.{sound}
-use Rattle.index.specs.declared.Standing.{Standing}
-use Rattle.index.specs.Standing.{nowhere, stands, standings}
-use Rattle.index.specs.Running.{Follow}
-use Rattle.index.proofs.Stands.{inGroup, in-layer, in-next-layer, in-new-group, head-is}
+use Rattle.rows.specs.declared.Standing.{Standing}
+use Rattle.rows.specs.Standing.{nowhere, stands, standings}
+use Rattle.rows.specs.Running.{Follow}
+use Rattle.rows.proofs.Stands.{inGroup, in-layer, in-next-layer, in-new-group, head-is}
 use Rattle.index.proofs.ValidCase.{hulled, rows-follow}
 use Rattle.promises.specs.Rows.{exactRows}
 use Rattle.promises.specs.OfSolas.{SharesOfSolas}

@@ -17,14 +17,14 @@ use Rattle.solas.specs.Survival.{k, s⁴}
 use Rattle.solas.specs.Index.{dp, R, partialMark}
 use Rattle.spans.specs.Rounded as rounded
 use Rattle.spans.specs.Span.{pEnds, PEnds}
-use Rattle.chances.specs.Figures.{plus, minus}
-use Rattle.chances.specs.Penetration.{G1Ends, G3Ends, partEnds, GEnds, c, d, mixed, QEnds}
+use Rattle.penetration.specs.Figures.{plus, minus}
+use Rattle.penetration.specs.Penetration.{G1Ends, G3Ends, partEnds, GEnds, c, d, mixed, QEnds}
 use Rattle.chances.specs.Share.{withinEnds, sumsOf, lowest, highest, rowOf, rowEnds}
 use Rattle.survival.specs.Ratio.{ratioOf}
 use Rattle.survival.specs.Height.{rowVs}
 use Rattle.survival.specs.Survival.{factorOf, scaledOf, roundedOf, factorsOf, survivalsOf}
-use Rattle.survival.specs.Index.{addsOf, rowAdds, partials, attainedOf}
-use Rattle.survival.specs.Verdict.{reaches, allReach, verdictOf}
+use Rattle.indices.specs.Index.{addsOf, rowAdds, partials, attainedOf}
+use Rattle.verdicts.specs.Verdict.{reaches, allReach, verdictOf}
 use Rattle.frames.specs.Lines.{lines}
 use Rattle.frames.specs.Hex.{digitOf, pairOf, pairs, digitsOnly, proper, badlyWritten, digit, hex, lineOf}
 use Rattle.frames.specs.Fields.{wordAt}
@@ -34,9 +34,10 @@ use Rattle.casefile.specs.Limits.{between, sizesFit, risingTo, zonesFit, headFi
 use Rattle.casefile.specs.Order.{atTop, closesGroup, sameGroup, sameLayer, earlierGroup, outOfOrder, leavesOpen, endsOpen}
 use Rattle.casefile.specs.Table.{firstHolds, wrongHullFrame, wrongFrame, wrongZones, hullChecks, rowChecks, endChecks, lineChecks}
 use Rattle.casefile.specs.Reading.{accepted, readFrom, reading}
-use Rattle.printing.specs.Printed.{printed, figuresFrame, refusalFrame, shareFrame, shareLines, endsField, partialField, partialsField}
-use Rattle.index.specs.Standing.{stands}
-use Rattle.index.specs.Work.{shareAt, addsAt, sharesFrom, addsFrom}
+use Rattle.digits.specs.Fields.{endsField, partialField, partialsField}
+use Rattle.printing.specs.Printed.{printed, figuresFrame, refusalFrame, shareFrame, shareLines}
+use Rattle.rows.specs.Standing.{stands}
+use Rattle.rows.specs.Work.{shareAt, addsAt, sharesFrom, addsFrom}
 use Rattle.index.specs.Answer.{partialsOf, figures, answer, shares, answered}
 use Rattle.index.specs.Report.{sharesIn, report}
 use Rattle.promises.specs.OneFile.{file, text, OneFileInFull}

@@ -21,10 +21,10 @@ use Rattle.casefile.specs.Record.{Row}
 use Rattle.casefile.specs.Order.{sameGroup}
 use Rattle.casefile.specs.Valid.{SameGroup, LaterGroup, ClosesGroup, Follows, higher, deeper, later, Ordered}
 use Rattle.casefile.proofs.Groups.{After, after-linked}
-use Rattle.index.specs.declared.Standing.{Standing}
-use Rattle.index.specs.Standing.{nowhere, stands}
-use Rattle.index.specs.Running.{Stood, Follow}
-use Rattle.index.proofs.Stands.{inGroup, in-layer, in-next-layer, in-new-group, head-is}
+use Rattle.rows.specs.declared.Standing.{Standing}
+use Rattle.rows.specs.Standing.{nowhere, stands}
+use Rattle.rows.specs.Running.{Stood, Follow}
+use Rattle.rows.proofs.Stands.{inGroup, in-layer, in-next-layer, in-new-group, head-is}
 use Rattle.promises.proofs.Numerators.{gives, layers-add, no-layer}
 
 -- ---- the groups of rows in turn, by the head of each one's first row

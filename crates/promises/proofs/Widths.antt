@@ -11,18 +11,19 @@ use Rattle.laws.specs.Rounding.{ceil}
 use Rattle.laws.specs.Sums.{sumOf}
 use Rattle.laws.proofs.Fraction.{is-over, is-nothing, is-one, is-⊹, is-⊛, is-shifted, same, numerators-below, ≼-of-≈, ≼-trans, ⊹-≼}
 use Rattle.laws.proofs.Rounding.{ceil-lower}
+use Rattle.laws.proofs.FractionCompare.{⊛-rises}
+use Rattle.numbers.specs.Figures.{billionths, Between}
 use Rattle.records.specs.declared.Ends.{Ends}
 use Rattle.survival.specs.Survival.{ends}
-use Rattle.survival.specs.Index.{scale, at, addsOf, attainedOf, weighed}
-use Rattle.survival.specs.Exact.{billionths, RowAt, Holds, Sound, Every, weight, rowEnds, partialEnds, Thrice, AtAll, partialsOf}
-use Rattle.survival.specs.Promises.{AtMostOne}
+use Rattle.indices.specs.Index.{scale, at, addsOf, attainedOf, weighed}
+use Rattle.indices.specs.Exact.{RowAt, Sound, Every, weight, rowEnds, partialEnds, Thrice, AtAll, partialsOf}
+use Rattle.indices.specs.Promises.{AtMostOne}
 use Rattle.survival.proofs.Bounds.{ends-ordered}
-use Rattle.survival.proofs.Compare.{⊛-rises}
 use Rattle.promises.specs.Rows.{chances}
 
 -- ---- in order
 
-ends-hold : {e : Ends} {f : Fraction} → Holds e f → e .lower ≤ e .upper
+ends-hold : {e : Ends} {f : Fraction} → Between e f → e .lower ≤ e .upper
 ends-hold {e} h =
     let p : 0 < 10 ^ 9 = lit< tt in
     omega (arith, numerators-below (≼-trans (h .low) (h .high)) (is-over (e .lower) p) (is-over (e .upper) p))

@@ -5,12 +5,12 @@ use mathlib.Core.List.{List}
 use Rattle.laws.specs.Fraction.{Fraction, _≈_}
 use Rattle.solas.specs.Regulation.{IsRoot, under√, pi}
 use Rattle.spans.specs.Hull.{shipOf}
-use Rattle.survival.specs.Exact as exact
-use Rattle.survival.specs.Exact.{Each}
+use Rattle.indices.specs.Exact as exact
+use Rattle.indices.specs.Exact.{Each}
 use Rattle.casefile.specs.Record.{Case}
 use Rattle.casefile.specs.Reading.{accepted, reading}
-use Rattle.index.specs.declared.Standing.{Standing}
-use Rattle.index.specs.Standing.{nowhere, standings}
+use Rattle.rows.specs.declared.Standing.{Standing}
+use Rattle.rows.specs.Standing.{nowhere, standings}
 use Rattle.promises.specs.Rows.{exactRows}
 
 -- √ is the root in the ship's Jk; a row stands in the layer from the one before it to its own b

@@ -5,12 +5,13 @@ use mathlib.Core.List.{List}
 use mathlib.Core.Logic.{_↔_, _⊎_}
 use lib.ListN.{length}
 use Rattle.laws.specs.Fraction.{Fraction, whole, _≈_, _≼_}
+use Rattle.numbers.specs.Figures.{billionths}
 use Rattle.records.specs.declared.Answer.{Answer}
 use Rattle.records.specs.declared.Ends.{Ends}
 use Rattle.solas.specs.Index.{R, partialMark}
-use Rattle.survival.specs.Index.{at}
-use Rattle.survival.specs.Exact.{billionths, RowAt, NoneAbove, NoneBelow, weightedSum, Thrice, AtEach, exactA}
-use Rattle.survival.specs.Promises.{Meets, Fails, ReachAll, OneShort}
+use Rattle.indices.specs.Index.{at}
+use Rattle.indices.specs.Exact.{RowAt, NoneAbove, NoneBelow, weightedSum, Thrice, AtEach, exactA}
+use Rattle.verdicts.specs.Promises.{Meets, Fails, ReachAll, OneShort}
 use Rattle.casefile.specs.Record.{Case}
 use Rattle.casefile.specs.Reading.{accepted, reading}
 use Rattle.index.specs.Answer.{answer, answered}

@@ -11,12 +11,12 @@ use Rattle.solas.specs.Index.{draughts}
 use Rattle.spans.specs.Hull.{shipOf}
 use Rattle.survival.specs.Height.{rowVs}
 use Rattle.survival.specs.Survival.{factorsOf}
-use Rattle.survival.specs.Exact as exact
-use Rattle.survival.specs.Exact.{RowAt, weight, Thrice, rowsAt}
+use Rattle.indices.specs.Exact as exact
+use Rattle.indices.specs.Exact.{RowAt, weight, Thrice, rowsAt}
 use Rattle.casefile.specs.Record.{Row, Case}
-use Rattle.index.specs.declared.Standing.{Standing}
-use Rattle.index.specs.Standing.{nowhere, stands}
-use Rattle.index.specs.Work.{shareAt}
+use Rattle.rows.specs.declared.Standing.{Standing}
+use Rattle.rows.specs.Standing.{nowhere, stands}
+use Rattle.rows.specs.Work.{shareAt}
 
 -- ---- rows
 

@@ -65,7 +65,7 @@ fn run(input: &[u8], h: Hull, from: usize, first: u64) -> Step
     while at < input.len() {
         let end = frames::line_end(input, at);
         let closed = end < input.len();
-        let frame = rowlines::judge_line(&input[at..end], closed, h, p);
+        let frame = judging::judge_line(&input[at..end], closed, h, p);
         let after = step(frame, p, line);
         let Step::Next(next) = after else {
             return after;

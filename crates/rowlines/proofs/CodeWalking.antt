@@ -22,7 +22,7 @@ use Rattle.casefile.specs.Layout.{kindOf, frameLength, headOf, resultsOf}
 use Rattle.casefile.specs.Table.{wrongFrame}
 use Rattle.casefile.specs.Answer.{noRow, firstLine, isRowLine, rowAt}
 use Rattle.casefile.specs.Placing.{rowPlaced}
-use Rattle.rowlines.proofs.CodeJudging.{row-kind, right-row, part, frame-too-long}
+use Rattle.rowlines.proofs.CodeFrames.{row-kind, right-row, part, frame-too-long}
 
 -- ---- a frame
 

@@ -1,3 +1,3 @@
 pub mod CodeReaders
-pub mod CodeJudging
+pub mod CodeFrames
 pub mod CodeWalking

@@ -2,7 +2,7 @@
 ghost use mathlib.Core.Path.{_≡_};
 ghost use Prim.Native.Nat.{_+_, _*_, _≤_};
 ghost use lib.ListN.{length};
-ghost use Rattle.casefile.specs.Layout.{headOf, setLength, findingOf, resultsOf};
+ghost use Rattle.casefile.specs.Layout.{frameLength, headOf, setLength, findingOf, resultsOf};
 use records::Finding;
 use records::RowHead;
 
@@ -61,4 +61,15 @@ pub fn results(kind: u64, f: &[u8]) -> [Finding; 3]
         finding(kind, &f[partial..]),
         finding(kind, &f[light..]),
     ]
+}
+
+// The bytes of a frame after the hull, by its kind.
+pub fn frame_length(kind: u64) -> usize
+    ensures { λ r. ⌜ r ≡ frameLength kind ⌝ }
+{
+    match kind {
+        2 => 25,
+        3 => 13,
+        _ => 3,
+    }
 }

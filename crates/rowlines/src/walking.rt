@@ -4,7 +4,6 @@ ghost use Prim.Native.Nat.{_<_};
 ghost use lib.ListN.{length};
 ghost use Rattle.casefile.specs.Answer.{noRow, rowAt};
 ghost use Rattle.casefile.specs.Placing.{rowPlaced};
-use super::judging;
 use super::readers;
 use casefile::RowPlace;
 use frames::Written;
@@ -42,7 +41,7 @@ fn row_of(frame: &[u8], after: usize) -> RowPlace
     ensures { λ r. ⌜ r ≡ rowPlaced (now (frame .entry)) after ⌝ }
 {
     let kind = frames::byte_at(frame, 0);
-    if frame.len() != judging::frame_length(kind) {
+    if frame.len() != readers::frame_length(kind) {
         return no_row();
     }
     match kind {

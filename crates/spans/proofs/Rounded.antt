@@ -6,9 +6,9 @@ use native.Mathlib.Omega.{arith}
 use Rattle.laws.specs.Fraction.{Fraction, den, Is, _less_over_, _over_, _≼_}
 use Rattle.laws.proofs.Fraction.{positive, is-less-over, is-widened, below, numerators-below}
 use Rattle.records.specs.declared.Ends.{Ends}
-use Rattle.numbers.specs.Figures.{billionthsOf, Encloses}
+use Rattle.numbers.specs.Figures.{billionthsOf, Encloses, Between}
 use Rattle.numbers.proofs.Figures.{billionths-same, billionths-enclose, billionths-near, billionths-ordered, billionths-at-most, encloses-same}
-use Rattle.spans.specs.Rounded.{endsOf, Between, Probable, Near}
+use Rattle.spans.specs.Rounded.{endsOf, Probable, Near}
 
 -- ---- a fraction that is n/d
 

@@ -10,10 +10,10 @@ use Rattle.records.specs.declared.Ends.{Ends}
 use Rattle.numbers.specs.Figures.{Proper, billionthsOf}
 use Rattle.numbers.proofs.Figures.{proper}
 use Rattle.solas.specs.Span.{Touch, neither, one, both, touch, half, p, PAt, P}
-use Rattle.spans.specs.declared.Ratio.{Ratio}
+use Rattle.bands.specs.declared.Ratio.{Ratio}
 use Rattle.spans.specs.declared.SpanEnds.{SpanEnds}
 use Rattle.spans.specs.Rounded.{endsOf}
-use Rattle.spans.specs.Bands.{Chance}
+use Rattle.bands.specs.Bands.{Chance}
 use Rattle.spans.specs.Span.{pEnds, PEnds, spanEnds, touches}
 use Rattle.spans.proofs.Rounded.{ends-are}
 

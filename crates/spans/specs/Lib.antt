@@ -1,5 +1,4 @@
 pub mod Rounded
-pub mod Bands
 pub mod Span
 pub mod Hull
 pub mod Table

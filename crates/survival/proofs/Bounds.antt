@@ -8,13 +8,12 @@ use Rattle.laws.specs.Fraction.{Fraction, whole, Is, _≈_, _≼_, _⊛_}
 use Rattle.laws.specs.Rounding.{ceil}
 use Rattle.laws.proofs.Fraction.{is-over, is-whole, ≈-refl, ≈-sym, ⊛-≈, ≼-of-≈, ≼-trans, below-across}
 use Rattle.laws.proofs.Roots.{powers-ordered, root-below, root-above}
+use Rattle.laws.proofs.FractionCompare.{across-below, is-times}
 use Rattle.numbers.proofs.Root.{down-of-fraction, up-of-fraction}
 use Rattle.numbers.proofs.RootValue.{down-root, up-root}
 use Rattle.survival.specs.Ratio.{ratioOf}
-use Rattle.survival.specs.Survival.{Factor, root, given, ends, Sensible, Bottom, Top, scaledOf, roundedOf}
-use Rattle.survival.specs.Exact.{tenThousandths, fourthPower, NotAbove, NotBelow}
-use Rattle.survival.specs.Promises.{BottomAndTop}
-use Rattle.survival.proofs.Compare.{across-below, ratio-positive, is-ratio, is-times, is-fourth}
+use Rattle.survival.specs.Survival.{Factor, root, given, ends, Sensible, Bottom, Top, BottomAndTop, scaledOf, roundedOf, tenThousandths, fourthPower, NotAbove, NotBelow}
+use Rattle.survival.proofs.Compare.{ratio-positive, is-ratio, is-fourth}
 use Rattle.survival.proofs.Factors.{same-survival, times-down, times-up}
 
 -- ---- over numbers: the bottom and the top of the root of N/M

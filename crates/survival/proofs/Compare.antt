@@ -1,30 +1,14 @@
--- Fractions that are not negative, by their numerators and denominators: order, multiples, fourth powers. Assumes nothing.
-use Prim.Native.Nat.{ℕ, _+_, _-_, _*_, _^_, _≤_, _<_}
+-- Fractions that are not negative, by their ratios: numerator and denominator, and fourth powers. Assumes nothing.
+use Prim.Native.Nat.{ℕ, _+_, _-_, _*_, _^_, _<_}
 use mathlib.Core.List.{[]}
 use mathlib.Core.Path.{_≡_, refl, ap}
-use native.Mathlib.Nat.{mul-pos, mul-comm, mul-le-mul-right, mul-lt-mul-of-pos-right, lt-of-mul-lt-mul-right}
 use native.Mathlib.Omega.{arith}
-use lib.Dec.{lit<}
-use Rattle.laws.specs.Fraction.{Fraction, den, _less_over_, _over_, whole, Is, _≼_, _≺_, _⊛_}
-use Rattle.laws.proofs.Fraction.{positive, is-over, is-whole, is-self, is-⊛, is-widened, numerators-below, numerators-strictly-below, ≼-of-≈, ≼-trans, is-written, below-across}
-use Rattle.laws.proofs.Polynomial.{_:*_, _:^_, _:=_, _⊢_, poly1}
-use Rattle.laws.proofs.FractionRing.{⊛-comm}
+use Rattle.laws.specs.Fraction.{Fraction, den, _less_over_, whole, Is, _≼_}
+use Rattle.laws.proofs.Fraction.{positive, is-written}
+use Rattle.laws.proofs.FractionCompare.{is-square}
+use Rattle.laws.proofs.Polynomial.{_:^_, _:=_, _⊢_, poly1}
 use Rattle.survival.specs.Ratio.{ratioOf}
-use Rattle.survival.specs.Exact.{fourthPower}
-
--- ---- two quotients over any two denominators
-module _ {f g : Fraction} {a b d a′ b′ d′ : ℕ} (h : Is f a b d) (k : Is g a′ b′ d′) where
-  left : Is f (a * d′) (b * d′) (d * d′)
-  left = is-written (is-widened d′ h) (mul-comm d′ a) (mul-comm d′ b) (mul-comm d′ d)
-
-  right : Is g (a′ * d) (b′ * d) (d * d′)
-  right = is-written (is-widened d k) (mul-comm d a′) (mul-comm d b′) refl
-
-  pub across-below : f ≼ g → a * d′ + b′ * d ≤ a′ * d + b * d′
-  across-below l = numerators-below l left right
-
-  pub across-strictly-below : 0 < d → 0 < d′ → f ≺ g → a * d′ + b′ * d < a′ * d + b * d′
-  across-strictly-below p q l = numerators-strictly-below (mul-pos p q) l left right
+use Rattle.survival.specs.Survival.{fourthPower}
 
 -- ---- a fraction that is not negative is its ratio
 pub ratio-positive : (f : Fraction) → 0 < ratioOf f .den
@@ -40,42 +24,9 @@ is-ratio {f} h =
     parts : (u n v d : ℕ) → u ≡ n + v → u * d + 0 * d ≡ n * d + v * d
     parts u n v d e = omega (arith, ap (λ z. z * d) e)
 
-pub plain-not-negative : {f : Fraction} → f .down ≡ 0 → whole 0 ≼ f
-unfolding _less_over_
-plain-not-negative {f} e = record { cross = rw e (omega arith) }
-
--- ---- multiples and fourth powers
-pub is-times : {f : Fraction} {n d : ℕ} (k : ℕ) → Is f n 0 d → Is (whole k ⊛ f) (k * n) 0 d
-is-times {f} {n} {d} k h = is-written (is-⊛ (is-whole k {d = 1} (lit< tt)) h) (omega arith) (omega arith) (omega arith)
-
-pub is-square : {f : Fraction} {n d : ℕ} → Is f n 0 d → Is (f ⊛ f) (n ^ 2) 0 (d ^ 2)
-is-square {f} {n} {d} h = is-written (is-⊛ h h) (square n) (omega arith) (poly1 (λ d. [] ⊢ d :* d := d :^ 2) tt d)
-  where
-    square : (n : ℕ) → n * n + 0 * 0 ≡ n ^ 2
-    square n = omega (arith, poly1 (λ n. [] ⊢ n :* n := n :^ 2) tt n)
-
+-- ---- fourth powers
 pub is-fourth : {x : Fraction} {n d : ℕ} → Is x n 0 d → Is (fourthPower x) (n ^ 4) 0 (d ^ 4)
 is-fourth {x} {n} {d} h = is-written (is-square (is-square h)) (twice n) refl (twice d)
   where
     twice : (n : ℕ) → (n ^ 2) ^ 2 ≡ n ^ 4
     twice = poly1 (λ n. [] ⊢ (n :^ 2) :^ 2 := n :^ 4) tt
-
--- ---- products with what is not negative keep the order
-pub ⊛-rises : {f g : Fraction} (n : ℕ) {d : ℕ} → 0 < d → f ≼ g → f ⊛ (n over d) ≼ g ⊛ (n over d)
-⊛-rises {f} {g} n {d} p l =
-    below-across (is-⊛ (is-self f) (is-over n p)) (is-⊛ (is-self g) (is-over n p)) (mul-pos (positive f) p) (mul-pos (positive g) p)
-    (crossed (f .up) (f .down) (den f) (g .up) (g .down) (den g) (l .cross))
-  where
-    crossed : (u v D u′ v′ D′ : ℕ) → u * D′ + v′ * D ≤ u′ * D + v * D′ →
-        (u * n + v * 0) * (D′ * d) + (u′ * 0 + v′ * n) * (D * d) ≤ (u′ * n + v′ * 0) * (D * d) + (u * 0 + v * n) * (D′ * d)
-    crossed u v D u′ v′ D′ h = omega (arith, mul-le-mul-right (n * d) h)
-
-pub times-rises : {f g : Fraction} (k : ℕ) → f ≼ g → whole k ⊛ f ≼ whole k ⊛ g
-times-rises {f} {g} k l = ≼-trans (≼-of-≈ (⊛-comm (whole k) f)) (≼-trans (⊛-rises k (lit< tt) l) (≼-of-≈ (⊛-comm g (whole k))))
-
-pub below-then-strictly : {f g h : Fraction} → f ≼ g → g ≺ h → f ≺ h
-below-then-strictly {f} {g} {h} p q =
-    record {
-      cross = lt-of-mul-lt-mul-right (den g)
-          (omega (arith, mul-le-mul-right (den h) (p .cross), mul-lt-mul-of-pos-right {k = den f} (q .cross) (positive f)));
-    }

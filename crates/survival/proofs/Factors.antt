@@ -1,8 +1,10 @@
 -- Ten-thousandths of a fourth root: the long division before the root, and what bottom and top are in the words of 01. Assumes nothing.
 use Prim.Native.Nat.{ℕ, _+_, _-_, _*_, _/_, _%_, _^_, _≤_, _<_}
+use mathlib.Core.Bool.{Bool, true, false, cond}
 use mathlib.Core.Path.{_≡_, refl, ap, sym, _∙_}
 use native.Mathlib.Nat.{div-add-mod', mod-lt, mul-add-div-right, div-le-of-le-mul, mul-le-mul-left, le-of-lt}
 use native.Mathlib.Omega.{arith}
+use lib.Dec.{eqb}
 use borrow.Author.Tests.{eq-eqb, ne-eqb}
 use Rattle.laws.specs.Rounding.{ceil}
 use Rattle.laws.proofs.Rounding.{ceil-least, floor-not-above-ceil, ceil-near-floor}
@@ -12,8 +14,9 @@ use Rattle.numbers.proofs.RootValue.{down-value, up-value}
 use Rattle.records.specs.declared.Finding.{Finding}
 use Rattle.records.specs.declared.Survival.{Survival}
 use Rattle.solas.specs.Survival.{s⁴}
+use Rattle.solas.proofs.Survival.{s⁴-not-negative, s⁴-at-most-one}
 use Rattle.survival.specs.Ratio.{ratioOf, Proper}
-use Rattle.survival.specs.Survival.{factorOf, scaledOf, roundedOf, survivalOf}
+use Rattle.survival.specs.Survival.{root, given, Sensible, factorOf, scaledOf, roundedOf, survivalOf}
 use Rattle.survival.specs.declared.Ratio.{Ratio}
 use Rattle.survival.specs.declared.finding.Multiple.{Multiple}
 
@@ -83,3 +86,12 @@ as-given kind f e = rw (eq-eqb kind 3 e) refl
 pub as-found : (kind : ℕ) (f : Finding) → (kind ≡ 3 → ⊥) → survivalOf kind f ≡ roundedOf (ratioOf (s⁴ (f .lever) (f .range) (f .heel)))
 unfolding survivalOf factorOf
 as-found kind f n = rw (ne-eqb kind 3 n) refl
+
+-- what was found and what is given are from 0 to 1
+pub found-sensible : (kind : ℕ) (f : Finding) → f .given ≤ 10 ^ 4 → Sensible (factorOf kind f)
+unfolding factorOf
+found-sensible kind f h = chosen (eqb kind 3)
+  where
+    chosen : (b : Bool) → Sensible (cond b (given (f .given)) (root (s⁴ (f .lever) (f .range) (f .heel))))
+    chosen true = h
+    chosen false = (s⁴-not-negative (f .lever) (f .range) (f .heel), s⁴-at-most-one (f .lever) (f .range) (f .heel))

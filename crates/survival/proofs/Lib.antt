@@ -1,11 +1,5 @@
 pub mod Ratios
 pub mod Factors
-pub mod Rows
-pub mod Marks
 pub mod Compare
 pub mod Bounds
-pub mod Enclosure
-pub mod Width
-pub mod Verdicts
-pub mod Sums
 pub mod Values

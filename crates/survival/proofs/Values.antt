@@ -1,22 +1,15 @@
--- Document 01, "Proved values" and "One file in full", as the definitions of this crate give them. Assumes nothing.
-use Prim.Native.Nat.{ℕ, _*_}
-use mathlib.Core.List.{List, [], _∷_}
+-- Document 01, "Proved values": survivals and heights, as the definitions of this crate give them. Assumes nothing.
+use Prim.Native.Nat.{ℕ}
 use mathlib.Core.Path.{_≡_, refl}
 use Rattle.laws.specs.Fraction.{_less_over_, _⊛_}
 use Rattle.laws.specs.Rounding.{ceil}
 use Rattle.numbers.specs.Root.{withDigits, rootDown, rootUp}
-use Rattle.records.specs.declared.Ends.{Ends}
 use Rattle.records.specs.declared.Finding.{Finding}
 use Rattle.records.specs.declared.Survival.{Survival}
-use Rattle.records.specs.declared.Trio.{Trio}
-use Rattle.solas.specs.Height.{v, vAt, rowV}
-use Rattle.solas.specs.Index.{dp, draughts, R, partialMark}
+use Rattle.solas.specs.Height.{v, vAt}
 use Rattle.solas.specs.Survival.{k, s⁴}
 use Rattle.survival.specs.Ratio.{ratioOf}
-use Rattle.survival.specs.Height.{rowVs}
-use Rattle.survival.specs.Survival.{factorOf, scaledOf, roundedOf, survivalOf, factorsOf, survivalsOf}
-use Rattle.survival.specs.Index.{addsOf, trio, rowAdds, partials, attainedOf}
-use Rattle.survival.specs.Verdict.{reaches, allReach, verdictOf}
+use Rattle.survival.specs.Survival.{factorOf, scaledOf, roundedOf, survivalOf}
 
 abbrev found : ℕ → ℕ → ℕ → Finding
 found lever range heel = record { lever = lever; range = range; heel = heel; given = 0 }
@@ -26,9 +19,6 @@ given s = record { lever = 0; range = 0; heel = 0; given = s }
 
 abbrev s : ℕ → ℕ → Survival
 s bottom top = record { bottom = bottom; top = top }
-
-abbrev ends : ℕ → ℕ → Ends
-ends lower upper = record { lower = lower; upper = upper }
 
 -- ---- survival
 pub survivals :
@@ -45,32 +35,3 @@ survivals = (refl, refl, refl, refl, refl, refl)
 pub heights : (v 7800 ≡ 733200) × (v 7801 ≡ 733239) × (vAt 13801 6000 ≡ 733239)
 unfolding v vAt
 heights = (refl, refl, refl)
-
--- ---- R, 13/33 and 31/63
-pub required :
-    (ratioOf (R 8000) .num * 33 ≡ ratioOf (R 8000) .den * 13)
-    × (ratioOf (R 10000) .num * 63 ≡ ratioOf (R 10000) .den * 31)
-unfolding R ratioOf _less_over_
-required = (refl, refl)
-
--- ---- the printed file: its three rows reach from the baseline to 18,500, the top at each draught
-abbrev vs : List ℕ
-vs = rowVs 0 18500 (draughts 6000 4000)
-
-abbrev file : Trio
-file =
-    partials
-    (rowAdds (ends 0x072648b6 0x072648b7) vs (survivalsOf 2 (found 30 400 0 ∷ found 30 400 0 ∷ found 30 400 0 ∷ []))
-    ∷ rowAdds (ends 0x03e36aea 0x03e36aec) vs (survivalsOf 3 (given 0 ∷ given 0 ∷ given 0 ∷ []))
-    ∷ rowAdds (ends 0x3091165e 0x3091165f) vs (survivalsOf 3 (given 10000 ∷ given 10000 ∷ given 10000 ∷ []))
-    ∷ [])
-
-abbrev printed : Ends
-printed = ends 0x34243ab9 0x34243abb
-
-pub one-file :
-    (file ≡ trio printed printed printed)
-    × (attainedOf file ≡ printed)
-    × (verdictOf (attainedOf file) file (ratioOf (R 9900)) (ratioOf (partialMark 9900)) ≡ 1)
-unfolding rowVs rowV vAt v dp survivalsOf factorsOf factorOf s⁴ k ratioOf scaledOf roundedOf rootDown rootUp withDigits ceil _⊛_ _less_over_ addsOf rowAdds partials attainedOf R partialMark reaches allReach verdictOf
-one-file = (refl, refl, refl)

@@ -4,7 +4,7 @@ use mathlib.Core.Bool.{cond}
 use mathlib.Core.List.{List, [], _∷_, map}
 use lib.Dec.{eqb}
 use lib.ListN.{getD}
-use Rattle.laws.specs.Fraction.{Fraction, whole, _≼_, _⊛_}
+use Rattle.laws.specs.Fraction.{Fraction, _over_, whole, _≼_, _⊛_}
 use Rattle.laws.specs.Rounding.{ceil}
 use Rattle.numbers.specs.Root.{rootDown, rootUp}
 use Rattle.records.specs.declared.Finding.{Finding}
@@ -52,6 +52,27 @@ pub record Top (f : Fraction) (s : ℕ) : Type 0 where
   pub reaches : whole (10 ^ 16) ⊛ f ≼ whole (s ^ 4)
   pub least : (t : ℕ) → whole (10 ^ 16) ⊛ f ≼ whole (t ^ 4) → s ≤ t
 
+-- so it is for every s⁴ from 0 to 1
+abbrev pub BottomAndTop : Type 0
+BottomAndTop = (f : Fraction) → Sensible (root f) → Bottom f (ends (root f) .bottom) × Top f (ends (root f) .top)
+
+-- ---- what a survival is held to exactly
+abbrev pub tenThousandths : ℕ → Fraction
+tenThousandths n = n over 10 ^ 4
+
+abbrev pub fourthPower : Fraction → Fraction
+fourthPower x = x ⊛ x ⊛ (x ⊛ x)
+
+-- "where no fourth power is above its row's s⁴"; "A given survival counts as itself"
+abbrev pub NotAbove : Factor → Fraction → Type 0
+NotAbove (root f) x = fourthPower x ≼ f
+NotAbove (given n) x = x ≼ tenThousandths n
+
+abbrev pub NotBelow : Factor → Fraction → Type 0
+NotBelow (root f) x = f ≼ fourthPower x
+NotBelow (given n) x = tenThousandths n ≼ x
+
+-- ---- a row's three results
 abbrev pub nothing : Finding
 nothing = record { lever = 0; range = 0; heel = 0; given = 0 }
 

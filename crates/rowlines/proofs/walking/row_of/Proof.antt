@@ -2,7 +2,7 @@
 use mathlib.Core.Path.{sym, _∙_}
 use mathlib.Core.Logic.{inl, inr, ⊎-elim}
 use denote.Ref.{now}
-use Rattle.rowlines.proofs.CodeJudging.{wrong-length, results-fit}
+use Rattle.rowlines.proofs.CodeFrames.{wrong-length, results-fit}
 use Rattle.rowlines.proofs.CodeWalking.{no-frame, no-row-frame, row-frame}
 use borrow.Author.Needs.{needs}
 use native.Mathlib.Omega.{arith}

@@ -1,5 +1,6 @@
 -- `survival::finding::survivals` meets its contract, draught by draught. Assumes nothing.
 use borrow.Author.Needs.{needs}
+use Rattle.laws.proofs.Lists.{three-same}
 use Rattle.survival.specs.Survival.{factorsOf, survivalOf, survivalsOf}
 use Rattle.survival.proofs.finding.survivals.Statement.{statement}
 use Rattle.survival.proofs.finding.survivals.Tie as tie
@@ -24,7 +25,7 @@ survival-requires-3 c κs = search needs
 
 returns : tie.Need-returns
 unfolding survivalsOf factorsOf survivalOf
-returns c = cc
+returns c = three-same (c .before .before .survival .ensures) (c .before .survival2 .ensures) (c .survival3 .ensures)
 
 pub survivals-spec : {M : Type 1} → statement M
 survivals-spec =

@@ -1,5 +1,6 @@
 -- `survival::height::row_factors` meets its contract, draught by draught. Assumes nothing.
 use borrow.Author.Needs.{needs}
+use Rattle.laws.proofs.Lists.{three-same}
 use Rattle.survival.specs.Height.{rowVs}
 use Rattle.survival.proofs.height.row_factors.Statement.{statement}
 use Rattle.survival.proofs.height.row_factors.Tie as tie
@@ -24,7 +25,7 @@ row-factor-requires-3 c κs = search needs
 
 returns : tie.Need-returns
 unfolding rowVs
-returns c = cc
+returns c = three-same (c .before .before .row-factor .ensures) (c .before .row-factor2 .ensures) (c .row-factor3 .ensures)
 
 pub row-factors-spec : {M : Type 1} → statement M
 row-factors-spec =

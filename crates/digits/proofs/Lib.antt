@@ -1,0 +1,3 @@
+pub mod Splice
+pub mod Text
+pub mod Fields

@@ -1,0 +1,5 @@
+pub mod Rows
+pub mod Enclosure
+pub mod Width
+pub mod Sums
+pub mod Values

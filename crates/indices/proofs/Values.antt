@@ -1,0 +1,45 @@
+-- Document 01, "One file in full": its partial indices and A, as the definitions of this crate give them. Assumes nothing.
+use Prim.Native.Nat.{ℕ}
+use mathlib.Core.List.{List, [], _∷_}
+use mathlib.Core.Path.{_≡_, refl}
+use Rattle.laws.specs.Fraction.{_less_over_, _⊛_}
+use Rattle.laws.specs.Rounding.{ceil}
+use Rattle.numbers.specs.Root.{withDigits, rootDown, rootUp}
+use Rattle.records.specs.declared.Ends.{Ends}
+use Rattle.records.specs.declared.Finding.{Finding}
+use Rattle.records.specs.declared.Trio.{Trio}
+use Rattle.solas.specs.Height.{v, vAt, rowV}
+use Rattle.solas.specs.Index.{dp, draughts}
+use Rattle.solas.specs.Survival.{k, s⁴}
+use Rattle.survival.specs.Ratio.{ratioOf}
+use Rattle.survival.specs.Height.{rowVs}
+use Rattle.survival.specs.Survival.{factorOf, scaledOf, roundedOf, factorsOf, survivalsOf}
+use Rattle.indices.specs.Index.{addsOf, trio, rowAdds, partials, attainedOf}
+
+abbrev found : ℕ → ℕ → ℕ → Finding
+found lever range heel = record { lever = lever; range = range; heel = heel; given = 0 }
+
+abbrev given : ℕ → Finding
+given s = record { lever = 0; range = 0; heel = 0; given = s }
+
+abbrev ends : ℕ → ℕ → Ends
+ends lower upper = record { lower = lower; upper = upper }
+
+-- its three rows reach from the baseline to 18,500, the top at each draught
+abbrev vs : List ℕ
+vs = rowVs 0 18500 (draughts 6000 4000)
+
+abbrev file : Trio
+file =
+    partials
+    (rowAdds (ends 0x072648b6 0x072648b7) vs (survivalsOf 2 (found 30 400 0 ∷ found 30 400 0 ∷ found 30 400 0 ∷ []))
+    ∷ rowAdds (ends 0x03e36aea 0x03e36aec) vs (survivalsOf 3 (given 0 ∷ given 0 ∷ given 0 ∷ []))
+    ∷ rowAdds (ends 0x3091165e 0x3091165f) vs (survivalsOf 3 (given 10000 ∷ given 10000 ∷ given 10000 ∷ []))
+    ∷ [])
+
+abbrev printed : Ends
+printed = ends 0x34243ab9 0x34243abb
+
+pub one-file : (file ≡ trio printed printed printed) × (attainedOf file ≡ printed)
+unfolding rowVs rowV vAt v dp survivalsOf factorsOf factorOf s⁴ k ratioOf scaledOf roundedOf rootDown rootUp withDigits ceil _⊛_ _less_over_ addsOf rowAdds partials attainedOf
+one-file = (refl, refl)

@@ -1,0 +1,156 @@
+-- A line's judging, step by step as the code goes: a row, the end, a frame, a line. Assumes nothing.
+use Prim.Native.Nat.{ℕ, _+_, _-_, _*_, _≤_, _<_}
+use mathlib.Core.Path.{_≡_, refl, _∙_}
+use mathlib.Core.Bool.{Bool, true, false, cond, not, _||_, or-true}
+use mathlib.Core.List.{List, _∷_}
+use native.Mathlib.Omega.{arith}
+use lib.Dec.{eqb}
+use lib.ListN.{length, take, drop, length-drop}
+use borrow.Author.Tests.{le-leb, lt-leb, eq-eqb, ne-eqb, eqb-false}
+use Rattle.laws.proofs.Lists.{rest-of}
+use Rattle.records.specs.declared.Finding.{Finding}
+use Rattle.records.specs.declared.Hull.{Hull}
+use Rattle.records.specs.declared.RowHead.{RowHead}
+use Rattle.frames.specs.Lines.{Line}
+use Rattle.frames.specs.declared.Written.the-variants.{Bytes}
+use Rattle.frames.specs.Hex.{pairs, proper, badlyWritten}
+use Rattle.frames.specs.Decoding.{writtenOf}
+use Rattle.frames.proofs.CodeDecoding.{well-written}
+use Rattle.frames.specs.Fields.{wordAt}
+use Rattle.casefile.specs.declared.Frame.{Frame}
+use Rattle.casefile.specs.declared.Progress.{Progress}
+use Rattle.casefile.specs.Record.{Row}
+use Rattle.casefile.specs.Layout.{kindOf, isRow, isEnd, frameLength, setLength, headOf, resultsOf, rowOf, countOf}
+use Rattle.casefile.specs.Limits.{rowFits}
+use Rattle.casefile.specs.Order.{outOfOrder, leavesOpen, endsOpen}
+use Rattle.casefile.specs.Table.{_when_, firstHolds, wrongFrame, rowChecks, endChecks, lineChecks}
+use Rattle.casefile.specs.Answer.{frameOf, judged}
+use Rattle.casefile.specs.Judging.{unlessWrong, rowJudged, endJudged, frameJudged}
+use Rattle.casefile.proofs.Checks.{first-passed}
+use Rattle.rowlines.proofs.CodeFrames.{row-kind, right-row, right-end, part, frame-too-long}
+
+-- ---- the number of a row
+
+module _ (h : Hull) (p : Progress) (r : Row) where
+  pub row-too-many : 500 ≤ p .rows → 6 ≡ firstHolds (rowChecks h p r)
+  unfolding firstHolds rowChecks
+  row-too-many k = rw (le-leb 500 (p .rows) k) refl
+
+  module _ (few : p .rows < 500) where
+    pub row-outside : rowFits h r ≡ false → 7 ≡ firstHolds (rowChecks h p r)
+    unfolding firstHolds rowChecks
+    row-outside e = rw (lt-leb 500 (p .rows) few, e) refl
+
+    module _ (fits : rowFits h r ≡ true) where
+      pub row-disordered : outOfOrder h (p .last) (r .head) ≡ true → 8 ≡ firstHolds (rowChecks h p r)
+      unfolding firstHolds rowChecks
+      row-disordered e = rw (lt-leb 500 (p .rows) few, fits, e) refl
+
+      module _ (order : outOfOrder h (p .last) (r .head) ≡ false) where
+        pub row-by-closure : (t : Bool) → leavesOpen h (p .last) (r .head) ≡ t → cond t 9 0 ≡ firstHolds (rowChecks h p r)
+        unfolding firstHolds rowChecks
+        row-by-closure t e = rw (lt-leb 500 (p .rows) few, fits, order, e) refl
+
+-- ---- the number of the end
+
+module _ (h : Hull) (p : Progress) (count : ℕ) where
+  pub end-miscounts : (count ≡ p .rows → ⊥) → 6 ≡ firstHolds (endChecks h p count)
+  unfolding firstHolds endChecks
+  end-miscounts f = rw (ne-eqb count (p .rows) f) refl
+
+  pub end-by-closure : count ≡ p .rows → (t : Bool) → endsOpen h (p .last) ≡ t → cond t 9 0 ≡ firstHolds (endChecks h p count)
+  unfolding firstHolds endChecks
+  end-by-closure e t f = rw (eq-eqb count (p .rows) e, f) refl
+
+-- ---- a frame by its number
+
+module _ (h : Hull) (p : Progress) (head to : RowHead) (results from : List Finding) (k : ℕ) (e : head ≡ to) (f : results ≡ from)
+    (g : k ≡ firstHolds (rowChecks h p (record { head = head; results = results }))) where
+  given : k ≡ firstHolds (rowChecks h p (record { head = to; results = from }))
+  given = g ∙ rw (e, f) refl
+
+  pub row-wrong : (k ≡ 0 → ⊥) → Frame.Wrong k ≡ rowJudged h p (record { head = to; results = from })
+  unfolding rowJudged
+  row-wrong n = rw (← given, ne-eqb k 0 n) refl
+
+  pub row-right : k ≡ 0 → Frame.Row head ≡ rowJudged h p (record { head = to; results = from })
+  unfolding rowJudged
+  row-right n = rw (← given, eq-eqb k 0 n, e) refl
+
+module _ (h : Hull) (p : Progress) (count n : ℕ) (k : ℕ) (e : count ≡ n) (g : k ≡ firstHolds (endChecks h p count)) where
+  counted : k ≡ firstHolds (endChecks h p n)
+  counted = g ∙ rw e refl
+
+  pub end-wrong : (k ≡ 0 → ⊥) → Frame.Wrong k ≡ endJudged h p n
+  unfolding endJudged
+  end-wrong f = rw (← counted, ne-eqb k 0 f) refl
+
+  pub end-right : k ≡ 0 → Frame.End count ≡ endJudged h p n
+  unfolding endJudged
+  end-right f = rw (← counted, eq-eqb k 0 f, e) refl
+
+-- ---- a frame by its bytes, of kind k and with n of them
+
+module _ (bs : List ℕ) (k : ℕ) (e : k ≡ kindOf bs) (n : length bs ≡ frameLength k) (h : Hull) (p : Progress) (r : Frame) where
+  pub frame-row : 2 ≤ k → k ≤ 3 → r ≡ rowJudged h p (record { head = headOf k (part bs k e n); results = resultsOf k (part bs k e n) }) → r ≡ frameJudged h p bs
+  unfolding frameJudged
+  frame-row a b g = g ∙ rw (right-row bs k e n a b, rest-of bs 1, e, rw e at (row-kind k a b)) refl
+
+  pub frame-end : k ≡ 15 → r ≡ endJudged h p (wordAt (part bs k e n) 0) → r ≡ frameJudged h p bs
+  unfolding frameJudged
+  frame-end f g = g ∙ rw (right-end bs k e n f, rest-of bs 1, ← e, f) refl
+
+pub frame-wrong : (h : Hull) (p : Progress) (bs : List ℕ) → wrongFrame bs ≡ true → Frame.Wrong 3 ≡ frameJudged h p bs
+unfolding frameJudged
+frame-wrong h p bs e = rw e refl
+
+-- ---- a line
+
+module _ (h : Hull) (p : Progress) (l : Line) where
+  pub line-after-end : p .ended ≡ true → Frame.Wrong 10 ≡ judged h p l
+  unfolding judged firstHolds lineChecks
+  line-after-end e = rw e refl
+
+  module _ (going : p .ended ≡ false) where
+    pub line-badly : badlyWritten l ≡ true → Frame.Wrong 2 ≡ judged h p l
+    unfolding judged firstHolds lineChecks
+    line-badly e = rw (going, e) refl
+
+    number-of-frame : badlyWritten l ≡ false → firstHolds (lineChecks h p l)
+        ≡ firstHolds ((3 when wrongFrame (pairs (l .text))) ∷ cond (isRow (kindOf (pairs (l .text)))) (rowChecks h p (rowOf (pairs (l .text)))) (endChecks h p (countOf (pairs (l .text)))))
+    unfolding lineChecks
+    number-of-frame e = first-passed 10 (p .ended) _ going ∙ first-passed 2 (badlyWritten l) _ e
+
+    pub line-by-frame : badlyWritten l ≡ false → frameJudged h p (pairs (l .text)) ≡ judged h p l
+    unfolding judged firstHolds frameJudged rowJudged endJudged frameOf
+    line-by-frame e = rw (number-of-frame e) (by (wrongFrame (pairs (l .text))) (isRow (kindOf (pairs (l .text)))))
+      where
+        by : (t u : Bool) →
+            cond t (Frame.Wrong 3) (cond u (rowJudged h p (rowOf (pairs (l .text)))) (endJudged h p (countOf (pairs (l .text)))))
+            ≡ unlessWrong (cond t 3 (firstHolds (cond u (rowChecks h p (rowOf (pairs (l .text)))) (endChecks h p (countOf (pairs (l .text)))))))
+            (cond u (Frame.Row (rowOf (pairs (l .text)) .head)) (Frame.End (countOf (pairs (l .text)))))
+        by true u = refl
+        by false true = refl
+        by false false = refl
+
+-- ---- a line by its text, as the code decodes it
+
+module _ (h : Hull) (p : Progress) (text : List ℕ) (going : p .ended ≡ false) where
+  pub line-not-closed : Frame.Wrong 2 ≡ judged h p (record { text = text; closed = false })
+  line-not-closed = line-badly h p _ going (unfold badlyWritten in or-true (not (proper text)))
+
+  pub line-no-digits : proper text ≡ false → Frame.Wrong 2 ≡ judged h p (record { text = text; closed = true })
+  line-no-digits e = line-badly h p _ going (unfold badlyWritten in rw e refl)
+
+  module _ (n : ℕ) (w : writtenOf text ≡ Bytes n) where
+    well : badlyWritten (record { text = text; closed = true }) ≡ false
+    unfolding badlyWritten
+    well = rw (well-written text n w .0) refl
+
+    pub line-too-long : 25 < n → Frame.Wrong 3 ≡ judged h p (record { text = text; closed = true })
+    line-too-long l =
+        frame-wrong h p (pairs text) (frame-too-long (pairs text) (omega (arith, well-written text n w .1)))
+        ∙ line-by-frame h p (record { text = text; closed = true }) going well
+
+    pub line-decoded : (bs : List ℕ) (r : Frame) → bs ≡ pairs text → r ≡ frameJudged h p bs → r ≡ judged h p (record { text = text; closed = true })
+    line-decoded bs r e g = g ∙ rw e (line-by-frame h p (record { text = text; closed = true }) going well)

@@ -1,0 +1,74 @@
+-- `judge_frame` meets its contract. Assumes nothing.
+use mathlib.Core.Path.{sym, _∙_}
+use denote.Ref.{now}
+use Rattle.rowlines.proofs.CodeFrames.{wrong-length, wrong-kind, results-fit}
+use Rattle.judging.proofs.CodeJudging.{frame-wrong, frame-row, frame-end}
+use borrow.Author.Needs.{needs}
+use native.Mathlib.Omega.{arith}
+use Rattle.judging.proofs.judge_frame.Statement.{statement}
+use Rattle.judging.proofs.judge_frame.Tie as tie
+
+byte-at-requires : tie.Need-byte-at-requires
+byte-at-requires c κs = search needs
+
+frame-length-requires : tie.Need-frame-length-requires
+frame-length-requires c κs = search needs
+
+returns : tie.Need-returns
+returns c = frame-wrong _ _ _ (wrong-length (now (c .before .before .before .before .args .frame)) _ (c .before .before .byte-at .ensures .0) (λ f. c .if1 .taken (f ∙ sym (c .before .frame-length .ensures))))
+
+sub-judge-end : tie.Need-sub-judge-end
+sub-judge-end c = search needs
+
+part-judge-end-start : tie.Need-part-judge-end-start
+part-judge-end-start c = search needs
+
+part-judge-end-end : tie.Need-part-judge-end-end
+part-judge-end-end c = search needs
+
+judge-end-requires : tie.Need-judge-end-requires
+judge-end-requires c κs = search needs
+
+sub-judge-row : tie.Need-sub-judge-row
+sub-judge-row c = search needs
+
+part-judge-row-start : tie.Need-part-judge-row-start
+part-judge-row-start c = search needs
+
+part-judge-row-end : tie.Need-part-judge-row-end
+part-judge-row-end c = search needs
+
+judge-row-requires : tie.Need-judge-row-requires
+judge-row-requires c κs = results-fit (now (c .before .before .before .before .before .before .before .before .args .frame)) _ (c .before .before .before .before .before .before .byte-at .ensures .0) (c .before .before .before .before .if1 .left ∙ c .before .before .before .before .before .frame-length .ensures) (omega arith) (omega arith)
+
+returns-2 : tie.Need-returns-2
+returns-2 c = frame-end (now (c .before .before .before .before .before .before .before .args .frame)) _ (c .before .before .before .before .before .byte-at .ensures .0) (c .before .before .before .if1 .left ∙ c .before .before .before .before .frame-length .ensures) _ _ _ (omega arith) (c .judge-end .ensures)
+
+returns-3 : tie.Need-returns-3
+returns-3 c = frame-row (now (c .before .before .before .before .before .before .before .before .before .args .frame)) _ (c .before .before .before .before .before .before .before .byte-at .ensures .0) (c .before .before .before .before .before .if1 .left ∙ c .before .before .before .before .before .before .frame-length .ensures) _ _ _ (omega arith) (omega arith) (c .judge-row .ensures)
+
+returns-4 : tie.Need-returns-4
+returns-4 c = frame-wrong _ _ _ (wrong-kind (now (c .before .before .before .before .before .before .args .frame)) _ (c .before .before .before .before .byte-at .ensures .0) (λ f. omega arith) (λ f. omega arith) (λ f. omega arith))
+
+returns-5 : tie.Need-returns-5
+returns-5 c = frame-wrong _ _ _ (wrong-kind (now (c .before .before .before .before .before .before .before .args .frame)) _ (c .before .before .before .before .before .byte-at .ensures .0) (λ f. omega arith) (λ f. omega arith) (λ f. omega arith))
+
+pub judge-frame-spec : {M : Type 1} → statement M
+judge-frame-spec =
+    tie.close
+    (tie.spec
+    byte-at-requires
+    frame-length-requires
+    returns
+    sub-judge-end
+    part-judge-end-start
+    part-judge-end-end
+    judge-end-requires
+    sub-judge-row
+    part-judge-row-start
+    part-judge-row-end
+    judge-row-requires
+    returns-2
+    returns-3
+    returns-4
+    returns-5)

@@ -1,0 +1,47 @@
+-- 01, "Penetration", with its rounding: damage within a span and within a depth b of a ship of breadth B, in billionths. Assumes nothing.
+use Prim.Native.Nat.{ℕ, _+_, _-_, _*_, _/_, _^_}
+use mathlib.Core.Bool.{cond}
+use lib.Dec.{leb}
+use Rattle.laws.specs.Rounding.{ceil}
+use Rattle.records.specs.declared.Ends.{Ends}
+use Rattle.numbers.specs.Figures.{portionOf, halvesOf}
+use Rattle.solas.specs.Span.{Touch, neither, one, both, touch}
+use Rattle.solas.specs.Penetration.{G1, G3}
+use Rattle.spans.specs.Rounded.{endsOf}
+use Rattle.penetration.specs.Figures.{plus, minus}
+use Rattle.spans.specs.Span.{pEnds, PEnds}
+
+-- "G1, G3 and p go to billionths"
+unfoldable pub G1Ends : ℕ → ℕ → Ends
+G1Ends B b = endsOf (G1 B b)
+
+unfoldable pub G3Ends : ℕ → ℕ → Ends
+G3Ends B b = endsOf (G3 B b)
+
+-- x·G1/L, "rounded the same way from G1's own end"
+unfoldable pub partEnds : ℕ → ℕ → ℕ → ℕ → Ends
+partEnds L B x b = portionOf x (G1Ends B b) L
+
+-- G of a span of length x that touches so many ends; "each half is rounded in the direction that widens G, G3/2 before it is subtracted"
+abbrev pub GEndsAt : Touch → ℕ → ℕ → ℕ → ℕ → Ends
+GEndsAt both L B x b = G1Ends B b
+GEndsAt one L B x b =
+    cond (leb (15 * B * x) (b * L)) (halvesOf (plus (pEnds L x) (partEnds L B x b))) (minus (partEnds L B x b) (halvesOf (G3Ends B b)))
+GEndsAt neither L B x b = cond (leb (15 * B * x) (b * L)) (pEnds L x) (minus (partEnds L B x b) (G3Ends B b))
+
+unfoldable pub GEnds : ℕ → ℕ → ℕ → ℕ → ℕ → Ends
+GEnds L B aft fwd b = GEndsAt (touch L aft fwd) L B (fwd - aft) b
+
+-- C is c/d
+unfoldable pub c : ℕ → ℕ → ℕ
+c B b = 16 * b * B - 12 * b ^ 2
+
+unfoldable pub d : ℕ → ℕ
+d B = 5 * B ^ 2
+
+-- "Q's ends come from those of P and G with C exact, rounded once"
+unfoldable pub mixed : ℕ → ℕ → Ends → Ends → Ends
+mixed c d P G = record { lower = (P .lower * c + G .lower * (d - c)) / d; upper = ceil (P .upper * c + G .upper * (d - c)) d }
+
+unfoldable pub QEnds : ℕ → ℕ → ℕ → ℕ → ℕ → Ends
+QEnds L B aft fwd b = mixed (c B b) (d B) (PEnds L aft fwd) (GEnds L B aft fwd b)

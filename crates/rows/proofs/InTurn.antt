@@ -1,0 +1,173 @@
+-- The rows worked through in turn: after some of them, what is known and what is left come to what all of them come to. Assumes nothing.
+use Prim.Native.Nat.{ℕ, zero, suc, _+_, _-_, _*_, _^_, _≤_, _<_}
+use mathlib.Core.Path.{_≡_, refl, sym, _∙_, ap, subst}
+use mathlib.Core.List.{List, [], _∷_, _++_, append-assoc, append-nil}
+use native.Mathlib.Numerals.{add-one}
+use native.Mathlib.Nat.{zero-add}
+use native.Mathlib.Omega.{arith}
+use lib.ListN.{length, drop, set, length-set}
+use lib.Seq.{sets, sets-eq}
+use Rattle.records.specs.declared.Hull.{Hull}
+use Rattle.records.specs.declared.Trio.{Trio}
+use Rattle.solas.specs.Count.{added, taken}
+use Rattle.solas.specs.Index.{draughts}
+use Rattle.chances.specs.Share.{withinEnds, sumsOf, lowest, highest, rowOf, rowEnds}
+use Rattle.indices.specs.Index.{partials, plus, Share, Given, Within}
+use Rattle.indices.proofs.Rows.{row-weights}
+use Rattle.indices.proofs.Sums.{partials-snoc, row-within, plus-within, none-within, within-wider}
+use Rattle.casefile.specs.declared.RowPlace.{RowPlace}
+use Rattle.casefile.specs.Record.{Row}
+use Rattle.casefile.specs.Answer.{rowAt}
+use Rattle.casefile.specs.Walk.{rowsFrom}
+use Rattle.rows.specs.declared.Standing.{Standing}
+use Rattle.rows.specs.declared.Running.{Running}
+use Rattle.rows.specs.Standing.{nowhere, stands}
+use Rattle.rows.specs.Work.{shareAt, addsAt, sharesFrom, addsFrom}
+use Rattle.rows.specs.Running.{begun, entered, Stood, Follow, Ready}
+use Rattle.rows.specs.Work.{numbers}
+
+-- ---- how many there are
+
+pub length-rows : (k : ℕ) (f : List ℕ) (at : ℕ) → length (rowsFrom k f at) ≡ k
+unfolding rowsFrom
+length-rows zero f at = refl
+length-rows (suc k) f at = ap suc (length-rows k f (rowAt f at .next))
+
+pub length-numbers : (h : Hull) (y : Standing) (rs : List Row) → length (numbers (sharesFrom h y rs)) ≡ 2 * length rs
+unfolding sharesFrom
+length-numbers h y [] = refl
+length-numbers h y (r ∷ rs) = omega (arith, length-numbers h (stands y (r .head)) rs)
+
+-- before the first row there is no share
+no-share : (h : Hull) → record { lower = 0; upper = 0 } ≡ shareAt h nowhere
+unfolding shareAt rowEnds rowOf lowest highest sumsOf added taken withinEnds
+no-share h = refl
+
+-- ---- what is known of some rows, with what is left, comes to what all of them come to
+
+module _ (h : Hull) (f : List ℕ) (from rows : ℕ) (first : List ℕ) where
+  abbrev left : ℕ → ℕ → List Row
+  left i at = rowsFrom (rows - i) f at
+
+  abbrev all : List Row
+  all = rowsFrom rows f from
+
+  pub record Reached (sheet : List ℕ) (s : Running) (at i : ℕ) : Type 0 where
+    pub within : i ≤ rows
+    pub long : length sheet ≡ length first
+    pub follow : Follow h (s .standing) (left i at)
+    pub share : s .share ≡ shareAt h (s .standing)
+    pub small : Within (i * 10 ^ 9) (s .sums)
+    pub done : List Trio
+    pub sums : s .sums ≡ partials done
+    pub added : done ++ addsFrom h (s .standing) (left i at) ≡ addsFrom h nowhere all
+    pub written : sets sheet (2 * i) (numbers (sharesFrom h (s .standing) (left i at))) ≡ sets first 0 (numbers (sharesFrom h nowhere all))
+
+  -- before the first row
+  pub starts : Follow h nowhere all → {s : Running} → s ≡ begun → Reached first s from 0
+  unfolding begun
+  starts w e =
+      let whole : rows - 0 ≡ rows = omega arith in
+      let front : 2 * 0 ≡ 0 = omega arith in
+      let none : 0 * 10 ^ 9 ≡ 0 = omega arith in
+      rw e
+      (record {
+        within = omega arith;
+        long = refl;
+        follow = rw whole w;
+        share = no-share h;
+        small = rw none none-within;
+        done = [];
+        sums = refl;
+        added = rw whole refl;
+        written = rw (whole, front) refl;
+      })
+
+  -- ---- one row more
+
+  module _ (sheet : List ℕ) (s : Running) (at i : ℕ) (g : Reached sheet s at i) (more : i < rows) where
+    abbrev row : Row
+    row = record { head = rowAt f at .head; results = rowAt f at .results }
+
+    abbrev there : Standing
+    there = stands (s .standing) (rowAt f at .head)
+
+    abbrev others : List Row
+    others = rowsFrom (rows - (i + 1)) f (rowAt f at .next)
+
+    next-is : left i at ≡ row ∷ others
+    unfolding rowsFrom
+    next-is = let e : rows - i ≡ suc (rows - (i + 1)) = omega arith in rw e refl
+
+    pub may-stand : Stood h there × Given (rowAt f at .results) × Follow h there others
+    may-stand = subst (Follow h (s .standing)) next-is (g .follow)
+
+    pub may-enter : {t ds : List ℕ} {p : RowPlace} → Ready h t → ds ≡ draughts (h .deepest) (h .light) → p ≡ rowAt f at → rows ≤ 500 →
+        Ready h t × (ds ≡ draughts (h .deepest) (h .light)) × Stood h (stands (s .standing) (p .head)) × Given (p .results) × (s .share ≡ shareAt h (s .standing)) × Within (2 ^ 61) (s .sums)
+    may-enter r d e few =
+        (r, d, rw e (may-stand .0), rw e (may-stand .1), g .share, within-wider (omega arith) (g .small))
+
+    module _ (ready : (y : Standing) → Stood h y → Share (shareAt h y)) {p : RowPlace} {t : Running} {now : List ℕ}
+        (found : p ≡ rowAt f at) (step : t ≡ entered h s (p .head) (p .results)) (put : now ≡ set (set sheet (2 * i) (t .share .lower)) (2 * i + 1) (t .share .upper)) where
+      abbrev adds : Trio
+      adds = addsAt h there (rowAt f at .results)
+
+      after : t ≡ entered h s (rowAt f at .head) (rowAt f at .results)
+      after = rw (← found) step
+
+      stands-there : t .standing ≡ there
+      unfolding entered
+      stands-there = ap (λ u. u .standing) after
+
+      share-there : t .share ≡ shareAt h there
+      unfolding entered
+      share-there = ap (λ u. u .share) after
+
+      sums-there : t .sums ≡ plus (s .sums) adds
+      unfolding entered
+      sums-there = ap (λ u. u .sums) after
+
+      adds-small : Within (10 ^ 9) adds
+      unfolding addsAt
+      adds-small = row-within (ready there (may-stand .0)) (row-weights (there .below) (there .head .height) (draughts (h .deepest) (h .light)) (there .head .kind) (may-stand .1))
+
+      pub goes-on : Reached now t (p .next) (i + 1)
+      unfolding addsFrom sharesFrom
+      goes-on =
+          let place : 2 * (i + 1) ≡ suc (suc (2 * i)) = omega arith in
+          let adding : addsFrom h (s .standing) (left i at) ≡ adds ∷ addsFrom h there others = rw next-is refl in
+          let shared : sharesFrom h (s .standing) (left i at) ≡ shareAt h there ∷ sharesFrom h there others = rw next-is refl in
+          let put′ : now ≡ set (set sheet (2 * i) (shareAt h there .lower)) (suc (2 * i)) (shareAt h there .upper) = put ∙ rw (add-one, share-there) refl in
+          let far : (i + 1) * 10 ^ 9 ≡ i * 10 ^ 9 + 10 ^ 9 = omega arith in
+          record {
+            within = omega arith;
+            long = ap length put ∙ length-set (set sheet (2 * i) (t .share .lower)) (2 * i + 1) (t .share .upper) ∙ length-set sheet (2 * i) (t .share .lower) ∙ g .long;
+            follow = rw (stands-there, found) (may-stand .2);
+            share = share-there ∙ ap (shareAt h) (sym stands-there);
+            small = rw (far, sums-there) (plus-within (g .small) adds-small);
+            done = g .done ++ adds ∷ [];
+            sums = sums-there ∙ ap (λ u. plus u adds) (g .sums) ∙ sym (partials-snoc (g .done) adds);
+            added = rw (stands-there, found) (append-assoc (g .done) (adds ∷ []) (addsFrom h there others) ∙ ap (λ u. g .done ++ u) (sym adding) ∙ g .added);
+            written = rw (stands-there, found, place, put′) (ap (λ u. sets sheet (2 * i) (numbers u)) (sym shared) ∙ g .written);
+          }
+
+  -- ---- after the last row
+
+  module _ (sheet : List ℕ) (s : Running) (at i : ℕ) (g : Reached sheet s at i) (last : rows ≤ i) where
+    none-left : left i at ≡ []
+    unfolding rowsFrom
+    none-left = let e : rows - i ≡ 0 = omega arith in rw e refl
+
+    pub sums-are : s .sums ≡ partials (addsFrom h nowhere all)
+    unfolding addsFrom
+    sums-are =
+        let none : addsFrom h (s .standing) (left i at) ≡ [] = rw none-left refl in
+        g .sums ∙ ap partials (sym (append-nil (g .done)) ∙ ap (λ u. g .done ++ u) (sym none) ∙ g .added)
+
+    pub sheet-is : 2 * rows ≤ length first → sheet ≡ numbers (sharesFrom h nowhere all) ++ drop (2 * rows) first
+    unfolding sharesFrom
+    sheet-is room =
+        let none : sharesFrom h (s .standing) (left i at) ≡ [] = rw none-left refl in
+        let text : List ℕ = numbers (sharesFrom h nowhere all) in
+        let long : length text ≡ 2 * rows = length-numbers h nowhere all ∙ ap (λ k. 2 * k) (length-rows rows f from) in
+        ap (λ u. sets sheet (2 * i) (numbers u)) (sym none) ∙ g .written ∙ sets-eq text first 0 (omega (arith, long)) ∙ ap (λ k. text ++ drop k first) (zero-add (length text) ∙ long)

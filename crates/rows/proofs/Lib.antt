@@ -1,0 +1,3 @@
+pub mod Stands
+pub mod Entering
+pub mod InTurn

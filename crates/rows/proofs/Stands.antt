@@ -1,0 +1,56 @@
+-- Where a row stands after another: in its layer, in a later layer of its group, or in another group; and rows of one layer have one share. Assumes nothing.
+use Prim.Native.Nat.{ℕ}
+use mathlib.Core.Path.{_≡_, refl, sym, _∙_, ap}
+use mathlib.Core.Bool.{Bool, true, false, cond, _&&_}
+use lib.Dec.{eqb}
+use borrow.Author.Tests.{eqb-true, eq-eqb, ne-eqb}
+use Rattle.records.specs.declared.Hull.{Hull}
+use Rattle.records.specs.declared.Ends.{Ends}
+use Rattle.records.specs.declared.RowHead.{RowHead}
+use Rattle.frames.proofs.Tests.{both}
+use Rattle.casefile.specs.Order.{sameGroup, sameLayer}
+use Rattle.rows.specs.declared.Standing.{Standing}
+use Rattle.rows.specs.Standing.{stands}
+use Rattle.rows.specs.Work.{shareAt}
+
+-- ---- the three ways to stand
+
+module _ (y : Standing) (r : RowHead) where
+  abbrev pub inGroup : Bool
+  inGroup = eqb (r .first) (y .head .first) && eqb (r .count) (y .head .count)
+
+  pub in-layer : inGroup ≡ true → r .depth ≡ y .head .depth → record { head = r; before = y .before; below = y .head .height } ≡ stands y r
+  unfolding stands sameLayer sameGroup
+  in-layer g d = rw (g, eq-eqb (r .depth) (y .head .depth) d) refl
+
+  pub in-next-layer : inGroup ≡ true → (r .depth ≡ y .head .depth → ⊥) → record { head = r; before = y .head .depth; below = 0 } ≡ stands y r
+  unfolding stands sameLayer sameGroup
+  in-next-layer g d = rw (g, ne-eqb (r .depth) (y .head .depth) d) refl
+
+  pub in-new-group : inGroup ≡ false → record { head = r; before = 0; below = 0 } ≡ stands y r
+  unfolding stands sameLayer sameGroup
+  in-new-group g = rw g refl
+
+  pub head-is : stands y r .head ≡ r
+  unfolding stands
+  head-is = by (sameLayer (y .head) r) (sameGroup (y .head) r)
+    where
+      by : (s t : Bool) →
+          cond {A = Standing} s (record { head = r; before = y .before; below = y .head .height }) (cond t (record { head = r; before = y .head .depth; below = 0 }) (record { head = r; before = 0; below = 0 })) .head ≡ r
+      by true t = refl
+      by false true = refl
+      by false false = refl
+
+-- ---- a layer has one share
+
+pub one-share : (h : Hull) (y z : Standing) (share : Ends) → share ≡ shareAt h y → z ≡ stands y (z .head) →
+    (eqb (z .head .first) (y .head .first) && eqb (z .head .count) (y .head .count) && eqb (z .head .depth) (y .head .depth)) ≡ true → share ≡ shareAt h z
+unfolding shareAt
+one-share h y z share e s t =
+    let (g, d) = both (inGroup y (z .head)) (eqb (z .head .depth) (y .head .depth)) t in
+    let (a, n) = both (eqb (z .head .first) (y .head .first)) (eqb (z .head .count) (y .head .count)) g in
+    let first : z .head .first ≡ y .head .first = eqb-true (z .head .first) (y .head .first) a in
+    let count : z .head .count ≡ y .head .count = eqb-true (z .head .count) (y .head .count) n in
+    let depth : z .head .depth ≡ y .head .depth = eqb-true (z .head .depth) (y .head .depth) d in
+    let before : z .before ≡ y .before = ap (λ x. x .before) (s ∙ sym (in-layer y (z .head) g depth)) in
+    e ∙ rw (first, count, depth, before) refl

@@ -1,0 +1,38 @@
+-- What each row of a case comes to: its share's ends, and what it adds at the three draughts. Assumes nothing.
+use Prim.Native.Nat.{ℕ}
+use mathlib.Core.List.{List, [], _∷_}
+use Rattle.records.specs.declared.Hull.{Hull}
+use Rattle.records.specs.declared.Ends.{Ends}
+use Rattle.records.specs.declared.Finding.{Finding}
+use Rattle.records.specs.declared.Trio.{Trio}
+use Rattle.solas.specs.Index.{draughts}
+use Rattle.spans.specs.Hull.{shipOf}
+use Rattle.chances.specs.Share.{rowEnds}
+use Rattle.survival.specs.Height.{rowVs}
+use Rattle.survival.specs.Survival.{survivalsOf}
+use Rattle.indices.specs.Index.{rowAdds}
+use Rattle.casefile.specs.Record.{Row}
+use Rattle.rows.specs.declared.Standing.{Standing}
+use Rattle.rows.specs.Standing.{stands}
+
+-- the share of the layer in which a row stands
+unfoldable pub shareAt : Hull → Standing → Ends
+shareAt h y = rowEnds (shipOf h) (y .head .first) (y .head .count) (y .before) (y .head .depth)
+
+-- what the row there adds, with its results
+unfoldable pub addsAt : Hull → Standing → List Finding → Trio
+addsAt h y fs = rowAdds (shareAt h y) (rowVs (y .below) (y .head .height) (draughts (h .deepest) (h .light))) (survivalsOf (y .head .kind) fs)
+
+-- the rows in turn, after one that stood at y
+unfoldable pub sharesFrom : Hull → Standing → List Row → List Ends
+sharesFrom h y [] = []
+sharesFrom h y (r ∷ rs) = let z = stands y (r .head) in shareAt h z ∷ sharesFrom h z rs
+
+unfoldable pub addsFrom : Hull → Standing → List Row → List Trio
+addsFrom h y [] = []
+addsFrom h y (r ∷ rs) = let z = stands y (r .head) in addsAt h z (r .results) ∷ addsFrom h z rs
+
+-- "each row's share, lower then upper, in row order"
+abbrev pub numbers : List Ends → List ℕ
+numbers [] = []
+numbers (e ∷ es) = e .lower ∷ e .upper ∷ numbers es

@@ -1,0 +1,22 @@
+// The rows of a file in turn: where each stands, its share on the sheet, and the sums of what they add.
+use records::Ends;
+use records::RowHead;
+use records::Trio;
+
+mod row; // a row after those before it
+pub mod sheet; // the rows in turn
+
+// A row's head, the penetration of the layer before its own (0 in the group's first), and the height of the row below it (0 in
+// the layer's first).
+pub struct Standing {
+    pub head: RowHead,
+    pub before: u64,
+    pub below: u64,
+}
+
+// What is known after some rows: where the last of them stood, its share, and what they added together at the three draughts.
+pub struct Running {
+    pub standing: Standing,
+    pub share: Ends,
+    pub sums: Trio,
+}

@@ -1,0 +1,69 @@
+// The rows of a file in turn: each one's share on the sheet, and the sums of what they add.
+ghost use mathlib.Core.Path.{_≡_};
+ghost use mathlib.Core.List.{_++_};
+ghost use Prim.Native.Nat.{_*_, _^_, _≤_, _<_};
+ghost use lib.ListN.{length, drop};
+ghost use Rattle.indices.specs.Index.{partials, Within};
+ghost use Rattle.casefile.specs.Walk.{rowsFrom};
+ghost use Rattle.rows.specs.Standing.{nowhere};
+ghost use Rattle.rows.specs.Work.{sharesFrom, addsFrom, numbers};
+ghost use Rattle.rows.specs.Running.{begun, Follow, Ready};
+use super::Running;
+use super::Standing;
+use super::row::enter;
+use records::Ends;
+use records::Hull;
+use records::RowHead;
+use records::Trio;
+
+// Before the first row.
+fn begin() -> Running
+    ensures { λ r. ⌜ r ≡ begun ⌝ }
+{
+    let head = RowHead {
+        kind: 0,
+        first: 0,
+        count: 0,
+        depth: 0,
+        height: 0,
+    };
+    let standing = Standing {
+        head,
+        before: 0,
+        below: 0,
+    };
+    let share = Ends { lower: 0, upper: 0 };
+    let sums = Trio {
+        lower: [0, 0, 0],
+        upper: [0, 0, 0],
+    };
+    Running {
+        standing,
+        share,
+        sums,
+    }
+}
+
+// So many rows, the first of which stands at a place: two numbers a row on the sheet.
+pub fn fill(input: &[u8], from: usize, rows: usize, h: Hull, t: &[u64], sheet: &mut [u64]) -> Trio
+    requires { ⌜ Ready h (now t) × ((h .deepest < 2 ^ 32) × (h .light < 2 ^ 32)) × (rows ≤ 500) × (2 * rows ≤ length (now sheet)) × Follow h nowhere (rowsFrom rows (now input) from) ⌝ }
+    ensures { λ r. ⌜ (r ≡ partials (addsFrom h nowhere (rowsFrom rows (now (input .entry)) from))) × Within (500 * 10 ^ 9) r × (now (sheet .exit) ≡ numbers (sharesFrom h nowhere (rowsFrom rows (now (input .entry)) from)) ++ drop (2 * rows) (now (sheet .entry))) ⌝ }
+{
+    let at = survival::height::three_draughts(h.deepest, h.light);
+    let mut s = begin();
+    let mut place = from;
+    let mut i: usize = 0;
+    while i < rows {
+        let p = rowlines::row_at(input, place);
+        let head = p.head;
+        let results = p.results;
+        s = enter(t, h, at, s, head, results);
+        let share = s.share;
+        let k = 2 * i;
+        sheet[k] = share.lower;
+        sheet[k + 1] = share.upper;
+        place = p.next;
+        i += 1;
+    }
+    s.sums
+}

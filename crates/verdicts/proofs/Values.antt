@@ -1,0 +1,24 @@
+-- Document 01, "Proved values" and "One file in full": R and the verdict, as the definitions of this crate give them. Assumes nothing.
+use Prim.Native.Nat.{_*_}
+use mathlib.Core.Path.{_≡_, refl}
+use Rattle.laws.specs.Fraction.{_less_over_, _⊛_}
+use Rattle.records.specs.declared.Ends.{Ends}
+use Rattle.solas.specs.Index.{R, partialMark}
+use Rattle.survival.specs.Ratio.{ratioOf}
+use Rattle.indices.specs.Index.{trio}
+use Rattle.verdicts.specs.Verdict.{reaches, allReach, verdictOf}
+
+-- ---- R, 13/33 and 31/63
+pub required :
+    (ratioOf (R 8000) .num * 33 ≡ ratioOf (R 8000) .den * 13)
+    × (ratioOf (R 10000) .num * 63 ≡ ratioOf (R 10000) .den * 31)
+unfolding R ratioOf _less_over_
+required = (refl, refl)
+
+-- ---- the printed file, whose A and partial indices have the same ends
+abbrev printed : Ends
+printed = record { lower = 0x34243ab9; upper = 0x34243abb }
+
+pub one-file : verdictOf printed (trio printed printed printed) (ratioOf (R 9900)) (ratioOf (partialMark 9900)) ≡ 1
+unfolding R partialMark ratioOf _⊛_ _less_over_ reaches allReach verdictOf
+one-file = refl

@@ -1,0 +1,79 @@
+// The required index by a ship's length, the mark of each partial index, and the verdict from ends that reach them or do not.
+use records::Ends;
+use records::Trio;
+use survival::Ratio;
+ghost use mathlib.Core.Path.{_≡_};
+ghost use Prim.Native.Nat.{_^_, _≤_};
+ghost use Rattle.solas.specs.Index.{R, partialMark};
+ghost use Rattle.survival.specs.Ratio.{Proper, ratioOf};
+ghost use Rattle.verdicts.specs.Verdict.{reaches, allReach, verdictOf};
+
+// What a whole comes to in billionths.
+const WHOLE: u64 = 1_000_000_000;
+
+// R of a ship of so many centimetres.
+pub fn required(length: u64) -> Ratio
+    requires { ⌜ length ≤ 10 ^ 6 ⌝ }
+    ensures { λ r. ⌜ r ≡ ratioOf (R length) ⌝ }
+{
+    let more = length + 2_400;
+    if 10_000 < length {
+        return Ratio {
+            num: more,
+            den: length + 15_200,
+        };
+    }
+    let num = length * more;
+    let den = num + 128_000_000;
+    Ratio { num, den }
+}
+
+// What each partial index must reach: half of R.
+pub fn partial_mark(length: u64) -> Ratio
+    requires { ⌜ length ≤ 10 ^ 6 ⌝ }
+    ensures { λ r. ⌜ r ≡ ratioOf (partialMark length) ⌝ }
+{
+    let whole = required(length);
+    Ratio {
+        num: whole.num,
+        den: whole.den * 2,
+    }
+}
+
+// An end in billionths is not below the mark. No product of an end from 10⁹ on is made: it reaches every mark.
+fn end_reaches(end: u64, mark: Ratio) -> bool
+    requires { ⌜ Proper (10 ^ 9) mark ⌝ }
+    ensures { λ r. ⌜ r ≡ reaches end mark ⌝ }
+{
+    if WHOLE <= end {
+        return true;
+    }
+    WHOLE * mark.num <= end * mark.den
+}
+
+// The end of A reaches R, and those of all partial indices reach their mark.
+fn all_reach(index: u64, partials: [u64; 3], required: Ratio, mark: Ratio) -> bool
+    requires { ⌜ Proper (10 ^ 9) required × Proper (10 ^ 9) mark ⌝ }
+    ensures { λ r. ⌜ r ≡ allReach index partials required mark ⌝ }
+{
+    end_reaches(index, required)
+        & end_reaches(partials[0], mark)
+        & end_reaches(partials[1], mark)
+        & end_reaches(partials[2], mark)
+}
+
+// 1 meets: all lower ends reach their marks. 2 fails: some upper end does not. 3 unsettled: otherwise.
+pub fn verdict(index: Ends, partials: Trio, required: Ratio, mark: Ratio) -> u64
+    requires { ⌜ Proper (10 ^ 9) required × Proper (10 ^ 9) mark ⌝ }
+    ensures { λ r. ⌜ r ≡ verdictOf index partials required mark ⌝ }
+{
+    let lower = partials.lower;
+    let upper = partials.upper;
+    if all_reach(index.lower, lower, required, mark) {
+        return 1;
+    }
+    if !all_reach(index.upper, upper, required, mark) {
+        return 2;
+    }
+    3
+}

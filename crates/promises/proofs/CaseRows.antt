@@ -77,12 +77,12 @@ module _ {h : Hull} (k : Hulled h) (y : Standing) (s : Stood h y) {fs : List Fin
       by (suc (suc zero)) = row-at-most (y .below) (y .head .height) _
       by (suc (suc (suc i))) = omega arith
 
-  sound-row : Sound (rowAt i (exactRow h y fs))
+  pub sound-row : Sound (rowAt i (exactRow h y fs))
   unfolding shareAt
   sound-row =
       record { share = shares-enclosed (shipOf h) (y .head .first) (y .head .count) (y .before) (y .head .depth) layer; factor = sensible }
 
-  close-row : Close 32 (rowAt i (exactRow h y fs))
+  pub close-row : Close 32 (rowAt i (exactRow h y fs))
   unfolding shareAt
   close-row = record { near = shares-near (shipOf h) (y .head .first) (y .head .count) (y .before) (y .head .depth) layer .near; height = low-enough; factor = sensible }
 

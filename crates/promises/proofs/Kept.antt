@@ -114,13 +114,13 @@ module _ (c : Case) (v : Valid c) where
       record {
         meets = meets-is-right rows s required mark p q;
         fails = fails-is-right rows s required mark p q;
-        unsettled = verdict-by-ends (attainedOf (exact.partialsOf rows)) (exact.partialsOf rows) required mark p q .three;
+        by-ends = verdict-by-ends (attainedOf (exact.partialsOf rows)) (exact.partialsOf rows) required mark p q;
         no-other = one-of-three (attainedOf (exact.partialsOf rows)) (exact.partialsOf rows) (ratioOf required) (ratioOf mark);
       }
 
   kept : Kept c (answer c)
-  unfolding answer
-  kept = rw (sums-are c) (record { enclosure = enclosed; width = wide; chances = totals; verdict = judged })
+  unfolding answer figures
+  kept = rw (sums-are c) (record { no-line = refl; rows = refl; enclosure = enclosed; width = wide; chances = totals; verdict = judged })
 
 pub promise : Promise
 promise f c e = kept c (sound f c e .1)

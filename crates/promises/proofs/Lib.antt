@@ -6,6 +6,7 @@ pub mod ListedGroups
 pub mod Chances
 pub mod Widths
 pub mod Kept
+pub mod Sheet
 pub mod Service
 pub mod Fits
 pub mod OfSolas

@@ -1,14 +1,11 @@
 -- "One file in full" by computation: the file is read, its case is worked out, and its answer is printed. Assumes nothing.
-use Prim.Native.Nat.{ℕ}
 use mathlib.Core.Path.{_≡_, refl, _∙_, ap}
-use mathlib.Core.List.{List, [], _∷_}
 use Rattle.laws.specs.Fraction.{_less_over_, _⊹_, _⊛_}
 use Rattle.laws.specs.Rounding.{ceil}
 use Rattle.laws.specs.Lists.{tabulate}
 use Rattle.laws.specs.Bytes.{bytes}
 use Rattle.numbers.specs.Figures.{billionthsOf, portionOf, halvesOf}
 use Rattle.numbers.specs.Root.{withDigits, rootDown, rootUp}
-use Rattle.records.specs.declared.Finding.{Finding}
 use Rattle.solas.specs.Span.{touch, p, P}
 use Rattle.solas.specs.Penetration.{G1, G3}
 use Rattle.solas.specs.Count.{added, taken}
@@ -28,7 +25,6 @@ use Rattle.verdicts.specs.Verdict.{reaches, allReach, verdictOf}
 use Rattle.frames.specs.Lines.{lines}
 use Rattle.frames.specs.Hex.{digitOf, pairOf, pairs, digitsOnly, proper, badlyWritten, digit, hex, lineOf}
 use Rattle.frames.specs.Fields.{wordAt}
-use Rattle.casefile.specs.Record.{Row, Case}
 use Rattle.casefile.specs.Layout.{frameLength, placeOf, hullOf, headOf, findingOf, resultsOf}
 use Rattle.casefile.specs.Limits.{between, sizesFit, risingTo, zonesFit, headFits, findingFits, findingsFit, rowFits}
 use Rattle.casefile.specs.Order.{atTop, closesGroup, sameGroup, sameLayer, earlierGroup, outOfOrder, leavesOpen, endsOpen}
@@ -40,31 +36,15 @@ use Rattle.rows.specs.Standing.{stands}
 use Rattle.rows.specs.Work.{shareAt, addsAt, sharesFrom, addsFrom}
 use Rattle.index.specs.Answer.{partialsOf, figures, answer, shares, answered}
 use Rattle.index.specs.Report.{sharesIn, report}
-use Rattle.promises.specs.OneFile.{file, text, OneFileInFull}
+use Rattle.promises.specs.OneFile.{printedCase, text, OneFileIsRead, OneFileInFull}
 
--- 99 m long, 16 m broad, draughts of 6 and 4 m, two zones that meet at 15 m; three groups, each with one layer of one row
-row : ℕ → ℕ → ℕ → Finding → Row
-row kind a n r = record { head = record { kind = kind; first = a; count = n; depth = 800; height = 18500 }; results = r ∷ r ∷ r ∷ [] }
-
-printedCase : Case
-unfolding row
-printedCase =
-    record {
-      hull = record { length = 9900; breadth = 1600; deepest = 6000; light = 4000; zones = 2; places = 0 ∷ 1500 ∷ 9900 ∷ 0 ∷ 0 ∷ 0 ∷ 0 ∷ 0 ∷ 0 ∷ 0 ∷ 0 ∷ 0 ∷ 0 ∷ 0 ∷ 0 ∷ 0 ∷ 0 ∷ 0 ∷ 0 ∷ 0 ∷ 0 ∷ [] };
-      rows =
-          row 2 1 1 (record { lever = 30; range = 400; heel = 0; given = 0 })
-          ∷ row 3 1 2 (record { lever = 0; range = 0; heel = 0; given = 0 })
-          ∷ row 3 2 1 (record { lever = 0; range = 0; heel = 0; given = 10000 })
-          ∷ [];
-    }
-
-file-read : reading file ≡ accepted printedCase
-unfolding printedCase reading readFrom lines firstHolds hullChecks rowChecks endChecks lineChecks wrongHullFrame wrongFrame wrongZones between sizesFit risingTo zonesFit headFits findingFits findingsFit rowFits
+pub file-read : OneFileIsRead
+unfolding reading readFrom lines firstHolds hullChecks rowChecks endChecks lineChecks wrongHullFrame wrongFrame wrongZones between sizesFit risingTo zonesFit headFits findingFits findingsFit rowFits
     atTop closesGroup sameGroup sameLayer earlierGroup outOfOrder leavesOpen endsOpen frameLength placeOf hullOf headOf findingOf resultsOf digitOf pairOf pairs digitsOnly proper badlyWritten wordAt tabulate
 file-read = refl
 
 case-printed : report (accepted printedCase) ≡ text
-unfolding printedCase report answered answer figures partialsOf shares sharesIn sharesFrom addsFrom addsAt shareAt stands sameGroup sameLayer
+unfolding report answered answer figures partialsOf shares sharesIn sharesFrom addsFrom addsAt shareAt stands sameGroup sameLayer
     rowEnds rowOf lowest highest sumsOf withinEnds added taken QEnds mixed c d PEnds GEnds pEnds partEnds G1Ends G3Ends minus plus rounded.endsOf billionthsOf portionOf halvesOf ceil touch P p G1 G3 _⊹_ _⊛_ _less_over_
     rowVs rowV vAt v dp survivalsOf factorsOf factorOf s⁴ k ratioOf scaledOf roundedOf rootDown rootUp withDigits addsOf rowAdds partials attainedOf R partialMark reaches allReach verdictOf
     printed lineOf figuresFrame refusalFrame shareFrame shareLines endsField partialField partialsField bytes digit hex

@@ -1,10 +1,12 @@
--- Document 01, "One file in full": what `damindex` reads and what it writes, character by character. Assumes nothing.
+-- Document 01, "One file in full": what `damindex` reads and what it writes, character by character, and the case that it is. Assumes nothing.
 use Prim.Native.Nat.{ℕ}
 use Prim.Native.Char.{code}
 use Prim.Native.String.{String, [] as none, _∷_ as _then_}
 use mathlib.Core.Path.{_≡_}
 use mathlib.Core.List.{List, [], _∷_, _++_}
-use Rattle.casefile.specs.Reading.{reading}
+use Rattle.records.specs.declared.Finding.{Finding}
+use Rattle.casefile.specs.Record.{Row, Case}
+use Rattle.casefile.specs.Reading.{accepted, reading}
 use Rattle.index.specs.Report.{report}
 
 -- a line's characters as bytes, closed by a line feed
@@ -26,6 +28,24 @@ text =
     ++ line "82072648b6072648b7"
     ++ line "8203e36aea03e36aec"
     ++ line "823091165e3091165f"
+
+-- 99 m long, 16 m broad, draughts of 6 and 4 m, two zones that meet at 15 m; three groups, each with one layer of one row
+abbrev row : ℕ → ℕ → ℕ → Finding → Row
+row kind a n r = record { head = record { kind = kind; first = a; count = n; depth = 800; height = 18500 }; results = r ∷ r ∷ r ∷ [] }
+
+abbrev pub printedCase : Case
+printedCase =
+    record {
+      hull = record { length = 9900; breadth = 1600; deepest = 6000; light = 4000; zones = 2; places = 0 ∷ 1500 ∷ 9900 ∷ 0 ∷ 0 ∷ 0 ∷ 0 ∷ 0 ∷ 0 ∷ 0 ∷ 0 ∷ 0 ∷ 0 ∷ 0 ∷ 0 ∷ 0 ∷ 0 ∷ 0 ∷ 0 ∷ 0 ∷ 0 ∷ [] };
+      rows =
+          row 2 1 1 (record { lever = 30; range = 400; heel = 0; given = 0 })
+          ∷ row 3 1 2 (record { lever = 0; range = 0; heel = 0; given = 0 })
+          ∷ row 3 2 1 (record { lever = 0; range = 0; heel = 0; given = 10000 })
+          ∷ [];
+    }
+
+abbrev pub OneFileIsRead : Type 0
+OneFileIsRead = reading file ≡ accepted printedCase
 
 abbrev pub OneFileInFull : Type 0
 OneFileInFull = report (reading file) ≡ text

@@ -11,7 +11,7 @@ use Rattle.records.specs.declared.Ends.{Ends}
 use Rattle.solas.specs.Index.{R, partialMark}
 use Rattle.indices.specs.Index.{at}
 use Rattle.indices.specs.Exact.{RowAt, NoneAbove, NoneBelow, weightedSum, Thrice, AtEach, exactA}
-use Rattle.verdicts.specs.Promises.{Meets, Fails, ReachAll, OneShort}
+use Rattle.verdicts.specs.Promises.{ByEnds, ReachAll, OneShort}
 use Rattle.casefile.specs.Record.{Case}
 use Rattle.casefile.specs.Reading.{accepted, reading}
 use Rattle.index.specs.Answer.{answer, answered}
@@ -45,18 +45,18 @@ module _ (c : Case) (r : Answer) where
     pub one : AtDraughts (λ rows ends. (chances rows ≈ whole 1) ↔ AllListed c)
 
   -- ---- 4: '"meets" is never said of a ship that falls short, nor "fails" of one that reaches'. 1 only if A reaches R and each partial index R/2 for all
-  -- lists with no fourth power below; 2 only if one of the four, fixed first, is below its mark for every list with none above; 3 exactly when the ends
-  -- pass neither test; and no other verdict is given
+  -- lists with no fourth power below; 2 only if one of the four, fixed first, is below its mark for every list with none above. 1 exactly when each lower
+  -- end reaches its mark, 2 exactly when not and some upper end is below its mark, 3 exactly when neither; and no other verdict is given
   pub record Verdict : Type 0 where
     pub meets : r .verdict ≡ 1 → (xs : Thrice (List Fraction)) → AtEach NoneBelow (rowsOf c) xs → ReachAll (rowsOf c) (R (c .hull .length)) (partialMark (c .hull .length)) xs
     pub fails : r .verdict ≡ 2 → OneShort (rowsOf c) (R (c .hull .length)) (partialMark (c .hull .length))
-    pub unsettled : (r .verdict ≡ 3) ↔
-        ((Meets (r .attained) (r .partials) (R (c .hull .length)) (partialMark (c .hull .length)) → ⊥)
-        × (Fails (r .attained) (r .partials) (R (c .hull .length)) (partialMark (c .hull .length)) → ⊥))
+    pub by-ends : ByEnds (r .attained) (r .partials) (R (c .hull .length)) (partialMark (c .hull .length)) (r .verdict)
     pub no-other : (r .verdict ≡ 1) ⊎ ((r .verdict ≡ 2) ⊎ (r .verdict ≡ 3))
 
-  -- ---- all four
+  -- ---- all four; and no line, and the file's own row count
   pub record Kept : Type 0 where
+    pub no-line : r .line ≡ 0
+    pub rows : r .rows ≡ length (c .rows)
     pub enclosure : Enclosure
     pub width : Width
     pub chances : Chances

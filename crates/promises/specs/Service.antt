@@ -1,7 +1,7 @@
 -- Demands 1 and 2 of what the entry returns, for any bytes and a sheet of any size: what is accepted, what is refused, and what a refusal leaves. Assumes nothing.
 use Prim.Native.Nat.{ℕ, _*_, _≤_, _<_}
 use mathlib.Core.Path.{_≡_}
-use mathlib.Core.List.{List, List·Memᴰ}
+use mathlib.Core.List.{List}
 use mathlib.Core.Logic.{_↔_}
 use lib.ListN.{length}
 use Rattle.casefile.specs.Record.{Case}
@@ -9,7 +9,7 @@ use Rattle.casefile.specs.Limits.{longestInput}
 use Rattle.casefile.specs.Valid.{Valid}
 use Rattle.casefile.specs.Encode.{encode}
 use Rattle.casefile.specs.Reading.{reading}
-use Rattle.casefile.specs.Refusal.{Refusal, numbers}
+use Rattle.casefile.specs.Refusal.{Refusal}
 use Rattle.index.specs.Answer.{refusal, answered, sheetAfter}
 
 -- the bytes are the file of the case c, which keeps 01's limits and order, and are not too many

@@ -1,21 +1,20 @@
 -- Document 01, "Proved values", as one table, each line as it stands there. Assumes nothing.
 use Prim.Native.Nat.{ℕ}
 use mathlib.Core.Path.{_≡_}
-use mathlib.Core.List.{[], _∷_}
 use Rattle.laws.specs.Fraction.{_over_, whole, _≈_}
-use Rattle.records.specs.declared.Finding.{Finding}
-use Rattle.records.specs.declared.Survival.{Survival}
 use Rattle.solas.specs.Span.{p}
 use Rattle.solas.specs.Penetration.{C, G1}
-use Rattle.solas.specs.Ship.{Ship, abutting}
+use Rattle.solas.specs.Ship.{Ship}
 use Rattle.solas.specs.Share.{rowShare}
 use Rattle.solas.specs.Height.{v}
 use Rattle.solas.specs.Index.{R}
+use Rattle.spans.specs.Hull.{shipOf}
 use Rattle.survival.specs.Survival.{survivalOf}
+use Rattle.promises.specs.OneFile.{printedCase}
 
 -- the ship of "One file in full"
 abbrev pub printedShip : Ship
-printedShip = abutting 9900 1600 2 (0 ∷ 1500 ∷ 9900 ∷ [])
+printedShip = shipOf (printedCase .hull)
 
 -- a lever, a range and a heel that were found give this bottom and top
 abbrev pub gives : ℕ → ℕ → ℕ → ℕ → ℕ → Type 0

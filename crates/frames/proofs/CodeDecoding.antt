@@ -6,10 +6,10 @@ use mathlib.Core.List.{List, [], _∷_}
 use mathlib.Core.Logic.{_⊎_, inl, inr}
 use native.Mathlib.Numerals.{add-one}
 use native.Mathlib.Omega.{arith}
-use lib.Dec.{ltb}
+use lib.Dec.{leb, ltb}
 use lib.ListN.{length, getD, take, drop, set, replicate, length-set, getD-replicate}
 use lib.Seq.{sets, sets-eq, take-at}
-use borrow.Author.Tests.{ltb-true, ltb-false, lt-ltb, le-leb, lt-leb, eq-eqb, ne-eqb}
+use borrow.Author.Tests.{leb-true, ltb-true, ltb-false, lt-ltb, le-leb, lt-leb, eq-eqb, ne-eqb}
 use Rattle.frames.specs.declared.Digit.{Digit}
 use Rattle.frames.specs.declared.Digit.the-variants.{Value, Bad}
 use Rattle.frames.specs.declared.Written.the-variants.{Bytes, Badly}
@@ -22,26 +22,38 @@ use Rattle.frames.proofs.Decode.{pairs-go-on, proper-by-count}
 
 -- ---- a byte by its value as a digit
 
-module _ (b : ℕ) where
-  pub mark-decimal : 48 ≤ b → b ≤ 57 → b - 48 ≡ markOf (digitOf b)
-  unfolding digitOf
-  mark-decimal h k = rw (le-leb 48 b h, le-leb b 57 k) refl
+-- a byte that a range has, or lies below or above
+module _ (low high b v : ℕ) where
+  pub in-range : low ≤ b → b ≤ high → v ≡ cond (leb low b && leb b high) v 16
+  in-range h k = rw (le-leb low b h, le-leb b high k) refl
 
-  pub mark-letter : 97 ≤ b → b ≤ 102 → b - 87 ≡ markOf (digitOf b)
-  unfolding digitOf
-  mark-letter h k = rw (le-leb 48 b (omega arith), lt-leb b 57 (omega arith), le-leb 97 b h, le-leb b 102 k) refl
+  pub below-range : b < low → 16 ≡ cond (leb low b && leb b high) v 16
+  below-range h = rw (lt-leb low b h) refl
 
-  pub mark-below : b < 48 → 16 ≡ markOf (digitOf b)
-  unfolding digitOf
-  mark-below h = rw (lt-leb 48 b h, lt-leb 97 b (omega arith)) refl
+  pub above-range : low ≤ b → high < b → 16 ≡ cond (leb low b && leb b high) v 16
+  above-range h k = rw (le-leb low b h, lt-leb b high k) refl
 
-  pub mark-between : 57 < b → b < 97 → 16 ≡ markOf (digitOf b)
+module _ (b : ℕ) {d l : ℕ} (e : d ≡ cond (leb 48 b && leb b 57) (b - 48) 16) (f : l ≡ cond (leb 97 b && leb b 102) (b - 87) 16) where
+  by-tests : (s t : Bool) → (leb 48 b && leb b 57) ≡ s → (leb 97 b && leb b 102) ≡ t → (d < 16 → d ≡ markOf (digitOf b)) × (16 ≤ d → l ≡ markOf (digitOf b))
   unfolding digitOf
-  mark-between h k = rw (le-leb 48 b (omega arith), lt-leb b 57 h, lt-leb 97 b k) refl
+  by-tests true t p q =
+      let (x, y) = both (leb 48 b) (leb b 57) p in
+      let g : d ≡ b - 48 = rw p at e in
+      (λ _. rw p g, λ h. absurd (omega (arith, g, h, leb-true b 57 y)))
+  by-tests false true p q =
+      let g : d ≡ 16 = rw p at e in
+      let k : l ≡ b - 87 = rw q at f in
+      (λ h. absurd (omega (arith, g, h)), λ _. rw (p, q) k)
+  by-tests false false p q =
+      let g : d ≡ 16 = rw p at e in
+      let k : l ≡ 16 = rw q at f in
+      (λ h. absurd (omega (arith, g, h)), λ _. rw (p, q) k)
 
-  pub mark-above : 102 < b → 16 ≡ markOf (digitOf b)
-  unfolding digitOf
-  mark-above h = rw (le-leb 48 b (omega arith), lt-leb b 57 (omega arith), le-leb 97 b (omega arith), lt-leb b 102 h) refl
+  pub mark-decimal : d < 16 → d ≡ markOf (digitOf b)
+  mark-decimal = by-tests (leb 48 b && leb b 57) (leb 97 b && leb b 102) refl refl .0
+
+  pub mark-letter : 16 ≤ d → l ≡ markOf (digitOf b)
+  mark-letter = by-tests (leb 48 b && leb b 57) (leb 97 b && leb b 102) refl refl .1
 
 -- ---- a pair by its digits' values
 

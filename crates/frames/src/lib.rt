@@ -1,6 +1,8 @@
 // The case file's lines: cut at line feeds, written in hexadecimal, fields read from a place on.
 ghost use mathlib.Core.Path.{_≡_};
-ghost use Prim.Native.Nat.{_+_, _<_};
+ghost use mathlib.Core.Bool.{cond, _&&_};
+ghost use Prim.Native.Nat.{_+_, _-_, _<_};
+ghost use lib.Dec.{leb};
 ghost use lib.ListN.{drop, set};
 ghost use lib.Seq.{sets};
 ghost use Rattle.frames.specs.Lines.{lineLength};
@@ -34,15 +36,33 @@ pub fn line_end(input: &[u8], at: usize) -> usize
     i
 }
 
-// A byte's value as a digit, or 16, which no digit has: a number, so that telling a digit takes no jump.
-fn value_of(b: u8) -> u8
-    ensures { λ r. ⌜ r ≡ markOf (digitOf b) ⌝ }
+// The value of a digit from 0 to 9, and for any other byte 16, which no digit has.
+fn decimal_of(b: u8) -> u8
+    ensures { λ r. ⌜ r ≡ cond (leb 48 b && leb b 57) (b - 48) 16 ⌝ }
 {
     match b {
         b'0'..=b'9' => b - 48,
+        _ => 16,
+    }
+}
+
+// The value of a digit from a to f, likewise.
+fn letter_of(b: u8) -> u8
+    ensures { λ r. ⌜ r ≡ cond (leb 97 b && leb b 102) (b - 87) 16 ⌝ }
+{
+    match b {
         b'a'..=b'f' => b - 87,
         _ => 16,
     }
+}
+
+// The value of a digit of either kind, likewise: numbers all along, so that telling a digit takes no jump.
+fn value_of(b: u8) -> u8
+    ensures { λ r. ⌜ r ≡ markOf (digitOf b) ⌝ }
+{
+    let decimal = decimal_of(b);
+    let letter = letter_of(b);
+    if decimal < 16 { decimal } else { letter }
 }
 
 // The byte that two digits write, the high one first.

@@ -1,27 +1,21 @@
--- `value_of` meets its contract: each way of the `match` is one of the definition's cases. Assumes nothing.
+-- `value_of` meets its contract: what no decimal digit is may be a letter. Assumes nothing.
 use borrow.Author.Needs.{needs}
 use native.Mathlib.Omega.{arith}
-use Rattle.frames.proofs.CodeDecoding.{mark-decimal, mark-letter, mark-below, mark-between, mark-above}
+use Rattle.frames.proofs.CodeDecoding.{mark-decimal, mark-letter}
 use Rattle.frames.proofs.value_of.Statement.{statement}
 use Rattle.frames.proofs.value_of.Tie as tie
 
-sub-result : tie.Need-sub-result
-sub-result c = search needs
+decimal-of-requires : tie.Need-decimal-of-requires
+decimal-of-requires c κs = search needs
+
+letter-of-requires : tie.Need-letter-of-requires
+letter-of-requires c κs = search needs
 
 returns : tie.Need-returns
-returns c = mark-decimal (c .before .before .args .b) (omega arith) (omega arith)
+returns c = mark-decimal (c .before .before .before .args .b) (c .before .before .decimal-of .ensures) (c .before .letter-of .ensures) (c .if1 .taken)
 
 returns-2 : tie.Need-returns-2
-returns-2 c = mark-letter (c .before .before .before .before .args .b) (omega arith) (omega arith)
-
-returns-3 : tie.Need-returns-3
-returns-3 c = mark-below (c .before .args .b) (omega arith)
-
-returns-4 : tie.Need-returns-4
-returns-4 c = mark-between (c .before .before .before .args .b) (omega arith) (omega arith)
-
-returns-5 : tie.Need-returns-5
-returns-5 c = mark-above (c .before .before .before .before .args .b) (omega arith)
+returns-2 c = mark-letter (c .before .before .before .args .b) (c .before .before .decimal-of .ensures) (c .before .letter-of .ensures) (c .if1 .left)
 
 pub value-of-spec : {M : Type 1} → statement M
-value-of-spec = tie.close (tie.spec sub-result returns returns-2 returns-3 returns-4 returns-5)
+value-of-spec = tie.close (tie.spec decimal-of-requires letter-of-requires returns returns-2)

@@ -1,5 +1,4 @@
 -- `spans::zone_span` meets its contract: the places of a hull rise. Assumes nothing.
-use borrow.Author.Needs.{needs}
 use mathlib.Core.Path.{sym, _∙_}
 use Prim.Native.Nat.{_≤_, _<_}
 use native.Mathlib.Omega.{arith}

@@ -95,6 +95,23 @@ lent b {h = h} p e l f = let g = depth-is (h .breadth) b f in record { hull = p;
 pub sums-at : (s : Ship) (B b a n : ℕ) {y : Layer} {q : Sums} → y ≡ layerOf B b → q ≡ sumsOf s (y .depth) a n → q ≡ sumsOf s b a n
 sums-at s B b a n e f = rw (← depth-is B b e) f
 
+-- no penetration
+abbrev nothing : Sums
+nothing = record { added = record { lower = 0; upper = 0 }; taken = record { lower = 0; upper = 0 } }
+
+sums-none : (s : Ship) (a n : ℕ) → nothing ≡ sumsOf s 0 a n
+unfolding sumsOf withinEnds added taken
+sums-none s a zero = refl
+sums-none s a (suc zero) = refl
+sums-none s a (suc (suc zero)) = refl
+sums-none s a (suc (suc (suc k))) = refl
+
+few-none : Few nothing
+few-none = record { added-order = omega arith; added-few = omega arith; taken-order = omega arith; taken-few = omega arith }
+
+pub sums-at-none : (s : Ship) (b a n : ℕ) → b ≡ 0 → (nothing ≡ sumsOf s b a n) × Few nothing
+sums-at-none s b a n z = (rw z (sums-none s a n), few-none)
+
 pub row-between : (s : Ship) (a n b′ b : ℕ) {before at : Sums} {r : Ends} → before ≡ sumsOf s b′ a n → at ≡ sumsOf s b a n → r ≡ rowOf before at →
     r ≡ rowEnds s a n b′ b
 unfolding rowEnds

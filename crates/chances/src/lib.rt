@@ -95,6 +95,19 @@ pub fn group_sums(t: &[u64], h: Hull, y: Layer, a: usize, n: usize) -> Sums
     more_zones(t, h, y, a, n)
 }
 
+// The same down to a penetration: nothing at 0, where no layer has to be worked out.
+fn sums_to(t: &[u64], h: Hull, a: usize, n: usize, b: u64) -> Sums
+    requires { ⌜ Hulled h × (now t ≡ tableOf h) × Group (shipOf h) a n × (2 * b ≤ h .breadth) ⌝ }
+    ensures { λ r. ⌜ (r ≡ sumsOf (shipOf h) b a n) × Few r ⌝ }
+{
+    if b == 0 {
+        let added = Ends { lower: 0, upper: 0 };
+        let taken = Ends { lower: 0, upper: 0 };
+        return Sums { added, taken };
+    }
+    group_sums(t, h, at_depth(h.breadth, b), a, n)
+}
+
 // A row's share: the sums at its b, less those at the layer before.
 pub fn row_ends(before: Sums, at: Sums) -> Ends
     requires { ⌜ Few before × Few at ⌝ }
@@ -122,7 +135,7 @@ pub fn share_ends(t: &[u64], h: Hull, a: usize, n: usize, b1: u64, b2: u64) -> E
     requires { ⌜ Hulled h × (now t ≡ tableOf h) × Group (shipOf h) a n × (2 * b1 ≤ h .breadth) × (2 * b2 ≤ h .breadth) ⌝ }
     ensures { λ r. ⌜ r ≡ rowEnds (shipOf h) a n b1 b2 ⌝ }
 {
-    let before = group_sums(t, h, at_depth(h.breadth, b1), a, n);
-    let at = group_sums(t, h, at_depth(h.breadth, b2), a, n);
+    let before = sums_to(t, h, a, n, b1);
+    let at = sums_to(t, h, a, n, b2);
     row_ends(before, at)
 }

@@ -1,16 +1,16 @@
 -- Lines: where the first one ends, what is left after it, and the bytes that lines came from. Assumes nothing.
 use Prim.Native.Nat.{ℕ, suc, _+_, _-_, _≤_, _<_}
 use mathlib.Core.Path.{_≡_, refl, sym, _∙_, ap, ap₂}
-use mathlib.Core.Bool.{Bool, true, false, cond}
+use mathlib.Core.Bool.{Bool, true, false, cond, _||_}
 use mathlib.Core.List.{List, [], _∷_, _++_}
 use native.Mathlib.Numerals.{add-one}
 use native.Mathlib.Omega.{arith}
 use lib.Dec.{eqb, ltb, leb·suc-suc}
 use lib.ListN.{length, getD, take, drop, length-drop, drop-of-length-le}
 use lib.Seq.{drop-cons, drop-drop}
-use borrow.Author.Tests.{eq-eqb, ne-eqb, lt-ltb, ltb-true, eqb-true}
-use Rattle.frames.specs.Lines.{Line, onto, lines, lineLength}
-use Rattle.frames.proofs.Tests.{same-test}
+use borrow.Author.Tests.{eq-eqb, ne-eqb, lt-ltb, ltb-true, eqb-true, eqb-false}
+use Rattle.frames.specs.Lines.{Line, onto, lines, lineLength, hasFeed}
+use Rattle.frames.proofs.Tests.{neither, same-test}
 
 -- ---- the length of the first line, byte by byte
 
@@ -26,6 +26,57 @@ module _ (f : List ℕ) (i : ℕ) where
   pub length-ends : length f ≤ i → lineLength (drop i f) ≡ 0
   unfolding lineLength
   length-ends h = rw (drop-of-length-le f h) refl
+
+-- four bytes at a time
+module _ (f : List ℕ) (i : ℕ) (h : i + 4 ≤ length f) where
+  first-four : take 4 (drop i f) ≡ getD f i 0 ∷ getD f (i + 1) 0 ∷ getD f (i + 2) 0 ∷ getD f (i + 3) 0 ∷ []
+  first-four =
+      let p : i + 1 ≡ suc i = omega arith in
+      let q : i + 2 ≡ suc (suc i) = omega arith in
+      let r : i + 3 ≡ suc (suc (suc i)) = omega arith in
+      rw (p, q, r, drop-cons f i 0 (omega arith), drop-cons f (suc i) 0 (omega arith), drop-cons f (suc (suc i)) 0 (omega arith), drop-cons f (suc (suc (suc i))) 0 (omega arith)) refl
+
+  four-tests : (s t u v : Bool) → (s || t || u || v) ≡ (s || (t || (u || (v || false))))
+  four-tests true t u v = refl
+  four-tests false true u v = refl
+  four-tests false false true v = refl
+  four-tests false false false true = refl
+  four-tests false false false false = refl
+
+  pub four-told : (eqb (getD f i 0) 10 || eqb (getD f (i + 1) 0) 10 || eqb (getD f (i + 2) 0) 10 || eqb (getD f (i + 3) 0) 10) ≡ hasFeed (take 4 (drop i f))
+  unfolding hasFeed
+  four-told = rw first-four (four-tests (eqb (getD f i 0) 10) (eqb (getD f (i + 1) 0) 10) (eqb (getD f (i + 2) 0) 10) (eqb (getD f (i + 3) 0) 10))
+
+  pub four-go-on : hasFeed (take 4 (drop i f)) ≡ false → i + 4 + lineLength (drop (i + 4) f) ≡ i + lineLength (drop i f)
+  four-go-on e =
+      let (abc, d) = neither (eqb (getD f i 0) 10 || eqb (getD f (i + 1) 0) 10 || eqb (getD f (i + 2) 0) 10) (eqb (getD f (i + 3) 0) 10) (four-told ∙ e) in
+      let (ab, c) = neither (eqb (getD f i 0) 10 || eqb (getD f (i + 1) 0) 10) (eqb (getD f (i + 2) 0) 10) abc in
+      let (a, b) = neither (eqb (getD f i 0) 10) (eqb (getD f (i + 1) 0) 10) ab in
+      let pp : i + 1 + 1 ≡ i + 2 = omega arith in
+      let p : lineLength (drop (i + 1 + 1) f) ≡ lineLength (drop (i + 2) f) = ap (λ k. lineLength (drop k f)) pp in
+      let qq : i + 2 + 1 ≡ i + 3 = omega arith in
+      let q : lineLength (drop (i + 2 + 1) f) ≡ lineLength (drop (i + 3) f) = ap (λ k. lineLength (drop k f)) qq in
+      let rr : i + 3 + 1 ≡ i + 4 = omega arith in
+      let r : lineLength (drop (i + 3 + 1) f) ≡ lineLength (drop (i + 4) f) = ap (λ k. lineLength (drop k f)) rr in
+      omega (
+        arith,
+        p,
+        q,
+        r,
+        length-goes-on f i (omega arith) (eqb-false (getD f i 0) 10 a),
+        length-goes-on f (i + 1) (omega arith) (eqb-false (getD f (i + 1) 0) 10 b),
+        length-goes-on f (i + 2) (omega arith) (eqb-false (getD f (i + 2) 0) 10 c),
+        length-goes-on f (i + 3) (omega arith) (eqb-false (getD f (i + 3) 0) 10 d),
+      )
+
+-- and eight
+pub eight-go-on : (f : List ℕ) (i : ℕ) → i + 8 ≤ length f → (hasFeed (take 4 (drop i f)) || hasFeed (take 4 (drop (i + 4) f))) ≡ false →
+    i + 8 + lineLength (drop (i + 8) f) ≡ i + lineLength (drop i f)
+eight-go-on f i h e =
+    let (a, b) = neither (hasFeed (take 4 (drop i f))) (hasFeed (take 4 (drop (i + 4) f))) e in
+    let p : i + 4 + 4 ≡ i + 8 = omega arith in
+    let q : lineLength (drop (i + 4 + 4) f) ≡ lineLength (drop (i + 8) f) = ap (λ k. lineLength (drop k f)) p in
+    omega (arith, q, four-go-on f i (omega arith) a, four-go-on f (i + 4) (omega arith) b)
 
 pub length-within : (f : List ℕ) → lineLength f ≤ length f
 unfolding lineLength

@@ -1,6 +1,6 @@
 -- Document 01, "The case file": lines, each closed by a line feed; bytes after the last line feed are a line too. Assumes nothing.
 use Prim.Native.Nat.{ℕ, suc}
-use mathlib.Core.Bool.{Bool, true, false, cond}
+use mathlib.Core.Bool.{Bool, true, false, cond, _||_}
 use mathlib.Core.List.{List, [], _∷_}
 use lib.Dec.{eqb}
 
@@ -23,3 +23,8 @@ lines (b ∷ f) = let rest = lines f in cond (eqb b 10) (record { text = []; clo
 unfoldable pub lineLength : List ℕ → ℕ
 lineLength [] = 0
 lineLength (b ∷ f) = let rest = suc (lineLength f) in cond (eqb b 10) 0 rest
+
+-- is one of these bytes a line feed?
+unfoldable pub hasFeed : List ℕ → Bool
+hasFeed [] = false
+hasFeed (b ∷ f) = eqb b 10 || hasFeed f

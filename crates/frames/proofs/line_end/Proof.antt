@@ -15,14 +15,17 @@ Inv-loop input at i₀ i = i + lineLength (drop i input) ≡ at + lineLength (dr
 abbrev μ-loop : tie.MeasureT-loop
 μ-loop input at i₀ i = length input - i
 
+past-eights-requires : tie.Need-past-eights-requires Inv-loop μ-loop
+past-eights-requires c κs = search needs
+
 loop-holds : tie.Need-loop-holds Inv-loop μ-loop
-loop-holds c = refl
+loop-holds c = c .past-eights .ensures
 
 shared-slice-read-if1 : tie.Need-shared-slice-read-if1 Inv-loop μ-loop
 shared-slice-read-if1 c = search needs
 
 returns : tie.Need-returns Inv-loop μ-loop
-returns c = omega (arith, length-stops (c .before .before .before .before .args .input .now) (c .before .before .before .loop .i) (omega arith) (c .if1 .taken))
+returns c = omega (arith, length-stops (c .before .before .before .before .before .before .args .input .now) (c .before .before .before .loop .i) (omega arith) (c .if1 .taken))
 
 add-i : tie.Need-add-i Inv-loop μ-loop
 add-i c = search needs
@@ -31,10 +34,10 @@ loop-less : tie.Need-loop-less Inv-loop μ-loop
 loop-less c = search needs
 
 loop-again : tie.Need-loop-again Inv-loop μ-loop
-loop-again c = omega (arith, length-goes-on (c .before .before .before .before .args .input .now) (c .before .before .before .loop .i) (omega arith) (c .if1 .left))
+loop-again c = omega (arith, length-goes-on (c .before .before .before .before .before .before .args .input .now) (c .before .before .before .loop .i) (omega arith) (c .if1 .left))
 
 returns-2 : tie.Need-returns-2 Inv-loop μ-loop
-returns-2 c = omega (arith, length-ends (c .before .before .args .input .now) (c .before .loop .i) (omega arith))
+returns-2 c = omega (arith, length-ends (c .before .before .before .before .args .input .now) (c .before .loop .i) (omega arith))
 
 pub line-end-spec : {M : Type 1} → statement M
 line-end-spec =
@@ -42,6 +45,7 @@ line-end-spec =
     (tie.spec
     Inv-loop
     μ-loop
+    past-eights-requires
     loop-holds
     shared-slice-read-if1
     returns

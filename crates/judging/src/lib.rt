@@ -11,7 +11,7 @@ use records::Hull;
 use rowlines::readers::frame_length;
 
 mod ends; // the end
-mod rows; // a row
+mod row; // a row
 
 // A frame after the hull: 02 and 03 are rows, 0f the end.
 fn judge_frame(frame: &[u8], h: Hull, p: Progress) -> Frame
@@ -23,7 +23,7 @@ fn judge_frame(frame: &[u8], h: Hull, p: Progress) -> Frame
         return Frame::Wrong(3);
     }
     match kind {
-        2 | 3 => rows::judge_row(kind, &frame[1..], h, p),
+        2 | 3 => row::judge_row(kind, &frame[1..], h, p),
         15 => ends::judge_end(&frame[1..], h, p),
         _ => Frame::Wrong(3),
     }

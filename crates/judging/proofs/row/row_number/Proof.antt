@@ -3,8 +3,8 @@ use mathlib.Core.Path.{sym, _∙_}
 use borrow.Author.Tests.{not-true, not-false}
 use Rattle.judging.proofs.CodeJudging.{row-too-many, row-outside, row-disordered, row-by-closure}
 use borrow.Author.Needs.{needs}
-use Rattle.judging.proofs.rows.row_number.Statement.{statement}
-use Rattle.judging.proofs.rows.row_number.Tie as tie
+use Rattle.judging.proofs.row.row_number.Statement.{statement}
+use Rattle.judging.proofs.row.row_number.Tie as tie
 
 returns : tie.Need-returns
 returns c = row-too-many _ _ _ (c .if1 .taken)

@@ -1,8 +1,8 @@
 -- `judge_row` meets its contract. Assumes nothing.
 use Rattle.judging.proofs.CodeJudging.{row-wrong, row-right}
 use borrow.Author.Needs.{needs}
-use Rattle.judging.proofs.rows.judge_row.Statement.{statement}
-use Rattle.judging.proofs.rows.judge_row.Tie as tie
+use Rattle.judging.proofs.row.judge_row.Statement.{statement}
+use Rattle.judging.proofs.row.judge_row.Tie as tie
 
 head-requires : tie.Need-head-requires
 head-requires c κs = search needs

@@ -21,9 +21,9 @@ use Rattle.chances.specs.Share.{withinEnds, low, high, sumsOf, Few, lowe
 use Rattle.spans.specs.Table.{tableOf}
 
 -- the zones from d to e of a group, by the span table that is lent
-pub zones-of : {t : List ℕ} {h : Hull} {y : Layer} {a n : ℕ} (d e : ℕ) → Lent t h y → Group (shipOf h) a n → a ≤ d → d ≤ e → e < a + n →
+pub zones-of : {t : List ℕ} {h : Hull} {y : Layer} {a n d e : ℕ} → Lent t h y → Group (shipOf h) a n → a ≤ d → d ≤ e → e < a + n →
     Lent t h y × (1 ≤ d) × (d ≤ e) × (e ≤ h .zones)
-zones-of d e l g p q r = (l, omega (arith, g .from), q, omega (arith, g .fits))
+zones-of l g p q r = (l, omega (arith, g .from), q, omega (arith, g .fits))
 
 -- ---- Q of a span, where b may be 0
 

@@ -1,6 +1,5 @@
 -- `chances::more_zones` meets its contract. Assumes nothing.
 use borrow.Author.Needs.{needs}
-use Prim.Native.Nat.{_+_, _-_}
 use native.Mathlib.Omega.{arith}
 use Rattle.spans.specs.Hull.{shipOf}
 use Rattle.chances.proofs.Group.{zones-of, more-zones-sums, few, two-of}
@@ -14,7 +13,7 @@ sub-last : tie.Need-sub-last
 sub-last c = search needs
 
 zones-within-requires : tie.Need-zones-within-requires
-zones-within-requires c κs = let s = c .before in zones-of (s .args .a) (s .args .a + s .args .n - 1) (s .pre .0) (s .pre .1) (omega arith) (omega arith) (omega arith)
+zones-within-requires c κs = let s = c .before in zones-of (s .pre .0) (s .pre .1) (omega arith) (omega arith) (omega arith)
 
 add-zones-within : tie.Need-add-zones-within
 add-zones-within c = search needs
@@ -23,19 +22,19 @@ sub-zones-within : tie.Need-sub-zones-within
 sub-zones-within c = search needs
 
 zones-within-requires-2 : tie.Need-zones-within-requires-2
-zones-within-requires-2 c κs = let s = c .before .before in zones-of (s .args .a + 1) (s .args .a + s .args .n - 1 - 1) (s .pre .0) (s .pre .1) (omega arith) (omega arith) (omega arith)
+zones-within-requires-2 c κs = let s = c .before .before in zones-of (s .pre .0) (s .pre .1) (omega arith) (omega arith) (omega arith)
 
 sub-zones-within-2 : tie.Need-sub-zones-within-2
 sub-zones-within-2 c = search needs
 
 zones-within-requires-3 : tie.Need-zones-within-requires-3
-zones-within-requires-3 c κs = let s = c .before .before .before in zones-of (s .args .a) (s .args .a + s .args .n - 1 - 1) (s .pre .0) (s .pre .1) (omega arith) (omega arith) (omega arith)
+zones-within-requires-3 c κs = let s = c .before .before .before in zones-of (s .pre .0) (s .pre .1) (omega arith) (omega arith) (omega arith)
 
 add-zones-within-2 : tie.Need-add-zones-within-2
 add-zones-within-2 c = search needs
 
 zones-within-requires-4 : tie.Need-zones-within-requires-4
-zones-within-requires-4 c κs = let s = c .before .before .before .before in zones-of (s .args .a + 1) (s .args .a + s .args .n - 1) (s .pre .0) (s .pre .1) (omega arith) (omega arith) (omega arith)
+zones-within-requires-4 c κs = let s = c .before .before .before .before in zones-of (s .pre .0) (s .pre .1) (omega arith) (omega arith) (omega arith)
 
 with-requires : tie.Need-with-requires
 with-requires c κs = (c .before .before .before .zones-within .ensures .1, c .before .before .zones-within2 .ensures .1)

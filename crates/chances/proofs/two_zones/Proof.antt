@@ -1,6 +1,5 @@
 -- `chances::two_zones` meets its contract. Assumes nothing.
 use borrow.Author.Needs.{needs}
-use Prim.Native.Nat.{_+_}
 use native.Mathlib.Omega.{arith}
 use Rattle.spans.specs.Hull.{shipOf}
 use Rattle.chances.proofs.Group.{zones-of, two-zones-sums, few, two-of}
@@ -11,10 +10,10 @@ add-zones-within : tie.Need-add-zones-within
 add-zones-within c = search needs
 
 zones-within-requires : tie.Need-zones-within-requires
-zones-within-requires c κs = let s = c .before in zones-of (s .args .a) (s .args .a + 1) (s .pre .0) (s .pre .1) (omega arith) (omega arith) (omega arith)
+zones-within-requires c κs = let s = c .before in zones-of (s .pre .0) (s .pre .1) (omega arith) (omega arith) (omega arith)
 
 zones-within-requires-2 : tie.Need-zones-within-requires-2
-zones-within-requires-2 c κs = let s = c .before .before in zones-of (s .args .a) (s .args .a) (s .pre .0) (s .pre .1) (omega arith) (omega arith) (omega arith)
+zones-within-requires-2 c κs = let s = c .before .before in zones-of (s .pre .0) (s .pre .1) (omega arith) (omega arith) (omega arith)
 
 add-zones-within-2 : tie.Need-add-zones-within-2
 add-zones-within-2 c = search needs
@@ -23,7 +22,7 @@ add-zones-within-3 : tie.Need-add-zones-within-3
 add-zones-within-3 c = search needs
 
 zones-within-requires-3 : tie.Need-zones-within-requires-3
-zones-within-requires-3 c κs = let s = c .before .before .before in zones-of (s .args .a + 1) (s .args .a + 1) (s .pre .0) (s .pre .1) (omega arith) (omega arith) (omega arith)
+zones-within-requires-3 c κs = let s = c .before .before .before in zones-of (s .pre .0) (s .pre .1) (omega arith) (omega arith) (omega arith)
 
 with-requires : tie.Need-with-requires
 with-requires c κs = (c .before .zones-within2 .ensures .1, c .zones-within3 .ensures .1)

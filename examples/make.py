@@ -135,6 +135,11 @@ def page_faults():
         yield None if path.stem in names else f"{path.name} is made by nothing"
 
 
+def build():
+    """One run on no input with no limit: the program is built where it is missing."""
+    subprocess.run(PROGRAMS["damindex"], input=b"", stdout=subprocess.DEVNULL, stderr=subprocess.DEVNULL)
+
+
 def check():
     looked_at = [*file_faults(), *ship_faults(), *page_faults()]
     faults = [fault for fault in looked_at if fault]
@@ -156,7 +161,9 @@ def write():
 def main():
     parser = argparse.ArgumentParser(prog="python3 examples/make.py", description=__doc__)
     parser.add_argument("--check", action="store_true", help="compare and write nothing")
-    return check() if parser.parse_args().check else write()
+    wanted = parser.parse_args()
+    build()
+    return check() if wanted.check else write()
 
 
 if __name__ == "__main__":

@@ -7,9 +7,10 @@
  * the library knows of the room behind the pointer, and it neither reads nor writes outside of it.
  *
  * What both functions promise, of any bytes whatever (proved of the library's own text): they return; they read `input` and never write it;
- * they write what is said below and leave every other element as it was; the same input with the same lengths gives the same answer. They
- * keep nothing between calls, take no memory from the heap and call nothing of the C library but memcpy and memset. 64 kilobytes of stack
- * are enough.
+ * they write what is said below and leave every other element as it was; the same input with the same lengths gives the same answer.
+ *
+ * Run, not proved, because no contract speaks of it: 64 kilobytes of stack are enough; nothing is taken from the heap and nothing is kept
+ * between calls; of the C library memcpy and memset alone are called.
  *
  * What the caller keeps, because no proof reaches into C:
  *   - no pointer is NULL, also where the length is 0; numbers of 64 bits are aligned as C aligns them;

@@ -26,6 +26,11 @@ def kit_tool(name):
     return str(kit / "on" / platform.machine() / "toolchain" / "bin" / name)
 
 
+def reader_of_symbols():
+    """The program that lists what an archive for x86-64 defines and needs."""
+    return "nm" if platform.machine() == "x86_64" else "x86_64-linux-gnu-nm"
+
+
 def linked(source, crate, *others):
     """The words that run a program in C, linked with a crate's archive and with other objects and archives; where this machine is no x86-64 one,
     the emulator's come first."""

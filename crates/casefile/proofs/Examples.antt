@@ -84,6 +84,23 @@ printed-encoded : encode (case printedHull printedRows) ≡ printed
 unfolding read
 printed-encoded = refl
 
+-- ---- the three draughts' results, each its own: deepest, partial, light
+
+-- 02010103204844000100020003000400050006000700080009
+abbrev unlikeRow : List ℕ
+unlikeRow = 48 ∷ 50 ∷ 48 ∷ 49 ∷ 48 ∷ 49 ∷ 48 ∷ 51 ∷ 50 ∷ 48 ∷ 52 ∷ 56 ∷ 52 ∷ 52 ∷ 48 ∷ 48 ∷ 48 ∷ 49 ∷ 48 ∷ 48 ∷ 48 ∷ 50 ∷ 48 ∷ 48 ∷ 48 ∷ 51 ∷ 48 ∷ 48 ∷ 48 ∷ 52 ∷ 48 ∷ 48 ∷ 48 ∷ 53 ∷ 48 ∷ 48 ∷ 48 ∷ 54 ∷ 48 ∷ 48 ∷ 48 ∷ 55 ∷ 48 ∷ 48 ∷ 48 ∷ 56 ∷ 48 ∷ 48 ∷ 48 ∷ 57 ∷ 10 ∷ []
+
+-- 0f0001
+abbrev endOfOne : List ℕ
+endOfOne = 48 ∷ 102 ∷ 48 ∷ 48 ∷ 48 ∷ 49 ∷ 10 ∷ []
+
+abbrev unlikeResults : Row
+unlikeResults = record { head = record { kind = 2; first = 1; count = 1; depth = 800; height = 18500 }; results = found 1 2 3 ∷ found 4 5 6 ∷ found 7 8 9 ∷ [] }
+
+deepest-partial-light : reading (hullLine ++ unlikeRow ++ endOfOne) ≡ accepted (case printedHull (unlikeResults ∷ []))
+unfolding read
+deepest-partial-light = refl
+
 -- ---- 10: no end frame, and whatever follows it
 
 empty-input : reading [] ≡ refused 10 1

@@ -1,5 +1,5 @@
 -- Document 01, "Order", in its own words: groups of layers of rows, and that a case's rows are in order exactly when they are such groups. Assumes nothing.
-use Prim.Native.Nat.{ℕ, _/_, _<_}
+use Prim.Native.Nat.{_/_, _<_}
 use mathlib.Core.Path.{_≡_}
 use mathlib.Core.List.{List, [], _∷_, _++_}
 use mathlib.Core.Logic.{_↔_}

@@ -4,5 +4,7 @@ fn main() {
     let n = io::read_full(0, &mut input);
     let mut out = [0u8; 9_569];
     let k = index::report(&input[..n], &mut out);
-    io::write_all(1, &out[..k]);
+    if !io::write_all(1, &out[..k]) {
+        io::write_all(2, b"damindex: the answer could not be written\n");
+    }
 }

@@ -6,3 +6,4 @@ pub mod Pairs
 pub mod Decode
 pub mod Fields
 pub mod Examples
+pub mod Text

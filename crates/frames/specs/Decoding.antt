@@ -1,11 +1,13 @@
 -- What the code says of a line's text: the bytes that it writes, or refusal 2. Assumes nothing.
 use Prim.Native.Nat.{ℕ, _/_}
-use mathlib.Core.Bool.{cond}
+use mathlib.Core.Path.{_≡_}
+use mathlib.Core.Bool.{true, false, cond}
 use mathlib.Core.List.{List}
 use lib.ListN.{length}
 use Rattle.frames.specs.declared.Written.{Written}
 use Rattle.frames.specs.declared.Written.the-variants.{Bytes, Badly}
-use Rattle.frames.specs.Hex.{proper}
+use Rattle.frames.specs.Lines.{Line}
+use Rattle.frames.specs.Hex.{pairs, proper, badlyWritten}
 
 -- two digits a byte
 unfoldable pub writtenOf : List ℕ → Written
@@ -15,3 +17,16 @@ writtenOf text = cond (proper text) (Bytes (length text / 2)) Badly
 abbrev pub writtenNumber : Written → ℕ
 writtenNumber (Bytes n) = 0
 writtenNumber Badly = 2
+
+-- how many bytes it writes, none where it is badly written
+abbrev pub writtenCount : Written → ℕ
+writtenCount (Bytes n) = n
+writtenCount Badly = 0
+
+-- of a line that is closed: 2 exactly where the table has it, and else as many bytes as the line's digits come to
+pub record Numbered (l : Line) : Type 0 where
+  pub number : writtenNumber (writtenOf (l .text)) ≡ cond (badlyWritten l) 2 0
+  pub count : badlyWritten l ≡ false → writtenCount (writtenOf (l .text)) ≡ length (pairs (l .text))
+
+abbrev pub SaysTheText : Type 0
+SaysTheText = (l : Line) → l .closed ≡ true → Numbered l

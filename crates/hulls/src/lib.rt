@@ -32,7 +32,7 @@ pub fn refusal(number: u64, line: u64) -> Judgement
 }
 
 // A hull on its record, with the bytes of its frame: the number of the first check that holds, or 0.
-pub fn hull_number(h: Hull, n: usize) -> u64
+fn hull_number(h: Hull, n: usize) -> u64
     ensures { λ r. ⌜ r ≡ hullNumber h n ⌝ }
 {
     let m = h.zones;

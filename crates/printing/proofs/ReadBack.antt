@@ -15,7 +15,7 @@ use Rattle.frames.specs.Hex.{lineOf}
 use Rattle.frames.proofs.Pairs.{octets-cons, octets-rest, pairs-hex, line-in-front}
 use Rattle.digits.specs.Fields.{endsField, partialField, partialsField}
 use Rattle.printing.specs.Printed.{refusalFrame, figuresFrame, shareFrame, shareLines, printed}
-use Rattle.printing.specs.ReadBack.{refusal, figures, endsOf, toldBy, fours, sharesIn, toldIn, frameIn, readBack, Short, Printable, ReadsBack}
+use Rattle.printing.specs.ReadBack.{refusal, figures, endsOf, toldBy, fours, kindOf, sharesIn, toldIn, frameIn, readBack, Short, Printable, ReadsBack}
 
 -- ---- bytes
 
@@ -68,6 +68,10 @@ last-ends lower upper h l = ap (fours 2) (sym (append-nil (endsField lower upper
 
 -- ---- what each line tells
 
+share-kind : (lower upper : ℕ) → kindOf (shareFrame lower upper) ≡ 130
+unfolding shareFrame
+share-kind lower upper = refl
+
 share-told : (lower upper : ℕ) → lower < 4294967296 → upper < 4294967296 → fours 2 (drop 1 (shareFrame lower upper)) ≡ lower ∷ upper ∷ []
 unfolding shareFrame
 share-told lower upper h l = last-ends lower upper h l
@@ -79,7 +83,11 @@ shares-told (suc rows) [] e h = refl
 shares-told rows (lower ∷ []) e h = absurd (omega arith)
 shares-told zero (lower ∷ upper ∷ shares) e h = absurd (omega arith)
 shares-told (suc rows) (lower ∷ upper ∷ shares) e h =
-    rw (next-frame (shareFrame lower upper) (shareLines shares) (share-octets lower upper), shares-told rows shares (omega arith) (λ i. h (suc (suc i))))
+    rw (
+      next-frame (shareFrame lower upper) (shareLines shares) (share-octets lower upper),
+      shares-told rows shares (omega arith) (λ i. h (suc (suc i))),
+      share-kind lower upper,
+    )
     (ap (λ ns. ns ++ shares) (share-told lower upper (h 0) (h 1)))
 
 refusal-told : (a : Answer) → a .number < 256 → a .line < 65536 → toldIn (refusalFrame (a .number) (a .line) ∷ []) ≡ refusal (a .number) (a .line)
@@ -107,7 +115,7 @@ verdict-told : (a : Answer) → a .verdict < 256 → number (take 1 (drop 1 (fig
 unfolding figuresFrame bytes
 verdict-told a h = number-bytes-all 1 (a .verdict) h
 
-kind-told : (a : Answer) → getD (figuresFrame a) 0 0 ≡ 129
+kind-told : (a : Answer) → kindOf (figuresFrame a) ≡ 129
 unfolding figuresFrame
 kind-told a = refl
 

@@ -11,10 +11,11 @@ use Rattle.frames.specs.Lines.{Line, lines}
 use Rattle.frames.specs.Hex.{pairs}
 use Rattle.printing.specs.Printed.{printed}
 
--- a refusal's number and line; or a verdict, the ends of A, As, Ap, Al and those of the shares, lower before upper
+-- a refusal's number and line; or a verdict, the ends of A, As, Ap, Al and those of the shares, lower before upper; or neither
 pub data Told : Type 0 where
   refusal : ℕ → ℕ → Told
   figures : ℕ → List ℕ → List ℕ → Told
+  nothing : Told
 
 -- the ends of A, As, Ap, Al
 unfoldable pub endsOf : Answer → List ℕ
@@ -34,18 +35,22 @@ unfoldable pub fours : ℕ → List ℕ → List ℕ
 fours zero bs = []
 fours (suc n) bs = number (take 4 bs) ∷ fours n (drop 4 bs)
 
--- the shares' ends, from the frames 82
+-- a frame's first byte
+abbrev pub kindOf : List ℕ → ℕ
+kindOf frame = getD frame 0 0
+
+-- the shares' ends, from the frames 82; any other tells none
 unfoldable pub sharesIn : List (List ℕ) → List ℕ
 sharesIn [] = []
-sharesIn (frame ∷ frames) = fours 2 (drop 1 frame) ++ sharesIn frames
+sharesIn (frame ∷ frames) = cond (eqb (kindOf frame) 130) (fours 2 (drop 1 frame)) [] ++ sharesIn frames
 
--- a frame 8f, or a frame 81 and frames 82 after it; no frame tells nothing
+-- a frame 8f, or a frame 81 and frames 82 after it; any other first frame, or none, tells nothing
 unfoldable pub toldIn : List (List ℕ) → Told
-toldIn [] = refusal 0 0
+toldIn [] = nothing
 toldIn (frame ∷ frames) =
-    cond (eqb (getD frame 0 0) 143)
+    cond (eqb (kindOf frame) 143)
     (refusal (number (take 1 (drop 1 frame))) (number (take 2 (drop 2 frame))))
-    (figures (number (take 1 (drop 1 frame))) (fours 8 (drop 2 frame)) (sharesIn frames))
+    (cond (eqb (kindOf frame) 129) (figures (number (take 1 (drop 1 frame))) (fours 8 (drop 2 frame)) (sharesIn frames)) nothing)
 
 -- the bytes that each line's digits write
 abbrev pub frameIn : Line → List ℕ

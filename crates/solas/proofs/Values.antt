@@ -1,4 +1,4 @@
--- Document 01, "Proved values": the definitions give them. Assumes nothing.
+-- Values that refuse a slip in the definitions of this crate at once; document 01's own table is crates/promises/specs/Values.antt. Assumes nothing.
 use mathlib.Core.Path.{_≡_, refl}
 use mathlib.Core.List.{[], _∷_}
 use Rattle.laws.specs.Fraction.{_less_over_, _over_, whole, _⊹_, _⊝_, _⊛_, _≈_}

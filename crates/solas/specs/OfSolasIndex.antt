@@ -1,5 +1,5 @@
 -- What "those of SOLAS" means for dp, A, R, v and s: the regulation's formulas come to document 01's forms; and where the two part. Assumes nothing.
-use Prim.Native.Nat.{ℕ, _+_, _-_, _%_, _≤_, _<_}
+use Prim.Native.Nat.{ℕ, _-_, _%_, _≤_, _<_}
 use mathlib.Core.Path.{_≡_}
 use Rattle.laws.specs.Fraction.{Fraction, _over_, whole, _≈_, _≺_}
 use Rattle.solas.specs.Height.{vAt, rowV, top}

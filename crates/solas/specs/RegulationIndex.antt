@@ -1,5 +1,5 @@
 -- What the regulation itself says of s, v, A, dp and R, in its own letters, in metres and degrees: document 002, 2.4.1, 2.5.1, 2.7.3 and 2.7.7,
--- and document 003, 4.1 and 10.1. Assumes nothing.
+-- and document 003, 4.1 and section 10. Assumes nothing.
 use Prim.Native.Nat.{ℕ}
 use mathlib.Core.Bool.{cond}
 use Rattle.laws.specs.Fraction.{Fraction, _over_, whole, _≈_, _≼_, _≺_, _≼?_, lesser, _⊹_, _⊝_, _⊛_, _⊘_}
@@ -29,7 +29,7 @@ R₀ Ls = whole 1 ⊝ whole 128 ⊘ (Ls ⊹ whole 152)
 unfoldable pub R : Fraction → Fraction
 R Ls = cond (Ls ≼? whole 100) (whole 1 ⊝ whole 1 ⊘ (whole 1 ⊹ (Ls ⊘ whole 100) ⊛ (R₀ Ls ⊘ (whole 1 ⊝ R₀ Ls)))) (R₀ Ls)
 
--- 002, 2.4.1: what each partial index must reach
+-- 003, section 10, and 002, 2.4.1: what each partial index must reach
 unfoldable pub partialMark : Fraction → Fraction
 partialMark Ls = (5 over 10) ⊛ R Ls
 

@@ -42,7 +42,7 @@ fn at_one_end(l: u64, x: u64, r: Ratio) -> Ends
 }
 
 // p and P of the span from aft to fwd.
-pub fn span_ends(l: u64, aft: u64, fwd: u64) -> SpanEnds
+fn span_ends(l: u64, aft: u64, fwd: u64) -> SpanEnds
     requires { ⌜ (1 ≤ l) × (l ≤ 19800) × (aft ≤ fwd) × (fwd ≤ l) ⌝ }
     ensures { λ r. ⌜ r ≡ spanEnds l aft fwd ⌝ }
 {

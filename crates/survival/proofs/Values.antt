@@ -1,4 +1,4 @@
--- Document 01, "Proved values": survivals and heights, as the definitions of this crate give them. Assumes nothing.
+-- Survivals and heights that refuse a slip in this crate at once; document 01's own table is crates/promises/specs/Values.antt. Assumes nothing.
 use Prim.Native.Nat.{ℕ}
 use mathlib.Core.Path.{_≡_, refl}
 use Rattle.laws.specs.Fraction.{_less_over_, _⊛_}

@@ -20,7 +20,7 @@ fn factor(h: u64) -> u64
 }
 
 // v of a height over the baseline, at a draught.
-pub fn factor_at(height: u64, draught: u64) -> u64
+fn factor_at(height: u64, draught: u64) -> u64
     ensures { λ r. ⌜ r ≡ vAt height draught ⌝ }
 {
     factor(above(height, draught))
@@ -45,7 +45,7 @@ pub fn row_factors(below: u64, height: u64, at: [u64; 3]) -> [u64; 3]
 }
 
 // The middle draught between the deepest and the light one.
-pub fn middle_draught(deepest: u64, light: u64) -> u64
+fn middle_draught(deepest: u64, light: u64) -> u64
     requires { ⌜ (deepest < 2 ^ 32) × (light < 2 ^ 32) ⌝ }
     ensures { λ r. ⌜ r ≡ dp deepest light ⌝ }
 {

@@ -1,0 +1,17 @@
+-- What is said of a line's text has the table's number, and the count of its bytes. Assumes nothing.
+use mathlib.Core.Path.{_≡_, refl}
+use mathlib.Core.Bool.{Bool, true, false, true≢false}
+use native.Mathlib.Omega.{arith}
+use Rattle.frames.specs.Lines.{Line}
+use Rattle.frames.specs.Hex.{proper, badlyWritten}
+use Rattle.frames.specs.Decoding.{writtenOf, Numbered, SaysTheText}
+use Rattle.frames.proofs.Pairs.{length-pairs}
+
+module _ (l : Line) (closed : l .closed ≡ true) where
+  by : (t : Bool) → proper (l .text) ≡ t → Numbered l
+  unfolding writtenOf badlyWritten
+  by true e = record { number = rw (e, closed) refl; count = λ w. rw e (omega (arith, length-pairs (l .text) e)) }
+  by false e = record { number = rw e refl; count = λ w. let bad : true ≡ false = rw e at w in absurd (true≢false bad) }
+
+pub says-the-text : SaysTheText
+says-the-text l closed = by l closed (proper (l .text)) refl

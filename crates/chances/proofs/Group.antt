@@ -8,33 +8,16 @@ use Rattle.records.specs.declared.Ends.{Ends}
 use Rattle.records.specs.declared.Hull.{Hull}
 use Rattle.numbers.proofs.Figures.{both}
 use Rattle.solas.specs.Ship.{Ship}
-use Rattle.solas.specs.Count.{added, taken, Group}
+use Rattle.solas.specs.Count.{added, taken}
 use Rattle.penetration.specs.declared.Layer.{Layer}
 use Rattle.chances.specs.declared.Sums.{Sums}
 use Rattle.spans.specs.Rounded.{Probable}
 use Rattle.penetration.specs.Figures.{plus}
-use Rattle.penetration.specs.Penetration.{QEnds}
 use Rattle.penetration.specs.Layer.{layerOf}
 use Rattle.chances.specs.Lent.{Lent}
 use Rattle.spans.specs.Hull.{shipOf, Hulled}
 use Rattle.chances.specs.Share.{withinEnds, low, high, sumsOf, Few, lowest, highest, rowOf, rowEnds}
 use Rattle.spans.specs.Table.{tableOf}
-
--- the zones from d to e of a group, by the span table that is lent
-pub zones-of : {t : List ℕ} {h : Hull} {y : Layer} {a n d e : ℕ} → Lent t h y → Group (shipOf h) a n → a ≤ d → d ≤ e → e < a + n →
-    Lent t h y × (1 ≤ d) × (d ≤ e) × (e ≤ h .zones)
-zones-of l g p q r = (l, omega (arith, g .from), q, omega (arith, g .fits))
-
--- ---- Q of a span, where b may be 0
-
-pub at-none : (s : Ship) (b a e : ℕ) → b ≡ 0 → record { lower = 0; upper = 0 } ≡ withinEnds s b a e
-unfolding withinEnds
-at-none s b a e z = rw z
-
-pub at-some : (s : Ship) (b a e : ℕ) → (b ≡ 0 → ⊥) → QEnds (s .L) (s .B) (s .aft a) (s .fwd e) b ≡ withinEnds s b a e
-unfolding withinEnds
-at-some s zero a e f = absurd (f refl)
-at-some s (suc b) a e f = refl
 
 -- ---- the sums
 

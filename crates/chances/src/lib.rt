@@ -7,6 +7,7 @@ use penetration::q_ends;
 use penetration::with;
 use records::Ends;
 use records::Hull;
+use spans::SpanEnds;
 use spans::span_of;
 ghost use mathlib.Core.Path.{_≡_};
 ghost use Prim.Native.Nat.{_*_, _≤_};
@@ -14,8 +15,9 @@ ghost use Rattle.solas.specs.Count.{Group};
 ghost use Rattle.spans.specs.Rounded.{Probable};
 ghost use Rattle.spans.specs.Hull.{shipOf, Hulled};
 ghost use Rattle.spans.specs.Table.{tableOf};
-ghost use Rattle.penetration.specs.Penetration.{QEnds};
-ghost use Rattle.chances.specs.Lent.{Lent};
+ghost use Rattle.spans.specs.Span.{PEnds};
+ghost use Rattle.penetration.specs.Layer.{Reached};
+ghost use Rattle.chances.specs.Lent.{Lent, alone};
 ghost use Rattle.chances.specs.Share.{withinEnds, sumsOf, Few, rowOf, rowEnds};
 
 // What a group adds and what it takes away, at one b.
@@ -24,34 +26,27 @@ pub struct Sums {
     pub taken: Ends,
 }
 
-// Q of the zones from a to e at the layer y.
-fn zones_q(t: &[u64], h: Hull, y: Layer, a: usize, e: usize) -> Ends
-    requires { ⌜ Lent (now t) h y × (1 ≤ a) × (a ≤ e) × (e ≤ h .zones) ⌝ }
-    ensures { λ r. ⌜ r ≡ QEnds (h .length) (h .breadth) (shipOf h .aft a) (shipOf h .fwd e) (y .depth) ⌝ }
-{
-    let s = span_of(t, a, e);
-    let p = s.inner;
-    let chance = s.chance;
-    let g = g_ends(h.length, h.breadth, h.places[a - 1], h.places[e], p, y);
-    q_ends(y.c, y.d, chance, g)
-}
-
-// The same where b may be 0, which gives 0.
-fn zones_within(t: &[u64], h: Hull, y: Layer, a: usize, e: usize) -> Ends
-    requires { ⌜ Lent (now t) h y × (1 ≤ a) × (a ≤ e) × (e ≤ h .zones) ⌝ }
-    ensures { λ r. ⌜ (r ≡ withinEnds (shipOf h) (y .depth) a e) × Probable r ⌝ }
+// Q of the span from aft to fwd at the layer y, from the span's p and P; where b is 0, nothing.
+fn span_within(l: u64, breadth: u64, aft: u64, fwd: u64, s: SpanEnds, y: Layer) -> Ends
+    requires { ⌜ Reached l breadth aft fwd (s .inner) y × (s .chance ≡ PEnds l aft fwd) ⌝ }
+    ensures { λ r. ⌜ (r ≡ withinEnds (alone l breadth aft fwd) (y .depth) 1 1) × Probable r ⌝ }
 {
     if y.depth == 0 {
         return Ends { lower: 0, upper: 0 };
     }
-    zones_q(t, h, y, a, e)
+    let p = s.inner;
+    let chance = s.chance;
+    let g = g_ends(l, breadth, aft, fwd, p, y);
+    q_ends(y.c, y.d, chance, g)
 }
 
 fn one_zone(t: &[u64], h: Hull, y: Layer, a: usize) -> Sums
     requires { ⌜ Lent (now t) h y × Group (shipOf h) a 1 ⌝ }
     ensures { λ r. ⌜ (r ≡ sumsOf (shipOf h) (y .depth) a 1) × Few r ⌝ }
 {
-    let added = zones_within(t, h, y, a, a);
+    let aft = h.places[a - 1];
+    let fwd = h.places[a];
+    let added = span_within(h.length, h.breadth, aft, fwd, span_of(t, a, a), y);
     let taken = Ends { lower: 0, upper: 0 };
     Sums { added, taken }
 }
@@ -60,9 +55,14 @@ fn two_zones(t: &[u64], h: Hull, y: Layer, a: usize) -> Sums
     requires { ⌜ Lent (now t) h y × Group (shipOf h) a 2 ⌝ }
     ensures { λ r. ⌜ (r ≡ sumsOf (shipOf h) (y .depth) a 2) × Few r ⌝ }
 {
-    let added = zones_within(t, h, y, a, a + 1);
-    let first = zones_within(t, h, y, a, a);
-    let last = zones_within(t, h, y, a + 1, a + 1);
+    let l = h.length;
+    let breadth = h.breadth;
+    let aft = h.places[a - 1];
+    let bulkhead = h.places[a];
+    let fwd = h.places[a + 1];
+    let added = span_within(l, breadth, aft, fwd, span_of(t, a, a + 1), y);
+    let first = span_within(l, breadth, aft, bulkhead, span_of(t, a, a), y);
+    let last = span_within(l, breadth, bulkhead, fwd, span_of(t, a + 1, a + 1), y);
     let taken = with(first, last);
     Sums { added, taken }
 }
@@ -71,11 +71,24 @@ fn more_zones(t: &[u64], h: Hull, y: Layer, a: usize, n: usize) -> Sums
     requires { ⌜ Lent (now t) h y × Group (shipOf h) a n × (3 ≤ n) ⌝ }
     ensures { λ r. ⌜ (r ≡ sumsOf (shipOf h) (y .depth) a n) × Few r ⌝ }
 {
+    let l = h.length;
+    let breadth = h.breadth;
     let last = a + n - 1;
-    let all = zones_within(t, h, y, a, last);
-    let middle = zones_within(t, h, y, a + 1, last - 1);
-    let without_last = zones_within(t, h, y, a, last - 1);
-    let without_first = zones_within(t, h, y, a + 1, last);
+    let aft = h.places[a - 1];
+    let after_first = h.places[a];
+    let before_last = h.places[last - 1];
+    let fwd = h.places[last];
+    let all = span_within(l, breadth, aft, fwd, span_of(t, a, last), y);
+    let middle = span_within(
+        l,
+        breadth,
+        after_first,
+        before_last,
+        span_of(t, a + 1, last - 1),
+        y,
+    );
+    let without_last = span_within(l, breadth, aft, before_last, span_of(t, a, last - 1), y);
+    let without_first = span_within(l, breadth, after_first, fwd, span_of(t, a + 1, last), y);
     let added = with(all, middle);
     let taken = with(without_last, without_first);
     Sums { added, taken }

@@ -1,22 +1,22 @@
 -- The rule of the table of bands: its coefficients are small, and in each band its row is p, not negative and not above one. Assumes nothing.
-use mathlib.Core.Path.{_≡_, refl, sym, ap}
+use mathlib.Core.Path.{_≡_, refl}
 use mathlib.Core.Bool.{Bool, true, false, cond}
 use mathlib.Core.List.{List, [], _∷_}
 use Prim.Native.Nat.{ℕ, zero, suc, _+_, _-_, _*_, _^_, _≤_, _<_}
 use native.Mathlib.Nat.{mul-le-mul, mul-le-mul-left, mul-pos, le-of-lt}
 use native.Mathlib.Omega.{arith}
 use borrow.Author.Tests.{leb-true, leb-false, eqb-true, eqb-false}
-use lib.Dec.{T, leb, leb→le, eqb}
-use lib.IntN.{ℤ, pos}
+use lib.Dec.{leb, leb→le, eqb}
+use lib.IntN.{ℤ}
 use lib.ListN.{getD}
 use lib.Signed.{mag}
-use Rattle.laws.specs.Fraction.{Fraction, _less_over_, Is}
+use Rattle.laws.specs.Fraction.{Fraction, _less_over_}
 use Rattle.laws.proofs.Fraction.{is-less-over, is-shifted, is-written}
-use Rattle.laws.proofs.Table.{every, everyBelow, every-entry, every-number}
+use Rattle.laws.proofs.Table.{everyBelow, every-entry, every-number}
 use Rattle.solas.specs.Span.{p}
 use Rattle.laws.proofs.Polynomial.{pow-two, cube}
 use Rattle.bands.specs.declared.Ratio.{Ratio}
-use Rattle.bands.specs.Bands.{bands, bandOf, above, entry, counted, valued, quotientOf, Small, Within, Ready, Chance}
+use Rattle.bands.specs.Bands.{bands, bandOf, entry, counted, valued, quotientOf, Small, Within, Ready, Chance}
 
 -- ---- the table, tested entry by entry
 

@@ -1,15 +1,14 @@
 -- The rows of groups that fit and rise are in order; and so the order in rows is the order in words. Assumes nothing.
-use Prim.Native.Nat.{ℕ, _+_, _/_, _≤_, _<_}
-use mathlib.Core.Path.{_≡_, refl, sym, _∙_, ap}
+use Prim.Native.Nat.{_+_, _<_}
+use mathlib.Core.Path.{refl, _∙_}
 use mathlib.Core.List.{List, [], _∷_, _++_, append-assoc}
-use mathlib.Core.Logic.{_↔_}
 use native.Mathlib.Omega.{arith}
 use Rattle.laws.specs.Sums.{last, Linked}
 use Rattle.records.specs.declared.Hull.{Hull}
 use Rattle.records.specs.declared.RowHead.{RowHead}
 use Rattle.casefile.specs.Record.{Row}
-use Rattle.casefile.specs.Valid.{Every, SameGroup, LaterGroup, AtTop, BelowTop, ClosesGroup, Follows, higher, deeper, later, Ordered}
-use Rattle.casefile.specs.Groups.{Layer, Group, layerRows, rowsOfLayers, groupRows, allRows, layerHead, groupHead, SameLayer, LayerFits, GroupFits, GroupsRise, Grouped, OrderInWords}
+use Rattle.casefile.specs.Valid.{Every, SameGroup, LaterGroup, BelowTop, ClosesGroup, higher, deeper, later, Ordered}
+use Rattle.casefile.specs.Groups.{Layer, Group, rowsOfLayers, allRows, layerHead, groupHead, SameLayer, LayerFits, GroupFits, GroupsRise, OrderInWords}
 use Rattle.casefile.proofs.Groups.{After, linked-after, same-group, same-layer, later-of, every-map, last-has, into-groups}
 
 -- the row that a layer ends with

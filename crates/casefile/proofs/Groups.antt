@@ -1,15 +1,15 @@
 -- Rows in order are groups of layers, and such groups are in order. Assumes nothing.
-use Prim.Native.Nat.{ℕ, _+_, _/_, _≤_, _<_}
+use Prim.Native.Nat.{_/_, _<_}
 use mathlib.Core.Path.{_≡_, refl, sym, _∙_, ap}
-use mathlib.Core.List.{List, [], _∷_, _++_, append-assoc, append-nil}
-use mathlib.Core.Logic.{_↔_, _⊎_, inl, inr}
+use mathlib.Core.List.{List, [], _∷_}
+use mathlib.Core.Logic.{inl, inr}
 use native.Mathlib.Omega.{arith}
 use Rattle.laws.specs.Sums.{last, Linked}
 use Rattle.records.specs.declared.Hull.{Hull}
 use Rattle.records.specs.declared.RowHead.{RowHead}
 use Rattle.casefile.specs.Record.{Row}
 use Rattle.casefile.specs.Valid.{Every, SameGroup, LaterGroup, AtTop, BelowTop, ClosesGroup, Follows, higher, deeper, later, Ordered}
-use Rattle.casefile.specs.Groups.{Layer, Group, layerRows, rowsOfLayers, groupRows, allRows, layerHead, groupHead, SameLayer, LayerFits, GroupFits, GroupsRise, Grouped, OrderInWords}
+use Rattle.casefile.specs.Groups.{Layer, Group, layerRows, allRows, layerHead, groupHead, SameLayer, GroupFits, Grouped}
 
 -- ---- rows after a row
 

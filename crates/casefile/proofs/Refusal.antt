@@ -2,7 +2,7 @@
 use Prim.Native.Nat.{ℕ, zero, suc, _+_, _-_, _≤_, _<_}
 use mathlib.Core.Path.{_≡_, refl, sym, _∙_, ap}
 use mathlib.Core.Bool.{Bool, true, false}
-use mathlib.Core.List.{List, []}
+use mathlib.Core.List.{List}
 use mathlib.Core.Logic.{_⊎_, inl, inr}
 use native.Mathlib.Omega.{arith}
 use lib.Dec.{ltb}
@@ -13,7 +13,7 @@ use Rattle.casefile.specs.Record.{Case}
 use Rattle.casefile.specs.Limits.{longestInput}
 use Rattle.casefile.specs.Reading.{Reading, refused, accepted, begin, reading}
 use Rattle.casefile.specs.Answer.{judgementOf}
-use Rattle.casefile.specs.Refusal.{lineAt, numberAt, IsEndFrame, AtLine, NoEnd, Refusal, Refusals, Answered, OneRefusal, NotBoth, numbers}
+use Rattle.casefile.specs.Refusal.{lineAt, numberAt, IsEndFrame, AtLine, NoEnd, Refusal, Refusals, Answered, OneRefusal, NotBoth}
 use Rattle.casefile.proofs.Steps.{too-long, not-too-long}
 use Rattle.casefile.proofs.Soundness.{not-accepted}
 use Rattle.casefile.proofs.Turns.{noLine, numberFrom, PassTo, Stops, RunsOut, same-refusal, refused-by, stops, runs-out}

@@ -1,10 +1,10 @@
 -- Bounds of either sign, in billionths: what sums and differences of bounded fractions are bounded by, and the ends that they are held to. Assumes nothing.
-use mathlib.Core.Path.{_≡_, _∙_}
+use mathlib.Core.Path.{_≡_}
 use Prim.Native.Nat.{ℕ, _+_, _-_, _*_, _^_, _≤_, _<_, min}
-use native.Mathlib.Nat.{mul-pos, mul-comm, mul-sub, mul-le-mul-left, min-eq-left, min-eq-right}
+use native.Mathlib.Nat.{mul-pos, mul-sub, mul-le-mul-left, min-eq-left, min-eq-right}
 use native.Mathlib.Omega.{arith, sub-cases}
 use Rattle.laws.specs.Fraction.{Fraction, den, Is, whole, _less_over_, _over_, _≼_, _⊹_, _⊝_}
-use Rattle.laws.proofs.Fraction.{positive, is-self, is-whole, is-less-over, is-shifted, is-⊹, is-⊝, over-left, over-right, ≼-trans, ≼-refl, numerators-below}
+use Rattle.laws.proofs.Fraction.{positive, is-self, is-whole, is-less-over, is-⊹, is-⊝, over-left, over-right, ≼-trans, numerators-below}
 use Rattle.records.specs.declared.Ends.{Ends}
 use Rattle.numbers.specs.Figures.{Between}
 use Rattle.spans.proofs.Rounded.{not-above, not-below, above-numerators, below-numerators}

@@ -1,7 +1,7 @@
 -- A group's sums, put together from the Q of its spans, and the row between two layers. Assumes nothing.
-use mathlib.Core.Path.{_≡_, refl, sym, ap, ap₂, _∙_}
+use mathlib.Core.Path.{_≡_, refl, sym, ap, _∙_}
 use mathlib.Core.List.{List}
-use Prim.Native.Nat.{ℕ, zero, suc, _+_, _-_, _*_, _^_, _≤_, _<_, min}
+use Prim.Native.Nat.{ℕ, zero, suc, _+_, _-_, _*_, _^_, _≤_, _<_}
 use native.Mathlib.Nat.{min-eq-left, min-eq-right, le-of-lt}
 use native.Mathlib.Omega.{arith}
 use Rattle.records.specs.declared.Ends.{Ends}
@@ -15,8 +15,8 @@ use Rattle.spans.specs.Rounded.{Probable}
 use Rattle.penetration.specs.Figures.{plus}
 use Rattle.penetration.specs.Layer.{layerOf}
 use Rattle.chances.specs.Lent.{Lent}
-use Rattle.spans.specs.Hull.{shipOf, Hulled}
-use Rattle.chances.specs.Share.{withinEnds, low, high, sumsOf, Few, lowest, highest, rowOf, rowEnds}
+use Rattle.spans.specs.Hull.{Hulled}
+use Rattle.chances.specs.Share.{withinEnds, sumsOf, Few, lowest, highest, rowOf, rowEnds}
 use Rattle.spans.specs.Table.{tableOf}
 
 -- ---- the sums

@@ -1,18 +1,14 @@
 -- A row's share lies between its ends, which are at most 32 apart; nothing is cut off, as no share is negative and none above one. Assumes nothing.
-use mathlib.Core.Path.{_≡_, refl}
-use Prim.Native.Nat.{ℕ, zero, suc, _+_, _-_, _*_, _^_, _≤_, _<_, min}
+use Prim.Native.Nat.{ℕ, zero, suc, _+_, _-_, _*_, _^_, _≤_}
 use native.Mathlib.Nat.{le-refl, le-trans, min-le-right}
 use native.Mathlib.Omega.{arith}
-use Rattle.laws.specs.Fraction.{Fraction, whole, _≼_, _⊹_, _⊝_}
-use Rattle.records.specs.declared.Ends.{Ends}
+use Rattle.laws.specs.Fraction.{whole, _⊹_, _⊝_}
 use Rattle.numbers.specs.Figures.{Between}
 use Rattle.solas.specs.Ship.{Ship, Sound}
 use Rattle.solas.specs.Share.{within, share, before, rowShare}
 use Rattle.solas.specs.Count.{added, taken, Group}
 use Rattle.solas.proofs.Ship.{ends-within}
 use Rattle.solas.proofs.Promises.{no-share-negative, no-share-above-one}
-use Rattle.spans.specs.Rounded.{Near}
-use Rattle.penetration.specs.Penetration.{QEnds}
 use Rattle.chances.specs.Share.{withinEnds, low, high, sumsOf, lowest, highest, rowOf, rowEnds}
 use Rattle.chances.specs.Promises.{Row, SharesEnclosed, SharesNear, UpperNotCut, LowerAtMostOne}
 use Rattle.penetration.proofs.Enclosure.{Q-between, Q-near}

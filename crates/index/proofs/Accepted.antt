@@ -18,7 +18,7 @@ use Rattle.solas.specs.Index.{R, partialMark}
 use Rattle.spans.specs.Hull.{shipOf, Hulled}
 use Rattle.spans.specs.Table.{tableOf}
 use Rattle.spans.proofs.Places.{ship-sound}
-use Rattle.chances.specs.Share.{sumsOf, lowest, highest, rowOf, rowEnds}
+use Rattle.chances.specs.Share.{rowOf, rowEnds}
 use Rattle.chances.proofs.Row.{lower-at-most-one}
 use Rattle.survival.specs.declared.Ratio.{Ratio}
 use Rattle.survival.specs.Ratio.{ratioOf}

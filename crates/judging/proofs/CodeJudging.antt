@@ -1,12 +1,11 @@
 -- A line's judging, step by step as the code goes: a row, the end, a frame, a line. Assumes nothing.
-use Prim.Native.Nat.{ℕ, _+_, _-_, _*_, _≤_, _<_}
+use Prim.Native.Nat.{ℕ, _-_, _≤_, _<_}
 use mathlib.Core.Path.{_≡_, refl, _∙_}
-use mathlib.Core.Bool.{Bool, true, false, cond, not, _||_, or-true}
+use mathlib.Core.Bool.{Bool, true, false, cond, not, or-true}
 use mathlib.Core.List.{List, _∷_}
 use native.Mathlib.Omega.{arith}
-use lib.Dec.{eqb}
-use lib.ListN.{length, take, drop, length-drop}
-use borrow.Author.Tests.{le-leb, lt-leb, eq-eqb, ne-eqb, eqb-false}
+use lib.ListN.{length}
+use borrow.Author.Tests.{le-leb, lt-leb, eq-eqb, ne-eqb}
 use Rattle.laws.proofs.Lists.{rest-of}
 use Rattle.records.specs.declared.Finding.{Finding}
 use Rattle.records.specs.declared.Hull.{Hull}
@@ -20,7 +19,7 @@ use Rattle.frames.specs.Fields.{wordAt}
 use Rattle.casefile.specs.declared.Frame.{Frame}
 use Rattle.casefile.specs.declared.Progress.{Progress}
 use Rattle.casefile.specs.Record.{Row}
-use Rattle.casefile.specs.Layout.{kindOf, isRow, isEnd, frameLength, setLength, headOf, resultsOf, rowOf, countOf}
+use Rattle.casefile.specs.Layout.{kindOf, isRow, frameLength, headOf, resultsOf, rowOf, countOf}
 use Rattle.casefile.specs.Limits.{rowFits}
 use Rattle.casefile.specs.Order.{outOfOrder, leavesOpen, endsOpen}
 use Rattle.casefile.specs.Table.{_when_, firstHolds, wrongFrame, rowChecks, endChecks, lineChecks}

@@ -1,7 +1,7 @@
 -- C, G1 and G3 of a penetration that is at most half of the breadth: not negative, not above one, and small enough for 64 bits. Assumes nothing.
-use mathlib.Core.Path.{_≡_, refl, sym, _∙_}
-use Prim.Native.Nat.{ℕ, _+_, _-_, _*_, _^_, _≤_, _<_}
-use native.Mathlib.Nat.{mul-le-mul, mul-le-mul-left, mul-le-mul-right, mul-pos}
+use mathlib.Core.Path.{_≡_, refl}
+use Prim.Native.Nat.{ℕ, _-_, _*_, _^_, _≤_, _<_}
+use native.Mathlib.Nat.{mul-le-mul, mul-le-mul-left, mul-pos}
 use native.Mathlib.Omega.{arith}
 use Rattle.laws.specs.Fraction.{Is, _less_over_}
 use Rattle.laws.proofs.Fraction.{is-less-over, is-shifted, is-written}

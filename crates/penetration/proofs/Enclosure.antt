@@ -1,24 +1,24 @@
 -- The ends of G1, G3, x·G1/L, G and Q: between them lies the exact figure, and how far they lie apart. Assumes nothing.
 use mathlib.Core.Path.{_≡_, refl}
 use mathlib.Core.Bool.{Bool, true, false, cond}
-use Prim.Native.Nat.{ℕ, _+_, _-_, _*_, _≤_, _<_}
+use Prim.Native.Nat.{ℕ, _-_, _*_, _≤_, _<_}
 use native.Mathlib.Nat.{mul-le-mul-left, mul-le-mul-right, mul-pos, mul-sub, le-of-lt}
 use native.Mathlib.Omega.{arith}
 use borrow.Author.Tests.{leb-false}
 use lib.Dec.{leb}
-use Rattle.laws.specs.Fraction.{Fraction, Is, _over_, whole, _≼_, _⊹_, _⊝_, _⊛_}
+use Rattle.laws.specs.Fraction.{Fraction, Is, _over_, _≼_, _⊹_, _⊝_, _⊛_}
 use Rattle.laws.proofs.Fraction.{≼-trans, is-over, is-⊛, is-shifted, below-across}
 use Rattle.records.specs.declared.Ends.{Ends}
 use Rattle.numbers.specs.Figures.{Between, halvesOf}
-use Rattle.solas.specs.Span.{Touch, neither, one, both, touch, half, p, P}
-use Rattle.solas.specs.Penetration.{C, G1, G3, GAt, G, Q}
+use Rattle.solas.specs.Span.{Touch, neither, one, both, touch, half, p}
+use Rattle.solas.specs.Penetration.{G1, G3, GAt, G, Q}
 use Rattle.solas.proofs.Within.{is-half}
 use Rattle.spans.specs.Rounded.{Probable, Near}
 use Rattle.spans.specs.Span.{pEnds, PEnds}
 use Rattle.spans.proofs.Rounded.{Enclosed, between, ends-enclose, ends-near, ends-probable}
 use Rattle.spans.proofs.Enclosure.{p-enclosed, p-near, p-probable, P-enclosed, P-near, P-probable}
 use Rattle.penetration.specs.Figures.{plus, minus}
-use Rattle.penetration.specs.Penetration.{c, d, G1Ends, G3Ends, partEnds, GEndsAt, GEnds, QEnds}
+use Rattle.penetration.specs.Penetration.{d, G1Ends, G3Ends, partEnds, GEndsAt, GEnds, QEnds}
 use Rattle.penetration.proofs.Depth.{products, C-over, C-at-most-one, C-whole, G1-is, G1-proper, G3-is, G3-proper}
 use Rattle.penetration.proofs.Figures.{enclosed-plus, enclosed-minus, enclosed-portion, enclosed-half, enclosed-mixed, near-plus, near-minus, near-portion, near-half, near-mixed, probable-minus, probable-portion, probable-half, probable-halves, probable-mixed, mixed-whole}
 

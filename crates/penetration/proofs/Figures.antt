@@ -1,5 +1,5 @@
 -- Figures made of others: what sums, differences, parts, halves and mixtures enclose, how far their ends lie apart, and that none is above one. Assumes nothing.
-use mathlib.Core.Path.{_≡_, refl, _∙_}
+use mathlib.Core.Path.{_≡_, _∙_}
 use Prim.Native.Nat.{ℕ, _+_, _-_, _*_, _/_, _^_, _≤_, _<_}
 use native.Mathlib.Nat.{le-trans, mul-comm, mul-sub, mul-pos, mul-le-mul-left, mul-le-mul-right, div-mul-le-self, sub-self, mul-div-cancel}
 use native.Mathlib.Omega.{arith}
@@ -8,7 +8,7 @@ use Rattle.laws.specs.Rounding.{ceil}
 use Rattle.laws.proofs.Fraction.{is-over, is-widened, is-⊹, is-⊝, is-⊛, is-shifted, numerators-below}
 use Rattle.laws.proofs.Rounding.{ceil-least, ceil-lower, ceil-exact, floor-rises, floor-not-above-ceil, ends-apart}
 use Rattle.records.specs.declared.Ends.{Ends}
-use Rattle.numbers.specs.Figures.{Encloses, halvesOf, portionOf}
+use Rattle.numbers.specs.Figures.{halvesOf, portionOf}
 use Rattle.numbers.proofs.Figures.{both, portion-encloses, portion-near, portion-ordered, portion-upper-at-most, halves-enclose, halves-near, halves-ordered, halves-upper-at-most}
 use Rattle.solas.specs.Span.{half}
 use Rattle.solas.proofs.Within.{is-half}

@@ -1,17 +1,16 @@
 -- A layer's figures, and the forms of G put together from them. Assumes nothing.
-use mathlib.Core.Path.{_≡_, ap, _∙_}
+use mathlib.Core.Path.{_≡_, ap}
 use mathlib.Core.Bool.{Bool, cond}
 use Prim.Native.Nat.{ℕ, _-_, _*_, _≤_}
 use native.Mathlib.Omega.{arith}
 use lib.Dec.{leb}
 use Rattle.records.specs.declared.Ends.{Ends}
 use Rattle.numbers.specs.Figures.{halvesOf, portionOf}
-use Rattle.solas.specs.Span.{Touch, neither, one, both, touch}
+use Rattle.solas.specs.Span.{neither, one, both, touch}
 use Rattle.penetration.specs.declared.Layer.{Layer}
 use Rattle.spans.specs.Rounded.{Probable}
 use Rattle.penetration.specs.Figures.{plus, minus}
-use Rattle.spans.specs.Span.{pEnds}
-use Rattle.penetration.specs.Penetration.{G1Ends, G3Ends, partEnds, GEndsAt, GEnds}
+use Rattle.penetration.specs.Penetration.{G1Ends, G3Ends, partEnds, GEnds}
 use Rattle.penetration.specs.Layer.{layerOf, Reached}
 use Rattle.spans.proofs.Enclosure.{p-probable}
 use Rattle.penetration.proofs.Enclosure.{G1-probable, part-probable}

@@ -1,5 +1,5 @@
 -- The rows of a valid case: their ends enclose their exact figures and are close, and what they add is what the answer sums. Assumes nothing.
-use Prim.Native.Nat.{ℕ, zero, suc, _^_, _≤_}
+use Prim.Native.Nat.{ℕ, zero, suc, _≤_}
 use mathlib.Core.Path.{_≡_, refl, ap, _∙_}
 use mathlib.Core.List.{List, [], _∷_, map}
 use native.Mathlib.Omega.{arith}
@@ -16,7 +16,7 @@ use Rattle.survival.specs.Height.{rowVs}
 use Rattle.survival.specs.Survival.{Sensible, given, factorsOf, survivalsOf}
 use Rattle.indices.specs.Index.{Given, partials}
 use Rattle.indices.specs.Exact as exact
-use Rattle.indices.specs.Exact.{Sound, Close, Every, AtAll, rowAt, rowsAt, rowTrio}
+use Rattle.indices.specs.Exact.{Sound, Close, Every, AtAll, rowAt, rowTrio}
 use Rattle.survival.proofs.Factors.{found-sensible}
 use Rattle.indices.proofs.Sums.{sums-are-these}
 use Rattle.casefile.specs.Record.{Row, Case}

@@ -1,5 +1,5 @@
 -- At each draught the exact chances of the listed cases total at most one, and one exactly when every group of non-zero share is listed. Assumes nothing.
-use Prim.Native.Nat.{ℕ, _+_, _*_, _/_, _≤_, _<_}
+use Prim.Native.Nat.{ℕ, _*_, _/_, _≤_, _<_}
 use mathlib.Core.Path.{_≡_, refl}
 use mathlib.Core.List.{List, [], _∷_, map}
 use mathlib.Core.Logic.{_↔_}
@@ -15,7 +15,6 @@ use Rattle.records.specs.declared.Finding.{Finding}
 use Rattle.records.specs.declared.Hull.{Hull}
 use Rattle.frames.proofs.Tests.{holds}
 use Rattle.solas.specs.Ship.{Ship, Sound}
-use Rattle.solas.specs.Count.{Group, groups}
 use Rattle.solas.specs.Height.{rowV}
 use Rattle.solas.specs.Index.{draughts, dp}
 use Rattle.solas.proofs.Figure.{over, over-positive}
@@ -32,7 +31,7 @@ use Rattle.rows.specs.declared.Standing.{Standing}
 use Rattle.rows.specs.Standing.{nowhere, stands}
 use Rattle.rows.specs.Running.{Stood, Follow}
 use Rattle.index.proofs.ValidCase.{hulled, rows-follow}
-use Rattle.promises.specs.Rows.{exactRow, exactRows, rowsOf, chances, groupShare, Listed, AllListed}
+use Rattle.promises.specs.Rows.{exactRow, exactRows, rowsOf, chances, groupShare, AllListed}
 use Rattle.promises.proofs.Numerators.{gives, is-gives, is-all, gives-nothing, all-give}
 use Rattle.promises.proofs.Weighed.{rowsWeigh, groupGives, groupsIn, case-weighs}
 use Rattle.promises.proofs.ListedGroups.{OfGroup, of-groups, listed-at-most, NoneLeftOut, all-exactly-when}

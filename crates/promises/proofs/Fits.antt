@@ -1,12 +1,12 @@
 -- Every figure of an answer fits its bytes: refusals by the table and the lines of an input, ends by the promised width. Assumes nothing.
-use Prim.Native.Nat.{ℕ, zero, suc, _+_, _*_, _/_, _^_, _≤_, _<_}
+use Prim.Native.Nat.{ℕ, zero, suc, _+_, _*_, _^_, _≤_, _<_}
 use mathlib.Core.Path.{_≡_, refl}
 use mathlib.Core.List.{List, [], _∷_, List·Memᴰ}
 use mathlib.Core.Logic.{_⊎_, inl, inr}
-use native.Mathlib.Nat.{le-trans, div-mul-le-self}
+use native.Mathlib.Nat.{div-mul-le-self}
 use native.Mathlib.Omega.{arith}
 use lib.Dec.{ltb, ltb→lt}
-use lib.ListN.{length, getD}
+use lib.ListN.{length}
 use borrow.Author.Tests.{le-ltb}
 use Rattle.laws.specs.Fraction.{whole, _≼_}
 use Rattle.laws.proofs.Table.{member-passes}
@@ -38,9 +38,8 @@ use Rattle.index.proofs.ValidCase.{hulled, rows-follow}
 use Rattle.index.proofs.Accepted.{share-small}
 use Rattle.rows.proofs.InTurn.{length-numbers}
 use Rattle.promises.specs.Rows.{rowsOf, chances}
-use Rattle.promises.specs.Promises.{Kept}
 use Rattle.promises.specs.Printing.{EveryFigureFits, PrintedReadsBack}
-use Rattle.promises.proofs.CaseRows.{sums-are, as-many, all-sound, all-close}
+use Rattle.promises.proofs.CaseRows.{sums-are, all-sound, all-close}
 use Rattle.promises.proofs.Chances.{chances-at-most-one}
 use Rattle.promises.proofs.Widths.{lower-at-most-one}
 use Rattle.promises.proofs.Kept.{promise}

@@ -2,13 +2,13 @@
 -- gives is left out. Assumes nothing.
 use Prim.Native.Nat.{ℕ, suc, _*_, _≤_, _<_}
 use mathlib.Core.Path.{_≡_, refl, sym, _∙_, ap₂, subst}
-use mathlib.Core.Bool.{Bool, true, false, cond}
+use mathlib.Core.Bool.{Bool, true, false}
 use mathlib.Core.List.{List, [], _∷_, map, List·Memᴰ, List·Memᴰ·head, List·Memᴰ·tail}
-use mathlib.Core.Logic.{_↔_, inl, inr}
+use mathlib.Core.Logic.{_↔_}
 use native.Mathlib.Omega.{arith}
 use lib.Dec.{eqb}
 use borrow.Author.Tests.{eqb-true}
-use Rattle.laws.specs.Sums.{sumOf, sumBelow, Rising}
+use Rattle.laws.specs.Sums.{sumOf, Rising}
 use Rattle.laws.proofs.Listed.{listed-not-above, listed-equal}
 use Rattle.records.specs.declared.Hull.{Hull}
 use Rattle.records.specs.declared.RowHead.{RowHead}
@@ -19,7 +19,7 @@ use Rattle.spans.specs.Hull.{shipOf}
 use Rattle.casefile.specs.Record.{Row}
 use Rattle.casefile.specs.Limits.{rowFits}
 use Rattle.casefile.specs.Order.{sameGroup}
-use Rattle.casefile.specs.Valid.{Every, SameGroup, LaterGroup, Follows, higher, deeper, later, ValidRow, Ordered}
+use Rattle.casefile.specs.Valid.{Every, SameGroup, Follows, higher, deeper, later, ValidRow, Ordered}
 use Rattle.casefile.proofs.Limits.{row-is}
 use Rattle.casefile.proofs.Groups.{After, after-linked}
 use Rattle.promises.proofs.Numbered.{place, place-below, place-rises, place-tells, byPlace, all-places, at-place, has-place}

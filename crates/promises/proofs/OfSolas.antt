@@ -1,5 +1,5 @@
 -- Each row of an accepted file stands in a layer that goes deeper, so that its exact share is the regulation's. Assumes nothing.
-use Prim.Native.Nat.{ℕ, _≤_, _<_}
+use Prim.Native.Nat.{_≤_, _<_}
 use mathlib.Core.Path.{_≡_, refl, subst}
 use mathlib.Core.Bool.{false}
 use mathlib.Core.List.{List, [], _∷_}
@@ -13,7 +13,7 @@ use Rattle.spans.specs.Hull.{shipOf, Hulled}
 use Rattle.spans.proofs.Places.{ship-sound}
 use Rattle.indices.specs.Exact as exact
 use Rattle.indices.specs.Exact.{Each}
-use Rattle.casefile.specs.Record.{Row, Case}
+use Rattle.casefile.specs.Record.{Row}
 use Rattle.casefile.specs.Order.{sameGroup}
 use Rattle.casefile.specs.Valid.{Follows, higher, deeper, later, Ordered}
 use Rattle.casefile.proofs.Groups.{After, after-linked}

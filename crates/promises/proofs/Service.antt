@@ -1,23 +1,19 @@
 -- Demands 1 and 2 of what the entry returns, from the reading's theorems. Assumes nothing.
 use Prim.Native.Nat.{ℕ, _*_, _≤_, _<_}
 use mathlib.Core.Path.{_≡_, refl, sym, _∙_, ap}
-use mathlib.Core.Bool.{Bool, true, false, cond}
+use mathlib.Core.Bool.{Bool, true, false}
 use mathlib.Core.List.{List}
-use mathlib.Core.Logic.{_↔_}
 use native.Mathlib.Omega.{arith}
 use lib.Dec.{ltb}
 use lib.ListN.{length}
 use borrow.Author.Tests.{ltb-true, ltb-false, lt-ltb, le-ltb}
-use Rattle.records.specs.declared.Answer.{Answer}
 use Rattle.casefile.specs.Record.{Case}
-use Rattle.casefile.specs.Encode.{encode}
 use Rattle.casefile.specs.Reading.{Reading, refused, accepted, reading}
-use Rattle.casefile.specs.Refusal.{Refusal}
 use Rattle.casefile.proofs.Soundness.{sound}
 use Rattle.casefile.proofs.Completeness.{complete}
 use Rattle.casefile.proofs.Refusal.{is-refusal, refusal-is, nonzero}
 use Rattle.index.specs.Answer.{figures, answer, refusal, answered, sheetAfter}
-use Rattle.promises.specs.Service.{FileOf, AcceptedExactly, RefusedFor, by-table, no-room, RefusedExactly, Bare, RefusalsAreBare}
+use Rattle.promises.specs.Service.{FileOf, AcceptedExactly, RefusedFor, by-table, no-room, RefusedExactly, RefusalsAreBare}
 
 -- ---- a file of a case is read as it, and what is read as a case is its file
 is-file : (f : List ℕ) (c : Case) → reading f ≡ accepted c → FileOf f c

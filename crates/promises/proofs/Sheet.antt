@@ -1,6 +1,6 @@
 -- The sheet of an accepted file tells each row's exact share, since its numbers are the rows' share ends in turn. Assumes nothing.
 use Prim.Native.Nat.{ℕ, _*_, _≤_}
-use mathlib.Core.Path.{_≡_, refl, sym, _∙_, ap}
+use mathlib.Core.Path.{_≡_, sym, _∙_, ap}
 use mathlib.Core.List.{List, [], _∷_, _++_}
 use native.Mathlib.Omega.{arith}
 use lib.ListN.{length, drop, length-append, length-drop}
@@ -8,7 +8,7 @@ use lib.Seq.{drop-append-seam}
 use borrow.Author.Tests.{le-ltb}
 use Rattle.records.specs.declared.Hull.{Hull}
 use Rattle.spans.specs.Hull.{Hulled}
-use Rattle.casefile.specs.Record.{Row, Case}
+use Rattle.casefile.specs.Record.{Row}
 use Rattle.casefile.proofs.Soundness.{sound}
 use Rattle.rows.specs.declared.Standing.{Standing}
 use Rattle.rows.specs.Standing.{nowhere, stands}
@@ -18,7 +18,7 @@ use Rattle.rows.specs.Running.{Follow}
 use Rattle.index.specs.Answer.{shares, sheetAfter}
 use Rattle.index.proofs.ValidCase.{hulled, rows-follow}
 use Rattle.promises.specs.Rows.{exactRows}
-use Rattle.promises.specs.Sheet.{TellsRows, SheetOf, SheetTells}
+use Rattle.promises.specs.Sheet.{TellsRows, SheetTells}
 use Rattle.promises.proofs.CaseRows.{sound-row, close-row}
 
 tells-rows : {h : Hull} (k : Hulled h) (y : Standing) (rs : List Row) (rest : List ℕ) → Follow h y rs → TellsRows (numbers (sharesFrom h y rs) ++ rest) (exactRows h y rs)

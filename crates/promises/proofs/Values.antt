@@ -1,6 +1,6 @@
 -- Document 01's table of proved values, by computation from the definitions. Assumes nothing.
-use Prim.Native.Nat.{ℕ, _-_, _*_, _/_, _^_, min}
-use mathlib.Core.Path.{_≡_, refl}
+use Prim.Native.Nat.{ℕ, _-_}
+use mathlib.Core.Path.{refl}
 use native.Mathlib.Omega.{arith}
 use lib.Dec.{lit<}
 use Rattle.laws.specs.Fraction.{_less_over_, whole, _≈_, _⊹_, _⊝_, _⊛_}
@@ -15,7 +15,7 @@ use Rattle.solas.specs.Survival.{k, s⁴}
 use Rattle.solas.specs.Index.{R}
 use Rattle.solas.proofs.Survival.{is-s⁴, s⁴-not-negative, s⁴-at-most-one}
 use Rattle.survival.specs.Ratio.{ratioOf}
-use Rattle.survival.specs.Survival.{root, ends, factorOf, scaledOf, roundedOf, survivalOf}
+use Rattle.survival.specs.Survival.{factorOf, scaledOf, roundedOf, survivalOf}
 use Rattle.survival.proofs.Bounds.{ends-same}
 use Rattle.promises.specs.Values.{gives, ProvedValues}
 

@@ -1,12 +1,10 @@
 -- The ends of a case's partial indices and of A are in order and close: their rows' lower ends come to at most one, since the chances do. Assumes nothing.
 use Prim.Native.Nat.{ℕ, _+_, _*_, _/_, _^_, _≤_, _<_}
-use mathlib.Core.Path.{_≡_, refl}
-use mathlib.Core.List.{List, [], _∷_, map}
-use native.Mathlib.Nat.{le-trans, le-of-eq, le-of-mul-le-mul-right, div-mul-le-self, mul-le-mul, mul-le-mul-right, mul-le-mul-left}
+use mathlib.Core.List.{List, [], _∷_}
+use native.Mathlib.Nat.{le-of-mul-le-mul-right, div-mul-le-self, mul-le-mul, mul-le-mul-right}
 use native.Mathlib.Omega.{arith}
 use lib.Dec.{lit<}
-use lib.ListN.{length}
-use Rattle.laws.specs.Fraction.{Fraction, _over_, whole, Is, _≈_, _≼_, _⊛_, total}
+use Rattle.laws.specs.Fraction.{Fraction, _over_, whole, _≈_, _≼_, _⊛_, total}
 use Rattle.laws.specs.Rounding.{ceil}
 use Rattle.laws.specs.Sums.{sumOf}
 use Rattle.laws.proofs.Fraction.{is-over, is-nothing, is-one, is-⊹, is-⊛, is-shifted, same, numerators-below, ≼-of-≈, ≼-trans, ⊹-≼}
@@ -15,7 +13,7 @@ use Rattle.laws.proofs.FractionCompare.{⊛-rises}
 use Rattle.numbers.specs.Figures.{billionths, Between}
 use Rattle.records.specs.declared.Ends.{Ends}
 use Rattle.survival.specs.Survival.{ends}
-use Rattle.indices.specs.Index.{scale, at, addsOf, attainedOf, weighed}
+use Rattle.indices.specs.Index.{scale, addsOf, attainedOf, weighed}
 use Rattle.indices.specs.Exact.{RowAt, Sound, Every, weight, rowEnds, partialEnds, Thrice, AtAll, partialsOf}
 use Rattle.indices.specs.Promises.{AtMostOne}
 use Rattle.survival.proofs.Bounds.{ends-ordered}

@@ -1,5 +1,5 @@
 -- One row more: what the share, the adding and the sum ask, and that together they are what the row comes to. Assumes nothing.
-use Prim.Native.Nat.{ℕ, _^_, _≤_}
+use Prim.Native.Nat.{ℕ, _^_}
 use mathlib.Core.Path.{_≡_, refl, sym, _∙_, ap, subst}
 use mathlib.Core.List.{List}
 use Rattle.records.specs.declared.Hull.{Hull}

@@ -1,5 +1,4 @@
 -- Where a row stands after another: in its layer, in a later layer of its group, or in another group; and rows of one layer have one share. Assumes nothing.
-use Prim.Native.Nat.{ℕ}
 use mathlib.Core.Path.{_≡_, refl, sym, _∙_, ap}
 use mathlib.Core.Bool.{Bool, true, false, cond, _&&_}
 use lib.Dec.{eqb}

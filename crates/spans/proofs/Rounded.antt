@@ -3,7 +3,7 @@ use mathlib.Core.Path.{_≡_, _∙_}
 use Prim.Native.Nat.{ℕ, _+_, _-_, _*_, _^_, _≤_, _<_}
 use native.Mathlib.Nat.{mul-comm, mul-sub, mul-pos, mul-zero}
 use native.Mathlib.Omega.{arith}
-use Rattle.laws.specs.Fraction.{Fraction, den, Is, _less_over_, _over_, _≼_}
+use Rattle.laws.specs.Fraction.{Fraction, Is, _less_over_, _over_, _≼_}
 use Rattle.laws.proofs.Fraction.{positive, is-less-over, is-widened, below, numerators-below}
 use Rattle.records.specs.declared.Ends.{Ends}
 use Rattle.numbers.specs.Figures.{billionthsOf, Encloses, Between}

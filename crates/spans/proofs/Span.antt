@@ -1,9 +1,9 @@
 -- The ends of p and P, from p as a ratio and by the ends of the ship that the span touches. Assumes nothing.
-use mathlib.Core.Path.{_≡_, refl, sym, _∙_}
-use Prim.Native.Nat.{ℕ, _+_, _-_, _*_, _^_, _≤_, _<_}
+use mathlib.Core.Path.{_≡_, refl}
+use Prim.Native.Nat.{ℕ, _+_, _-_, _*_, _^_, _≤_}
 use native.Mathlib.Omega.{arith}
 use native.Mathlib.Nat.{mul-le-mul-right}
-use Rattle.laws.specs.Fraction.{Fraction, _less_over_, _over_, whole, _⊹_, _⊛_, Is}
+use Rattle.laws.specs.Fraction.{_less_over_, _over_, _⊹_, _⊛_, Is}
 use Rattle.laws.specs.Rounding.{ceil}
 use Rattle.laws.proofs.Fraction.{is-over, is-widened, is-⊹, is-⊛, is-shifted}
 use Rattle.records.specs.declared.Ends.{Ends}
@@ -11,7 +11,6 @@ use Rattle.numbers.specs.Figures.{Proper, billionthsOf}
 use Rattle.numbers.proofs.Figures.{proper}
 use Rattle.solas.specs.Span.{Touch, neither, one, both, touch, half, p, PAt, P}
 use Rattle.bands.specs.declared.Ratio.{Ratio}
-use Rattle.spans.specs.declared.SpanEnds.{SpanEnds}
 use Rattle.spans.specs.Rounded.{endsOf}
 use Rattle.bands.specs.Bands.{Chance}
 use Rattle.spans.specs.Span.{pEnds, PEnds, spanEnds, touches}

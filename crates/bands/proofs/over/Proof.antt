@@ -1,5 +1,4 @@
 -- `bands::over` meets its contract, by the coefficient's sign. Assumes nothing.
-use mathlib.Core.Path.{sym}
 use mir.Syntax.{w64}
 use mir.ValLaws.{toZ-ofZ}
 use Rattle.bands.proofs.Coefficient.{not-below, below-nothing-above}

@@ -1,5 +1,4 @@
 -- `bands::under` meets its contract, by the coefficient's sign. Assumes nothing.
-use mathlib.Core.Path.{sym}
 use lib.IntN.{pos, _-ℤ_}
 use mir.Syntax.{w64}
 use mir.ValLaws.{toZ-ofZ}

@@ -1,6 +1,5 @@
 -- `chances::row_ends` meets its contract. Assumes nothing.
 use borrow.Author.Needs.{needs}
-use native.Mathlib.Omega.{arith}
 use Rattle.chances.specs.Share.{lowest, highest}
 use Rattle.chances.proofs.Group.{row-free, row-held}
 use Rattle.chances.proofs.row_ends.Statement.{statement}

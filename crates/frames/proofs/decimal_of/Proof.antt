@@ -1,5 +1,4 @@
 -- `decimal_of` meets its contract: a byte of the range from 0 to 9, below it or above it. Assumes nothing.
-use borrow.Author.Needs.{needs}
 use Prim.Native.Nat.{_-_}
 use native.Mathlib.Omega.{arith}
 use Rattle.frames.proofs.CodeDecoding.{in-range, below-range, above-range}

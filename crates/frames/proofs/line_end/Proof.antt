@@ -1,5 +1,5 @@
 -- `line_end` meets its contract: from each place before the line's end the line ends at the same place. Assumes nothing.
-use mathlib.Core.Path.{_≡_, refl}
+use mathlib.Core.Path.{_≡_}
 use Prim.Native.Nat.{_+_, _-_}
 use lib.ListN.{length, drop}
 use Rattle.frames.specs.Lines.{lineLength}

@@ -1,7 +1,6 @@
 -- `numbers::root_up` meets its contract, from a number whose fourth power is not above, and the next one's not below. Assumes nothing.
 use borrow.Author.Needs.{needs}
-use mathlib.Core.Path.{_≡_, sym, _∙_}
-use native.Mathlib.Omega.{arith}
+use mathlib.Core.Path.{sym, _∙_}
 use Rattle.numbers.proofs.Root.{up-exact, up-next}
 use Rattle.numbers.proofs.root_up.Statement.{statement}
 use Rattle.numbers.proofs.root_up.Tie as tie

@@ -1,6 +1,6 @@
 -- `penetration::is_short` meets its contract: no product wraps. Assumes nothing.
 use borrow.Author.Needs.{needs}
-use Prim.Native.Nat.{_*_, _≤_}
+use Prim.Native.Nat.{_≤_}
 use native.Mathlib.Nat.{mul-le-mul}
 use native.Mathlib.Omega.{arith}
 use Rattle.penetration.proofs.is_short.Statement.{statement}

@@ -1,5 +1,5 @@
 -- `penetration::q_ends` meets its contract: no product wraps. Assumes nothing.
-use Prim.Native.Nat.{ℕ, _+_, _-_, _*_, _^_, _≤_}
+use Prim.Native.Nat.{ℕ, _-_, _*_, _^_, _≤_}
 use mathlib.Core.Path.{refl}
 use native.Mathlib.Nat.{mul-le-mul}
 use native.Mathlib.Omega.{arith}

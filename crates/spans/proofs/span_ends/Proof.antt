@@ -2,10 +2,9 @@
 use borrow.Author.Needs.{needs}
 use mathlib.Core.Path.{_≡_, sym, _∙_}
 use Prim.Native.Nat.{_-_}
-use native.Mathlib.Omega.{arith}
-use Rattle.solas.specs.Span.{neither, one, both, touch}
+use Rattle.solas.specs.Span.{neither, one, both}
 use Rattle.spans.specs.Span.{pEnds}
-use Rattle.spans.proofs.Span.{inner-proper, inner-ends, neither-touched, both-touched, one-touched, whole-ends, span-of}
+use Rattle.spans.proofs.Span.{inner-ends, neither-touched, both-touched, one-touched, whole-ends, span-of}
 use Rattle.spans.proofs.span_ends.Statement.{statement}
 use Rattle.spans.proofs.span_ends.Tie as tie
 

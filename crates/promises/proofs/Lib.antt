@@ -12,3 +12,4 @@ pub mod Fits
 pub mod OfSolas
 pub mod Values
 pub mod OneFile
+pub mod Sizes

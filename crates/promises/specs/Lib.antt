@@ -6,3 +6,4 @@ pub mod Printing
 pub mod OfSolas
 pub mod OneFile
 pub mod Values
+pub mod Sizes

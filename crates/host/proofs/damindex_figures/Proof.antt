@@ -1,7 +1,7 @@
 -- `host::damindex_figures` meets its contract: with room for the figures the answer's, else nothing. Assumes nothing.
 use borrow.Author.Needs.{needs}
 use Rattle.casefile.specs.Reading.{reading}
-use Rattle.host.proofs.Written.{no-room, room-for-all}
+use Rattle.host.proofs.Room.{no-room, room-for-all}
 use Rattle.host.proofs.damindex_figures.Statement.{statement}
 use Rattle.host.proofs.damindex_figures.Tie as tie
 
@@ -11,8 +11,8 @@ returns c = let r = c .before .before .before .before in no-room (reading (r .ar
 answer-requires : tie.Need-answer-requires
 answer-requires c κs = search needs
 
-put-figures-requires : tie.Need-put-figures-requires
-put-figures-requires c κs = search needs
+write-figures-requires : tie.Need-write-figures-requires
+write-figures-requires c κs = search needs
 
 same-length : tie.Need-same-length
 same-length c = search needs
@@ -24,9 +24,9 @@ returns-2 : tie.Need-returns-2
 returns-2 c =
     let r = c .before .before .before .before .before .before .before .before .before .before .before .before in
     let answered = c .before .before .before .before .before .before .answer in
-    room-for-all (reading (r .args .input .now)) (r .args .figures .now) (r .args .sheet .now) (search needs) (answered .ensures .0) (answered .ensures .1) (c .before .before .put-figures .ensures)
+    room-for-all (reading (r .args .input .now)) (r .args .figures .now) (r .args .sheet .now) (search needs) (answered .ensures .0) (answered .ensures .1) (c .before .before .write-figures .ensures)
 
 pub damindex-figures-spec : {M : Type 1} → statement M
 damindex-figures-spec =
     tie.close
-    (tie.spec returns answer-requires put-figures-requires same-length same-length-2 returns-2)
+    (tie.spec returns answer-requires write-figures-requires same-length same-length-2 returns-2)

@@ -16,7 +16,7 @@ use Rattle.rows.specs.Standing.{nowhere}
 use Rattle.index.specs.Answer.{figures, answer, shares, refusal, answered}
 use Rattle.index.specs.Report.{sharesIn, report}
 use Rattle.rows.proofs.InTurn.{length-numbers}
-use Rattle.host.specs.Sizes.{shortestReport, longestReport, longestSheet, ReportsFit, SheetsServe}
+use Rattle.promises.specs.Sizes.{shortestReport, longestReport, longestSheet, ReportsFit, SheetsServe}
 
 -- a sheet that is long enough for a case's shares
 roomy : (c : Case) → length (c .rows) ≤ 500 → (size : ℕ) → longestSheet ≤ size → answered (accepted c) size ≡ answer c

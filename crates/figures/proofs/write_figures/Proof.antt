@@ -1,8 +1,8 @@
--- `host::put_figures` meets its contract: six times two figures are the twelve. Assumes nothing.
+-- `figures::write_figures` meets its contract: six times two figures are the twelve. Assumes nothing.
 use borrow.Author.Needs.{needs}
-use Rattle.host.proofs.Written.{figures-written}
-use Rattle.host.proofs.put_figures.Statement.{statement}
-use Rattle.host.proofs.put_figures.Tie as tie
+use Rattle.figures.proofs.Written.{figures-written}
+use Rattle.figures.proofs.write_figures.Statement.{statement}
+use Rattle.figures.proofs.write_figures.Tie as tie
 
 put-two-requires : tie.Need-put-two-requires
 put-two-requires c κs = search needs
@@ -54,8 +54,8 @@ returns c =
     let r = number .before .before .before .before .before .before in
     figures-written (r .args .a) (r .args .figures .now) (number .put-two .ensures) (verdict .put-two2 .ensures) (attained .put-two3 .ensures) (deepest .put-two4 .ensures) (partial .put-two5 .ensures) (light .put-two6 .ensures) (r .pre)
 
-pub put-figures-spec : {M : Type 1} → statement M
-put-figures-spec =
+pub write-figures-spec : {M : Type 1} → statement M
+write-figures-spec =
     tie.close
     (tie.spec
     put-two-requires

@@ -1,10 +1,10 @@
--- `host::put_two` meets its contract: two stores, two figures. Assumes nothing.
+-- `figures::put_two` meets its contract: two stores, two figures. Assumes nothing.
 use borrow.Author.Needs.{needs}
 use native.Mathlib.Omega.{arith}
 use lib.ListN.{length-set}
-use Rattle.host.proofs.Written.{two-written}
-use Rattle.host.proofs.put_two.Statement.{statement}
-use Rattle.host.proofs.put_two.Tie as tie
+use Rattle.figures.proofs.Written.{two-written}
+use Rattle.figures.proofs.put_two.Statement.{statement}
+use Rattle.figures.proofs.put_two.Tie as tie
 
 mul-figures : tie.Need-mul-figures
 mul-figures c = search needs

@@ -7,7 +7,6 @@ ghost use Rattle.casefile.specs.Judging.{hullNumber, hullJudged, firstJudged};
 use casefile::Judgement;
 use frames::Written;
 use records::Hull;
-use rules::limits;
 
 mod readers; // the hull's record from fields
 

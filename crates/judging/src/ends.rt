@@ -6,7 +6,6 @@ ghost use Rattle.casefile.specs.Judging.{endJudged};
 use casefile::Frame;
 use casefile::Progress;
 use records::Hull;
-use rules::order;
 
 // With the count that it gives: the number of the first check that holds, or 0.
 pub fn end_number(h: Hull, p: Progress, count: u64) -> u64

@@ -11,8 +11,6 @@ use records::Finding;
 use records::Hull;
 use records::RowHead;
 use rowlines::readers;
-use rules::limits;
-use rules::order;
 
 // A row on its records, after the rows before it: the number of the first check that holds, or 0.
 pub fn row_number(h: Hull, p: Progress, head: RowHead, results: [Finding; 3]) -> u64

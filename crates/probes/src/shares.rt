@@ -53,7 +53,7 @@ fn hull_in(ns: &[u64]) -> Hull
 fn hull_fits(h: Hull) -> bool
     ensures { λ r. ⌜ r ≡ hullFits h ⌝ }
 {
-    rules::limits::sizes_fit(h) & rules::limits::zones_fit(h)
+    limits::sizes_fit(h) & limits::zones_fit(h)
 }
 
 // Whether the hull has a row of that group in the layer from b1 to b2.
@@ -73,7 +73,7 @@ fn row_fits(h: Hull, a: u64, n: u64, b1: u64, b2: u64) -> bool
         heel: 0,
         given: 0,
     };
-    rules::limits::row_fits(h, head, [none, none, none]) & (b1 <= b2)
+    limits::row_fits(h, head, [none, none, none]) & (b1 <= b2)
 }
 
 fn share_in(t: &[u64], h: Hull, a: u64, n: u64, b1: u64, b2: u64) -> Ends

@@ -1,0 +1,81 @@
+-- Limits as the code tests them: places that rise one by one, and a group of zones without the sum that could wrap. Assumes nothing.
+use Prim.Native.Nat.{ℕ, _+_, _-_, _≤_, _<_}
+use mathlib.Core.Path.{_≡_, refl}
+use mathlib.Core.Bool.{Bool, true, false, _&&_}
+use mathlib.Core.List.{List, [], _∷_}
+use native.Mathlib.Numerals.{add-one}
+use native.Mathlib.Omega.{arith}
+use lib.Dec.{leb, ltb, eqb}
+use lib.ListN.{length, getD}
+use borrow.Author.Tests.{le-leb, lt-leb, leb-true}
+use Rattle.records.specs.declared.Finding.{Finding}
+use Rattle.records.specs.declared.Hull.{Hull}
+use Rattle.records.specs.declared.RowHead.{RowHead}
+use Rattle.frames.proofs.Tests.{same-test}
+use Rattle.casefile.specs.Limits.{between, risingTo, zonesFit, headFits, findingFits, findingsFit, rowFits}
+
+-- ---- the zones of a hull
+
+pub rising-none : (places : List ℕ) → true ≡ risingTo places 0
+unfolding risingTo
+rising-none places = refl
+
+pub rising-more : (places : List ℕ) (k : ℕ) (rising : Bool) → rising ≡ risingTo places k → (rising && ltb (getD places k 0) (getD places (k + 1) 0)) ≡ risingTo places (k + 1)
+unfolding risingTo
+rising-more places k rising e = rw (add-one, e) refl
+
+module _ (h : Hull) where
+  pub no-zones : h .zones < 1 → false ≡ zonesFit h
+  unfolding zonesFit between
+  no-zones l = rw (lt-leb 1 (h .zones) l) refl
+
+  pub too-many-zones : 1 ≤ h .zones → 20 < h .zones → false ≡ zonesFit h
+  unfolding zonesFit between
+  too-many-zones l k = rw (le-leb 1 (h .zones) l, lt-leb (h .zones) 20 k) refl
+
+  pub zones-by-places : (rising : Bool) → 1 ≤ h .zones → h .zones ≤ 20 → rising ≡ risingTo (h .places) (h .zones)
+      → (eqb (getD (h .places) 0 0) 0 && eqb (getD (h .places) (h .zones) 0) (h .length) && rising) ≡ zonesFit h
+  unfolding zonesFit between
+  zones-by-places rising l k e = rw (le-leb 1 (h .zones) l, le-leb (h .zones) 20 k, e) refl
+
+-- ---- sums that could wrap
+
+-- a group by its first zone a and zone count n, in a ship of m zones
+module _ (a n m : ℕ) where
+  pub no-first : a < 1 → false ≡ (leb 1 a && leb 1 n && leb (a + n - 1) m)
+  no-first h = rw (lt-leb 1 a h) refl
+
+  pub no-count : 1 ≤ a → n < 1 → false ≡ (leb 1 a && leb 1 n && leb (a + n - 1) m)
+  no-count h k = rw (le-leb 1 a h, lt-leb 1 n k) refl
+
+  module _ (h : 1 ≤ a) (k : 1 ≤ n) where
+    pub first-beyond : m < a → false ≡ (leb 1 a && leb 1 n && leb (a + n - 1) m)
+    first-beyond l = rw (le-leb 1 a h, le-leb 1 n k, lt-leb (a + n - 1) m (omega arith)) refl
+
+    pub last-within : a ≤ m → leb (n - 1) (m - a) ≡ (leb 1 a && leb 1 n && leb (a + n - 1) m)
+    last-within l =
+        rw (le-leb 1 a h, le-leb 1 n k)
+        (same-test (leb (n - 1) (m - a)) (leb (a + n - 1) m)
+        (λ e. le-leb (a + n - 1) m (omega (arith, leb-true (n - 1) (m - a) e)))
+        (λ e. le-leb (n - 1) (m - a) (omega (arith, leb-true (a + n - 1) m e))))
+
+-- ---- three results by their places
+
+and-true : (t : Bool) → (t && true) ≡ t
+and-true true = refl
+and-true false = refl
+
+three-fit : (rs : List Finding) (d : Finding) → length rs ≡ 3
+    → (findingFits (getD rs 0 d) && (findingFits (getD rs 1 d) && findingFits (getD rs 2 d))) ≡ findingsFit rs
+unfolding findingsFit
+three-fit [] d e = absurd (omega arith)
+three-fit (a ∷ []) d e = absurd (omega arith)
+three-fit (a ∷ b ∷ []) d e = absurd (omega arith)
+three-fit (a ∷ b ∷ c ∷ []) d e = rw (and-true (findingFits c)) refl
+three-fit (a ∷ b ∷ c ∷ x ∷ rs) d e = absurd (omega arith)
+
+pub row-of-three : (h : Hull) (head : RowHead) (rs : List Finding) (d : Finding) (f a b c : Bool) → length rs ≡ 3
+    → f ≡ headFits h head → a ≡ findingFits (getD rs 0 d) → b ≡ findingFits (getD rs 1 d) → c ≡ findingFits (getD rs 2 d)
+    → (f && (a && (b && c))) ≡ rowFits h (record { head = head; results = rs })
+unfolding rowFits
+row-of-three h head rs d f a b c n e p q r = rw (e, p, q, r, three-fit rs d n) refl

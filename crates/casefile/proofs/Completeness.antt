@@ -9,11 +9,11 @@ use native.Mathlib.Omega.{arith}
 use lib.ListN.{length}
 use borrow.Author.Tests.{eq-eqb, le-ltb}
 use Rattle.laws.specs.Bytes.{Octets, bytes}
+use Rattle.laws.proofs.Tests.{holds}
 use Rattle.records.specs.declared.Hull.{Hull}
-use Rattle.frames.specs.Lines.{Line, lines}
+use Rattle.lines.specs.Lines.{Line, lines}
 use Rattle.frames.specs.Hex.{pairs, hex, badlyWritten, lineOf}
 use Rattle.frames.specs.Fields.{wordAt}
-use Rattle.frames.proofs.Tests.{holds}
 use Rattle.frames.proofs.Pairs.{pairs-hex, proper-hex, line-in-front}
 use Rattle.casefile.specs.declared.Progress.{Progress}
 use Rattle.casefile.specs.Record.{Row, Case}

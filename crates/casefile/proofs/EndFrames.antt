@@ -8,10 +8,10 @@ use native.Mathlib.Omega.{arith}
 use lib.Dec.{ltb}
 use lib.ListN.{length, getD}
 use borrow.Author.Tests.{eqb-true, not-false}
+use Rattle.laws.proofs.Tests.{neither}
 use Rattle.records.specs.declared.Hull.{Hull}
-use Rattle.frames.specs.Lines.{Line}
+use Rattle.lines.specs.Lines.{Line}
 use Rattle.frames.specs.Hex.{pairs}
-use Rattle.frames.proofs.Tests.{neither}
 use Rattle.casefile.specs.declared.Progress.{Progress}
 use Rattle.casefile.specs.Layout.{kindOf, isHull, isRow, isEnd, shortestHull}
 use Rattle.casefile.specs.Table.{firstHolds, wrongHullFrame, hullChecks}

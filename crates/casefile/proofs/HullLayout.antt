@@ -11,10 +11,10 @@ use borrow.Author.Tests.{eqb-false, ltb-true, ne-eqb, lt-ltb}
 use Rattle.laws.specs.Lists.{tabulate}
 use Rattle.laws.specs.Bytes.{Octets, bytes}
 use Rattle.laws.proofs.Lists.{length-tabulate, getD-tabulate, tabulate-same, length-part, getD-part}
+use Rattle.laws.proofs.Bytes.{octets-cons, octets-append}
 use Rattle.records.specs.declared.Hull.{Hull}
 use Rattle.frames.specs.Fields.{byteAt, wordAt}
 use Rattle.frames.proofs.Fields.{octets-drop, word-drop, bytes-of-word}
-use Rattle.frames.proofs.Pairs.{octets-cons, octets-append}
 use Rattle.casefile.specs.Layout.{kindOf, fieldsOf, hullLength, placeOf, placesOf, hullOf, words, innerOf, hullBytes}
 use Rattle.casefile.specs.Valid.{Placed}
 use Rattle.casefile.proofs.Limits.{Sizes, Zones, rising-below}

@@ -7,9 +7,9 @@ use native.Mathlib.Nat.{eq-or-lt-of-le}
 use native.Mathlib.Omega.{arith}
 use lib.Dec.{leb, ltb, eqb}
 use borrow.Author.Tests.{leb-true, leb-false, ltb-false, eqb-true, eqb-false, not-false, le-leb, lt-leb, le-ltb, eq-eqb, ne-eqb}
+use Rattle.laws.proofs.Tests.{both, neither}
 use Rattle.records.specs.declared.Hull.{Hull}
 use Rattle.records.specs.declared.RowHead.{RowHead}
-use Rattle.frames.proofs.Tests.{both, neither}
 use Rattle.casefile.specs.Order.{atTop, closesGroup, isSome, sameGroup, sameLayer, earlierGroup, outOfOrder, leavesOpen, endsOpen}
 use Rattle.casefile.specs.Valid.{SameGroup, LaterGroup, AtTop, BelowTop, ClosesGroup, Follows, higher, deeper, later}
 

@@ -10,12 +10,12 @@ use lib.ListN.{length, length-drop}
 use lib.Seq.{drop-cons}
 use borrow.Author.Tests.{ltb-false, eqb-true, not-false}
 use Rattle.laws.specs.Bytes.{Octets}
+use Rattle.laws.proofs.Tests.{neither, one-holds, proved}
 use Rattle.records.specs.declared.Hull.{Hull}
-use Rattle.frames.specs.Lines.{Line}
+use Rattle.lines.specs.Lines.{Line}
+use Rattle.lines.proofs.Lines.{written}
 use Rattle.frames.specs.Hex.{pairs, proper, badlyWritten, lineOf}
 use Rattle.frames.specs.Fields.{byteAt}
-use Rattle.frames.proofs.Tests.{neither, one-holds, proved}
-use Rattle.frames.proofs.Lines.{written}
 use Rattle.frames.proofs.Pairs.{hex-pairs, pairs-octets}
 use Rattle.frames.proofs.Fields.{octets-drop}
 use Rattle.casefile.specs.Layout.{kindOf, fieldsOf, isHull, isRow, isEnd, frameLength, hullLength, shortestHull, hullOf, headOf, findingOf, resultsOf, rowOf, countOf, hullBytes, rowBytes, endBytes}

@@ -8,7 +8,7 @@ use native.Mathlib.Omega.{arith}
 use lib.Dec.{ltb}
 use lib.ListN.{length, getD}
 use borrow.Author.Tests.{ltb-true, ltb-false}
-use Rattle.frames.specs.Lines.{Line, lines}
+use Rattle.lines.specs.Lines.{Line, lines}
 use Rattle.casefile.specs.Record.{Case}
 use Rattle.casefile.specs.Limits.{longestInput}
 use Rattle.casefile.specs.Reading.{Reading, refused, accepted, begin, reading}

@@ -11,13 +11,12 @@ use borrow.Author.Tests.{eqb-true}
 use Rattle.laws.specs.Lists.{tabulate}
 use Rattle.laws.specs.Bytes.{Octets, bytes}
 use Rattle.laws.proofs.Lists.{tabulate-places}
-use Rattle.laws.proofs.Bytes.{two-bytes, bytes-octets}
+use Rattle.laws.proofs.Bytes.{octets-cons, octets-append, two-bytes, bytes-octets}
+use Rattle.laws.proofs.Tests.{holds, picked}
 use Rattle.records.specs.declared.Finding.{Finding}
 use Rattle.records.specs.declared.RowHead.{RowHead}
 use Rattle.records.specs.declared.Hull.{Hull}
 use Rattle.frames.specs.Fields.{wordAt}
-use Rattle.frames.proofs.Tests.{holds, picked}
-use Rattle.frames.proofs.Pairs.{octets-cons, octets-append}
 use Rattle.casefile.specs.Record.{Row}
 use Rattle.casefile.specs.Limits.{rowFits}
 use Rattle.casefile.specs.Valid.{Every, Formed, found, given, ValidRow}

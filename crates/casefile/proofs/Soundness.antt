@@ -10,9 +10,9 @@ use lib.Dec.{ltb, eqb}
 use lib.ListN.{length}
 use borrow.Author.Tests.{eqb-true, eqb-false, ltb-true, ltb-false}
 use Rattle.records.specs.declared.Hull.{Hull}
-use Rattle.frames.specs.Lines.{Line, lines}
+use Rattle.lines.specs.Lines.{Line, lines}
+use Rattle.lines.proofs.Lines.{written, together, together-lines}
 use Rattle.frames.specs.Hex.{pairs, lineOf}
-use Rattle.frames.proofs.Lines.{written, together, together-lines}
 use Rattle.casefile.specs.declared.Progress.{Progress}
 use Rattle.casefile.specs.Record.{Row, Case}
 use Rattle.casefile.specs.Layout.{kindOf, fieldsOf, isRow, hullOf, headOf, rowOf, countOf, rowBytes, endBytes}

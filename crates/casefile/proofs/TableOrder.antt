@@ -8,10 +8,10 @@ use lib.Dec.{T, eqb}
 use lib.ListN.{take}
 use borrow.Author.Tests.{eqb-true}
 use Rattle.laws.proofs.Table.{every, both-hold}
+use Rattle.laws.proofs.Tests.{holds}
 use Rattle.records.specs.declared.Hull.{Hull}
-use Rattle.frames.specs.Lines.{Line, lines}
+use Rattle.lines.specs.Lines.{Line, lines}
 use Rattle.frames.specs.Hex.{pairs}
-use Rattle.frames.proofs.Tests.{holds}
 use Rattle.casefile.specs.declared.Progress.{Progress}
 use Rattle.casefile.specs.Layout.{kindOf, isRow}
 use Rattle.casefile.specs.Table.{Check, firstHolds, hullChecks, rowChecks, endChecks, lineChecks}

@@ -9,7 +9,7 @@ use native.Mathlib.Omega.{arith}
 use lib.Dec.{eqb}
 use lib.ListN.{length, getD, take}
 use borrow.Author.Tests.{eqb-true, eqb-false}
-use Rattle.frames.specs.Lines.{Line}
+use Rattle.lines.specs.Lines.{Line}
 use Rattle.frames.specs.Hex.{pairs}
 use Rattle.casefile.specs.Layout.{kindOf, isRow, rowOf}
 use Rattle.casefile.specs.Table.{firstHolds}

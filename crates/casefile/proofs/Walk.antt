@@ -10,9 +10,9 @@ use lib.ListN.{length, take, drop, length-drop}
 use lib.Seq.{length-take-le}
 use borrow.Author.Tests.{ltb-true, ltb-false}
 use Rattle.records.specs.declared.Hull.{Hull}
-use Rattle.frames.specs.Lines.{Line, lines, lineLength}
+use Rattle.lines.specs.Lines.{Line, lines, lineLength}
+use Rattle.lines.proofs.Lines.{lines-end, lines-next, end-within}
 use Rattle.frames.specs.Hex.{pairs}
-use Rattle.frames.proofs.Lines.{lines-end, lines-next, end-within}
 use Rattle.casefile.specs.declared.Progress.{Progress}
 use Rattle.casefile.specs.Record.{Row, Case}
 use Rattle.casefile.specs.Layout.{kindOf, isRow, rowOf}

@@ -11,10 +11,9 @@ use lib.Seq.{append-snoc, take-add, drop-cons, ext-getD}
 use Rattle.laws.specs.Lists.{tabulate}
 use Rattle.laws.specs.Bytes.{Octets, bytes}
 use Rattle.laws.proofs.Lists.{length-tabulate, getD-tabulate, length-part, getD-part}
-use Rattle.laws.proofs.Bytes.{bytes-octets}
+use Rattle.laws.proofs.Bytes.{octets-append, bytes-octets}
 use Rattle.frames.specs.Fields.{byteAt, wordAt}
 use Rattle.frames.proofs.Fields.{bytes-of-word, word-of-bytes}
-use Rattle.frames.proofs.Pairs.{octets-append}
 use Rattle.casefile.specs.Layout.{words}
 
 words-append : (xs ys : List ℕ) → words (xs ++ ys) ≡ words xs ++ words ys

@@ -7,7 +7,7 @@ use lib.ListN.{length, drop, replicate}
 use lib.Dec.{eqb}
 use Rattle.records.specs.declared.Hull.{Hull}
 use Rattle.records.specs.declared.Finding.{Finding}
-use Rattle.frames.specs.Lines.{Line, lines}
+use Rattle.lines.specs.Lines.{Line, lines}
 use Rattle.frames.specs.Hex.{pairs, badlyWritten}
 use Rattle.frames.specs.Fields.{byteAt, wordAt}
 use Rattle.casefile.specs.declared.Frame.{Frame}

@@ -5,7 +5,7 @@ use mathlib.Core.List.{List, [], _∷_}
 use lib.ListN.{length}
 use lib.Dec.{ltb, eqb}
 use Rattle.records.specs.declared.Hull.{Hull}
-use Rattle.frames.specs.Lines.{Line, lines}
+use Rattle.lines.specs.Lines.{Line, lines}
 use Rattle.frames.specs.Hex.{pairs}
 use Rattle.casefile.specs.declared.Progress.{Progress}
 use Rattle.casefile.specs.Record.{Row, Case}

@@ -5,7 +5,7 @@ use mathlib.Core.List.{List, [], _∷_}
 use lib.ListN.{length}
 use lib.Dec.{leb, ltb, eqb}
 use Rattle.records.specs.declared.Hull.{Hull}
-use Rattle.frames.specs.Lines.{Line}
+use Rattle.lines.specs.Lines.{Line}
 use Rattle.frames.specs.Hex.{pairs, badlyWritten}
 use Rattle.casefile.specs.declared.Progress.{Progress}
 use Rattle.casefile.specs.Record.{Row}

@@ -10,12 +10,12 @@ use lib.Dec.{leb, ltb}
 use lib.ListN.{length, getD, take, drop, set, replicate, length-set, getD-replicate}
 use lib.Seq.{sets, sets-eq, take-at}
 use borrow.Author.Tests.{leb-true, ltb-true, ltb-false, lt-ltb, le-leb, lt-leb, eq-eqb, ne-eqb}
+use Rattle.laws.proofs.Tests.{both, one-fails}
 use Rattle.frames.specs.declared.Digit.{Digit}
 use Rattle.frames.specs.declared.Digit.the-variants.{Value, Bad}
 use Rattle.frames.specs.declared.Written.the-variants.{Bytes, Badly}
 use Rattle.frames.specs.Hex.{digitOf, markOf, joined, pairOf, pairs, proper}
 use Rattle.frames.specs.Decoding.{writtenOf}
-use Rattle.frames.proofs.Tests.{both, one-fails}
 use Rattle.frames.proofs.Hex.{digit-below}
 use Rattle.frames.proofs.Pairs.{length-pairs, pairs-some}
 use Rattle.frames.proofs.Decode.{pairs-go-on, proper-by-count}

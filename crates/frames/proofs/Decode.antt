@@ -10,10 +10,10 @@ use lib.Dec.{ltb, eqb}
 use lib.ListN.{length, getD, take, drop, length-drop}
 use lib.Seq.{drop-cons, drop-nil}
 use borrow.Author.Tests.{lt-ltb, eq-eqb, eqb-true}
+use Rattle.laws.proofs.Tests.{both, same-test}
 use Rattle.frames.specs.declared.Digit.{Digit}
 use Rattle.frames.specs.declared.Digit.the-variants.{Value, Bad}
 use Rattle.frames.specs.Hex.{digitOf, pairOf, before, pairs, digitsOnly, proper}
-use Rattle.frames.proofs.Tests.{both, same-test}
 use Rattle.frames.proofs.Hex.{pair-parts}
 use Rattle.frames.proofs.Pairs.{first-pair, length-pairs, proper-parts}
 

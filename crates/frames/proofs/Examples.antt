@@ -1,4 +1,4 @@
--- Lines, digits and fields, computed: every byte as a digit, a line of document 01's printed file, and lines with and without a line feed. Assumes nothing.
+-- Digits and fields, computed: every byte as a digit, a line of document 01's printed file, and lines that are badly written. Assumes nothing.
 use Prim.Native.Nat.{ℕ}
 use mathlib.Core.Path.{_≡_, refl}
 use mathlib.Core.Bool.{Bool, true, false, cond, _||_}
@@ -6,7 +6,7 @@ use mathlib.Core.List.{List, [], _∷_}
 use lib.Dec.{T, eqb}
 use lib.ListN.{getD}
 use Rattle.laws.proofs.Table.{everyBelow}
-use Rattle.frames.specs.Lines.{Line, lines}
+use Rattle.lines.specs.Lines.{Line}
 use Rattle.frames.specs.Hex.{digitOf, refusalOf, valueOf, pairOf, pairs, digitsOnly, proper, badlyWritten, digit, hex}
 use Rattle.frames.specs.Fields.{wordAt}
 
@@ -44,10 +44,6 @@ count-high-first = refl
 
 abbrev line : List ℕ → Bool → Line
 line s c = record { text = s; closed = c }
-
-two-and-a-rest : lines (97 ∷ 10 ∷ 10 ∷ 98 ∷ []) ≡ line (97 ∷ []) true ∷ line [] true ∷ line (98 ∷ []) false ∷ []
-unfolding lines
-two-and-a-rest = refl
 
 badly : badlyWritten (line [] true) ≡ true
 unfolding badlyWritten proper

@@ -1,6 +1,4 @@
 pub mod CodeDecoding
-pub mod Tests
-pub mod Lines
 pub mod Hex
 pub mod Pairs
 pub mod Decode

@@ -1,5 +1,5 @@
 -- A line of digits and its bytes: the way there and back, and the line's pairs one by one. Assumes nothing.
-use Prim.Native.Nat.{ℕ, zero, suc, _+_, _*_, _/_, _%_, _<_}
+use Prim.Native.Nat.{ℕ, _+_, _*_, _/_, _%_, _<_}
 use mathlib.Core.Path.{_≡_, refl, _∙_, ap}
 use mathlib.Core.Bool.{true, _&&_, false≢true}
 use mathlib.Core.List.{List, [], _∷_, _++_, append-assoc}
@@ -8,26 +8,16 @@ use lib.Dec.{ltb, eqb, lit<}
 use lib.ListN.{length}
 use borrow.Author.Tests.{lt-ltb, ltb-true, eq-eqb, eqb-true}
 use Rattle.laws.specs.Bytes.{Octets}
+use Rattle.laws.proofs.Bytes.{octets-cons, octets-rest}
+use Rattle.laws.proofs.Tests.{both}
+use Rattle.lines.specs.Lines.{lines}
+use Rattle.lines.proofs.Lines.{NoFeed, lines-closed}
 use Rattle.frames.specs.declared.Digit.{Digit}
 use Rattle.frames.specs.declared.Digit.the-variants.{Value, Bad}
-use Rattle.frames.specs.Lines.{lines}
 use Rattle.frames.specs.Hex.{digitOf, refusalOf, pairOf, before, pairs, digitsOnly, proper, hex, lineOf}
-use Rattle.frames.proofs.Tests.{both}
-use Rattle.frames.proofs.Lines.{NoFeed, lines-closed}
 use Rattle.frames.proofs.Hex.{value-of-digit, digit-no-feed, pair-below, pair-again, pair-of-digits}
 
 -- ---- bytes to digits
-
-pub octets-cons : (b : ℕ) (bs : List ℕ) → b < 256 → Octets bs → Octets (b ∷ bs)
-octets-cons b bs h o zero = h
-octets-cons b bs h o (suc i) = o i
-
-pub octets-rest : (b : ℕ) (bs : List ℕ) → Octets (b ∷ bs) → Octets bs
-octets-rest b bs o i = o (suc i)
-
-pub octets-append : (xs ys : List ℕ) → Octets xs → Octets ys → Octets (xs ++ ys)
-octets-append [] ys o p = p
-octets-append (x ∷ xs) ys o p = octets-cons x (xs ++ ys) (o 0) (octets-append xs ys (octets-rest x xs o) p)
 
 pub length-hex : (bs : List ℕ) → length (hex bs) ≡ length bs * 2
 unfolding hex

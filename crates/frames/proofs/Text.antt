@@ -2,7 +2,7 @@
 use mathlib.Core.Path.{_≡_, refl}
 use mathlib.Core.Bool.{Bool, true, false, true≢false}
 use native.Mathlib.Omega.{arith}
-use Rattle.frames.specs.Lines.{Line}
+use Rattle.lines.specs.Lines.{Line}
 use Rattle.frames.specs.Hex.{proper, badlyWritten}
 use Rattle.frames.specs.Decoding.{writtenOf, Numbered, SaysTheText}
 use Rattle.frames.proofs.Pairs.{length-pairs}

@@ -4,9 +4,9 @@ use mathlib.Core.Path.{_≡_}
 use mathlib.Core.Bool.{true, false, cond}
 use mathlib.Core.List.{List}
 use lib.ListN.{length}
+use Rattle.lines.specs.Lines.{Line}
 use Rattle.frames.specs.declared.Written.{Written}
 use Rattle.frames.specs.declared.Written.the-variants.{Bytes, Badly}
-use Rattle.frames.specs.Lines.{Line}
 use Rattle.frames.specs.Hex.{pairs, proper, badlyWritten}
 
 -- two digits a byte

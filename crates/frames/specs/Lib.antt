@@ -1,4 +1,3 @@
-pub mod Lines
 pub mod Hex
 pub mod Fields
 pub mod Decoding

@@ -1,11 +1,10 @@
-// The case file's lines: cut at line feeds, written in hexadecimal, fields read from a place on.
+// What stands in a line of the case file: hexadecimal digits, and the fields that are read from a place of their bytes on.
 ghost use mathlib.Core.Path.{_≡_};
 ghost use mathlib.Core.Bool.{cond, _&&_};
-ghost use Prim.Native.Nat.{_+_, _-_, _≤_, _<_};
+ghost use Prim.Native.Nat.{_-_, _<_};
 ghost use lib.Dec.{leb};
-ghost use lib.ListN.{length, take, drop, set};
+ghost use lib.ListN.{set};
 ghost use lib.Seq.{sets};
-ghost use Rattle.frames.specs.Lines.{lineLength, hasFeed};
 ghost use Rattle.frames.specs.Hex.{digitOf, markOf, pairOf, pairs};
 ghost use Rattle.frames.specs.Decoding.{writtenOf};
 ghost use Rattle.frames.specs.Fields.{byteAt, wordAt};
@@ -20,49 +19,6 @@ pub enum Digit {
 pub enum Written {
     Bytes(usize),
     Badly,
-}
-
-// Whether one of the four bytes from a place on is a line feed.
-fn feed_in_four(input: &[u8], at: usize) -> bool
-    requires { ⌜ at + 4 ≤ length (now input) ⌝ }
-    ensures { λ r. ⌜ r ≡ hasFeed (take 4 (drop at (now (input .entry)))) ⌝ }
-{
-    let first = input[at] == b'\n';
-    let second = input[at + 1] == b'\n';
-    let third = input[at + 2] == b'\n';
-    let fourth = input[at + 3] == b'\n';
-    first | second | third | fourth
-}
-
-// A place from which the line ends where it does from `at`: past as many eights of bytes as hold no line feed.
-fn past_eights(input: &[u8], at: usize) -> usize
-    ensures { λ r. ⌜ r + lineLength (drop r (now (input .entry))) ≡ at + lineLength (drop at (now (input .entry))) ⌝ }
-{
-    let mut i = at;
-    while i < input.len() {
-        if input.len() - i < 8 {
-            return i;
-        }
-        if feed_in_four(input, i) | feed_in_four(input, i + 4) {
-            return i;
-        }
-        i = i + 8;
-    }
-    i
-}
-
-// Where the line that starts at a place ends: at its line feed, or where the input ends.
-pub fn line_end(input: &[u8], at: usize) -> usize
-    ensures { λ r. ⌜ r ≡ at + lineLength (drop at (now (input .entry))) ⌝ }
-{
-    let mut i = past_eights(input, at);
-    while i < input.len() {
-        if input[i] == b'\n' {
-            return i;
-        }
-        i = i + 1;
-    }
-    i
 }
 
 // The value of a digit from 0 to 9, and for any other byte 16, which no digit has.

@@ -9,13 +9,13 @@ use lib.ListN.{length, getD, take, drop, replicate, length-drop}
 use lib.Seq.{sets, length-sets, take-all, getD-drop}
 use borrow.Author.Tests.{lt-ltb, le-ltb, leb-true, eq-eqb, ne-eqb}
 use Rattle.laws.proofs.Lists.{tabulate-same}
+use Rattle.laws.proofs.Tests.{both}
 use Rattle.records.specs.declared.Hull.{Hull}
+use Rattle.lines.specs.Lines.{Line}
 use Rattle.frames.specs.declared.Written.the-variants.{Bytes}
-use Rattle.frames.specs.Lines.{Line}
 use Rattle.frames.specs.Hex.{pairs, proper, badlyWritten}
 use Rattle.frames.specs.Decoding.{writtenOf}
 use Rattle.frames.specs.Fields.{byteAt, wordAt}
-use Rattle.frames.proofs.Tests.{both}
 use Rattle.frames.proofs.CodeDecoding.{well-written, byte-stored}
 use Rattle.casefile.specs.declared.Judgement.{Judgement}
 use Rattle.casefile.specs.Layout.{kindOf, fieldsOf, placeOf, hullOf}

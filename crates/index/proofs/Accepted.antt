@@ -8,12 +8,11 @@ use native.Mathlib.Omega.{arith}
 use lib.Dec.{ltb}
 use lib.ListN.{length, drop}
 use borrow.Author.Tests.{lt-ltb, le-ltb}
+use Rattle.laws.proofs.Tests.{holds}
 use Rattle.records.specs.declared.Answer.{Answer}
 use Rattle.records.specs.declared.Ends.{Ends}
 use Rattle.records.specs.declared.Hull.{Hull}
 use Rattle.records.specs.declared.Trio.{Trio}
-use Rattle.frames.specs.Lines.{lineLength}
-use Rattle.frames.proofs.Tests.{holds}
 use Rattle.solas.specs.Index.{R, partialMark}
 use Rattle.spans.specs.Hull.{shipOf, Hulled}
 use Rattle.spans.specs.Table.{tableOf}
@@ -24,6 +23,7 @@ use Rattle.survival.specs.declared.Ratio.{Ratio}
 use Rattle.survival.specs.Ratio.{ratioOf}
 use Rattle.indices.specs.Index.{partials, attainedOf, Share}
 use Rattle.verdicts.specs.Verdict.{verdictOf}
+use Rattle.lines.specs.Lines.{lineLength}
 use Rattle.casefile.specs.declared.Judgement.{Judgement}
 use Rattle.casefile.specs.Record.{Case}
 use Rattle.casefile.specs.Limits.{sizesFit}
@@ -39,9 +39,9 @@ use Rattle.rows.specs.declared.Standing.{Standing}
 use Rattle.rows.specs.Standing.{nowhere}
 use Rattle.rows.specs.Work.{shareAt, sharesFrom, addsFrom, numbers}
 use Rattle.rows.specs.Running.{Stood, Follow, Ready}
+use Rattle.rows.proofs.InTurn.{length-rows}
 use Rattle.index.specs.Answer.{partialsOf, figures, answer, shares, caseIn, refusal, answered, sheetAfter}
 use Rattle.index.proofs.ValidCase.{hulled, rows-follow}
-use Rattle.rows.proofs.InTurn.{length-rows}
 
 -- ---- a hull's rows have shares of at most one
 

@@ -10,10 +10,10 @@ use lib.Dec.{eqb}
 use lib.ListN.{getD}
 use borrow.Author.Tests.{eqb-true, eqb-false}
 use Rattle.laws.specs.Sums.{Linked}
+use Rattle.laws.proofs.Tests.{both, holds}
 use Rattle.records.specs.declared.Hull.{Hull}
 use Rattle.records.specs.declared.Finding.{Finding}
 use Rattle.records.specs.declared.RowHead.{RowHead}
-use Rattle.frames.proofs.Tests.{both, holds}
 use Rattle.spans.specs.Hull.{Hulled}
 use Rattle.survival.specs.Survival.{nothing}
 use Rattle.casefile.specs.Record.{Row, Case}

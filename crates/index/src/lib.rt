@@ -57,7 +57,7 @@ fn complete(input: &[u8], h: Hull, rows: u64, sheet: &mut [u64]) -> Answer
     ensures { λ r. ⌜ (r ≡ answer (caseIn (now (input .entry)) h rows)) × (now (sheet .exit) ≡ shares (caseIn (now (input .entry)) h rows) ++ drop (2 * rows) (now (sheet .entry))) ⌝ }
 {
     let t = spans::span_table(h);
-    let end = frames::line_end(input, 0);
+    let end = lines::line_end(input, 0);
     let partials = fill(input, end + 1, rows as usize, h, &t, sheet);
     conclude(h.length, rows, partials)
 }

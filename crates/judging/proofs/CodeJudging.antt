@@ -10,7 +10,7 @@ use Rattle.laws.proofs.Lists.{rest-of}
 use Rattle.records.specs.declared.Finding.{Finding}
 use Rattle.records.specs.declared.Hull.{Hull}
 use Rattle.records.specs.declared.RowHead.{RowHead}
-use Rattle.frames.specs.Lines.{Line}
+use Rattle.lines.specs.Lines.{Line}
 use Rattle.frames.specs.declared.Written.the-variants.{Bytes}
 use Rattle.frames.specs.Hex.{pairs, proper, badlyWritten}
 use Rattle.frames.specs.Decoding.{writtenOf}

@@ -34,11 +34,19 @@ four-at f at h =
 
 -- ---- any count of bytes
 
+pub octets-cons : (b : ℕ) (bs : List ℕ) → b < 256 → Octets bs → Octets (b ∷ bs)
+octets-cons b bs h o zero = h
+octets-cons b bs h o (suc i) = o i
+
+pub octets-rest : (b : ℕ) (bs : List ℕ) → Octets (b ∷ bs) → Octets bs
+octets-rest b bs o i = o (suc i)
+
+pub octets-append : (xs ys : List ℕ) → Octets xs → Octets ys → Octets (xs ++ ys)
+octets-append [] ys o p = p
+octets-append (x ∷ xs) ys o p = octets-cons x (xs ++ ys) (o 0) (octets-append xs ys (octets-rest x xs o) p)
+
 place-above : (k : ℕ) → 0 < 256 ^ k
 place-above k = one-le-pow k 256 (lit< tt)
-
-octets-rest : (b : ℕ) (bs : List ℕ) → Octets (b ∷ bs) → Octets bs
-octets-rest b bs o i = o (suc i)
 
 pub number-below : (bs : List ℕ) → Octets bs → number bs < 256 ^ length bs
 unfolding number

@@ -1,4 +1,5 @@
 -- tests
+pub mod Tests
 pub mod Table
 pub mod Choice
 -- sums and lists

@@ -8,10 +8,10 @@ use native.Mathlib.Omega.{arith}
 use lib.Dec.{leb, ltb, eqb}
 use lib.ListN.{length, getD}
 use borrow.Author.Tests.{le-leb, lt-leb, leb-true}
+use Rattle.laws.proofs.Tests.{same-test}
 use Rattle.records.specs.declared.Finding.{Finding}
 use Rattle.records.specs.declared.Hull.{Hull}
 use Rattle.records.specs.declared.RowHead.{RowHead}
-use Rattle.frames.proofs.Tests.{same-test}
 use Rattle.casefile.specs.Limits.{between, risingTo, zonesFit, headFits, findingFits, findingsFit, rowFits}
 
 -- ---- the zones of a hull

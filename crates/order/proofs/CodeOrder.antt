@@ -4,7 +4,7 @@ use mathlib.Core.Path.{_≡_}
 use native.Mathlib.Omega.{arith}
 use lib.Dec.{leb}
 use borrow.Author.Tests.{le-leb, leb-true}
-use Rattle.frames.proofs.Tests.{same-test}
+use Rattle.laws.proofs.Tests.{same-test}
 
 -- t is at or above d + k
 pub raised : (d k t : ℕ) → k ≤ t → leb d (t - k) ≡ leb (d + k) t

@@ -8,20 +8,16 @@ use lib.Dec.{eqb, lit<}
 use lib.ListN.{length, getD, take, drop}
 use lib.Seq.{take-at, drop-at}
 use Rattle.laws.specs.Bytes.{Octets, number, bytes}
-use Rattle.laws.proofs.Bytes.{length-bytes, bytes-octets, number-bytes-all}
+use Rattle.laws.proofs.Bytes.{octets-cons, octets-append, length-bytes, bytes-octets, number-bytes-all}
 use Rattle.records.specs.declared.Answer.{Answer}
-use Rattle.frames.specs.Lines.{lines}
+use Rattle.lines.specs.Lines.{lines}
 use Rattle.frames.specs.Hex.{lineOf}
-use Rattle.frames.proofs.Pairs.{octets-cons, octets-rest, pairs-hex, line-in-front}
+use Rattle.frames.proofs.Pairs.{pairs-hex, line-in-front}
 use Rattle.digits.specs.Fields.{endsField, partialField, partialsField}
 use Rattle.printing.specs.Printed.{refusalFrame, figuresFrame, shareFrame, shareLines, printed}
 use Rattle.printing.specs.ReadBack.{refusal, figures, endsOf, toldBy, fours, kindOf, sharesIn, toldIn, frameIn, readBack, Short, Printable, ReadsBack}
 
 -- ---- bytes
-
-octets-append : (xs ys : List ℕ) → Octets xs → Octets ys → Octets (xs ++ ys)
-octets-append [] ys o p = p
-octets-append (x ∷ xs) ys o p = octets-cons x (xs ++ ys) (o 0) (octets-append xs ys (octets-rest x xs o) p)
 
 ends-octets : (lower upper : ℕ) → Octets (endsField lower upper)
 unfolding endsField

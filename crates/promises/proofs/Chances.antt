@@ -11,9 +11,9 @@ use Rattle.laws.specs.Fraction.{whole, Is, _≈_, _≼_, total}
 use Rattle.laws.specs.Sums.{sumOf}
 use Rattle.laws.proofs.Choice.{split}
 use Rattle.laws.proofs.Fraction.{is-over, is-nothing, is-one, is-shifted, is-⊹, is-⊛, same, below, numerators-same}
+use Rattle.laws.proofs.Tests.{holds}
 use Rattle.records.specs.declared.Finding.{Finding}
 use Rattle.records.specs.declared.Hull.{Hull}
-use Rattle.frames.proofs.Tests.{holds}
 use Rattle.solas.specs.Ship.{Ship, Sound}
 use Rattle.solas.specs.Height.{rowV}
 use Rattle.solas.specs.Index.{draughts, dp}

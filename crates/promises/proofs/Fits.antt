@@ -12,7 +12,7 @@ use Rattle.laws.specs.Fraction.{whole, _≼_}
 use Rattle.laws.proofs.Table.{member-passes}
 use Rattle.records.specs.declared.Ends.{Ends}
 use Rattle.records.specs.declared.Hull.{Hull}
-use Rattle.frames.proofs.Lines.{lines-few}
+use Rattle.lines.proofs.Lines.{lines-few}
 use Rattle.indices.specs.Index.{at, attainedOf, weighed, Share}
 use Rattle.indices.specs.Exact as exact
 use Rattle.indices.specs.Exact.{RowAt, Every, Close, partialEnds}

@@ -10,9 +10,9 @@ use lib.Dec.{eqb}
 use borrow.Author.Tests.{eqb-true}
 use Rattle.laws.specs.Sums.{sumOf, Rising}
 use Rattle.laws.proofs.Listed.{listed-not-above, listed-equal}
+use Rattle.laws.proofs.Tests.{both, holds}
 use Rattle.records.specs.declared.Hull.{Hull}
 use Rattle.records.specs.declared.RowHead.{RowHead}
-use Rattle.frames.proofs.Tests.{both, holds}
 use Rattle.solas.specs.Ship.{Ship}
 use Rattle.solas.specs.Count.{Group, groups}
 use Rattle.spans.specs.Hull.{shipOf}

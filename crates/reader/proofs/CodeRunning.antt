@@ -9,9 +9,9 @@ use lib.Dec.{ltb, eqb}
 use lib.ListN.{length, take, drop}
 use borrow.Author.Tests.{eqb-true, eqb-false}
 use Rattle.records.specs.declared.Hull.{Hull}
-use Rattle.frames.specs.Lines.{Line, lines, lineLength}
+use Rattle.lines.specs.Lines.{Line, lines, lineLength}
+use Rattle.lines.proofs.Lines.{lines-end, lines-next}
 use Rattle.frames.specs.Hex.{pairs}
-use Rattle.frames.proofs.Lines.{lines-end, lines-next}
 use Rattle.casefile.specs.declared.Frame.{Frame}
 use Rattle.casefile.specs.declared.Progress.{Progress}
 use Rattle.casefile.specs.declared.Judgement.{Judgement}

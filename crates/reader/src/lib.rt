@@ -2,7 +2,7 @@
 ghost use mathlib.Core.Path.{_≡_};
 ghost use Prim.Native.Nat.{_≤_};
 ghost use lib.ListN.{drop};
-ghost use Rattle.frames.specs.Lines.{lines};
+ghost use Rattle.lines.specs.Lines.{lines};
 ghost use Rattle.casefile.specs.Limits.{mostRows};
 ghost use Rattle.casefile.specs.Reading.{inside, start, readFrom, reading};
 ghost use Rattle.casefile.specs.Answer.{judgementOf};
@@ -63,7 +63,7 @@ fn run(input: &[u8], h: Hull, from: usize, first: u64) -> Step
     let mut at = from;
     let mut line = first;
     while at < input.len() {
-        let end = frames::line_end(input, at);
+        let end = lines::line_end(input, at);
         let closed = end < input.len();
         let frame = judging::judge_line(&input[at..end], closed, h, p);
         let after = step(frame, p, line);
@@ -107,7 +107,7 @@ pub fn judge(input: &[u8]) -> Judgement
     if n == 0 {
         return hulls::refusal(10, 1);
     }
-    let end = frames::line_end(input, 0);
+    let end = lines::line_end(input, 0);
     let closed = end < n;
     let opened = hulls::judge_first(&input[..end], closed);
     if opened.number != 0 {

@@ -11,11 +11,11 @@ use borrow.Author.Tests.{lt-ltb, le-ltb, ne-eqb}
 use Rattle.laws.proofs.Lists.{rest-of, length-part}
 use Rattle.records.specs.declared.Finding.{Finding}
 use Rattle.records.specs.declared.RowHead.{RowHead}
+use Rattle.lines.specs.Lines.{Line, lines, lineLength}
+use Rattle.lines.proofs.Lines.{lines-end, lines-next, end-within}
 use Rattle.frames.specs.declared.Written.the-variants.{Bytes}
-use Rattle.frames.specs.Lines.{Line, lines, lineLength}
 use Rattle.frames.specs.Hex.{pairs, proper, badlyWritten}
 use Rattle.frames.specs.Decoding.{writtenOf}
-use Rattle.frames.proofs.Lines.{lines-end, lines-next, end-within}
 use Rattle.frames.proofs.CodeDecoding.{well-written}
 use Rattle.casefile.specs.declared.RowPlace.{RowPlace}
 use Rattle.casefile.specs.Layout.{kindOf, frameLength, headOf, resultsOf}

@@ -67,7 +67,7 @@ pub fn row_at(input: &[u8], at: usize) -> RowPlace
     if n <= at {
         return no_row();
     }
-    let end = frames::line_end(input, at);
+    let end = lines::line_end(input, at);
     if n <= end {
         return no_row();
     }

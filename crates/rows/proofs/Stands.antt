@@ -3,10 +3,10 @@ use mathlib.Core.Path.{_≡_, refl, sym, _∙_, ap}
 use mathlib.Core.Bool.{Bool, true, false, cond, _&&_}
 use lib.Dec.{eqb}
 use borrow.Author.Tests.{eqb-true, eq-eqb, ne-eqb}
+use Rattle.laws.proofs.Tests.{both}
 use Rattle.records.specs.declared.Hull.{Hull}
 use Rattle.records.specs.declared.Ends.{Ends}
 use Rattle.records.specs.declared.RowHead.{RowHead}
-use Rattle.frames.proofs.Tests.{both}
 use Rattle.casefile.specs.Order.{sameGroup, sameLayer}
 use Rattle.rows.specs.declared.Standing.{Standing}
 use Rattle.rows.specs.Standing.{stands}

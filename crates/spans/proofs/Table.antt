@@ -1,6 +1,6 @@
 -- The span table, filled four places at a time and read by zones. Assumes nothing.
-use mathlib.Core.Path.{_≡_, refl, sym, ap, _∙_}
-use mathlib.Core.Bool.{Bool, true, false, _&&_}
+use mathlib.Core.Path.{_≡_, sym, ap, _∙_}
+use mathlib.Core.Bool.{true, _&&_}
 use mathlib.Core.List.{List}
 use Prim.Native.Nat.{ℕ, _+_, _-_, _*_, _/_, _%_, _≤_, _<_}
 use native.Mathlib.Nat.{add-zero}
@@ -8,6 +8,7 @@ use native.Mathlib.Omega.{arith}
 use borrow.Author.Tests.{le-leb, lt-ltb, leb-true, ltb-true}
 use lib.Dec.{leb, ltb}
 use lib.ListN.{length, getD, set}
+use Rattle.laws.proofs.Tests.{both}
 use Rattle.laws.proofs.Lists.{Filled, one-filled, length-tabulate, getD-tabulate}
 use Rattle.records.specs.declared.Hull.{Hull}
 use Rattle.spans.specs.declared.SpanEnds.{SpanEnds}
@@ -19,11 +20,7 @@ use Rattle.spans.specs.Table.{spanAt, numberOf, numberAt, tableOf, spanI
 
 -- the test for one, passed
 pub tested : (i j m : ℕ) → (leb i j && ltb j m) ≡ true → (i ≤ j) × (j < m)
-tested i j m e = let t = both-true (leb i j) (ltb j m) e in (leb-true i j (t .0), ltb-true j m (t .1))
-  where
-    both-true : (a b : Bool) → (a && b) ≡ true → (a ≡ true) × (b ≡ true)
-    both-true true b e = (refl, e)
-    both-true false b e = let z : _≡_ {A = ℕ} 0 1 = cc in absurd (omega arith)
+tested i j m e = let t = both (leb i j) (ltb j m) e in (leb-true i j (t .0), ltb-true j m (t .1))
 
 pub span-there : (h : Hull) (i j : ℕ) → i ≤ j → j < h .zones → spanAt h i j ≡ spanEnds (h .length) (getD (h .places) i 0) (getD (h .places) (j + 1) 0)
 unfolding spanAt

@@ -3,7 +3,7 @@ use Prim.Native.Nat.{_^_}
 use borrow.Author.Needs.{needs}
 use native.Mathlib.Omega.{arith}
 use Rattle.indices.proofs.Sums.{within-wider}
-use Rattle.frames.proofs.Lines.{end-within}
+use Rattle.lines.proofs.Lines.{end-within}
 use Rattle.index.proofs.Accepted.{hull-is, not-long, fill-asked, answer-is, shares-are, after-hull}
 use Rattle.index.proofs.complete.Statement.{statement}
 use Rattle.index.proofs.complete.Tie as tie

@@ -2,8 +2,8 @@
 use mathlib.Core.Path.{sym, _∙_, ap}
 use denote.Ref.{now}
 use lib.Seq.{length-take-le}
+use Rattle.lines.proofs.Lines.{end-within}
 use Rattle.casefile.specs.Answer.{judgementOf}
-use Rattle.frames.proofs.Lines.{end-within}
 use Rattle.casefile.proofs.Steps.{too-long}
 use Rattle.reader.proofs.CodeRunning.{no-line-at-all, input-stops, input-goes-on}
 use borrow.Author.Needs.{needs}

@@ -1,7 +1,7 @@
 -- `run` meets its contract: the reading of the whole is the reading of the rest in the present state. Assumes nothing.
 use Prim.Native.Nat.{_-_}
 use lib.ListN.{length}
-use Rattle.frames.proofs.Lines.{end-within}
+use Rattle.lines.proofs.Lines.{end-within}
 use Rattle.reader.proofs.CodeRunning.{Running, none-run, one-run, run-stops, run-ends, run-has-no-end}
 use borrow.Author.Needs.{needs}
 use native.Mathlib.Omega.{arith}

@@ -4,10 +4,10 @@ use Prim.Native.Nat.{_+_, _-_}
 use lib.ListN.{length, drop}
 use native.Mathlib.Omega.{arith}
 use borrow.Author.Needs.{needs}
-use Rattle.frames.specs.Lines.{lineLength}
-use Rattle.frames.proofs.Lines.{eight-go-on}
-use Rattle.frames.proofs.past_eights.Statement.{statement}
-use Rattle.frames.proofs.past_eights.Tie as tie
+use Rattle.lines.specs.Lines.{lineLength}
+use Rattle.lines.proofs.Lines.{eight-go-on}
+use Rattle.lines.proofs.past_eights.Statement.{statement}
+use Rattle.lines.proofs.past_eights.Tie as tie
 
 abbrev Inv-loop : tie.InvT-loop
 Inv-loop input at i₀ i = i + lineLength (drop i input) ≡ at + lineLength (drop at input)

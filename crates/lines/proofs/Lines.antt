@@ -9,8 +9,8 @@ use lib.Dec.{eqb, ltb, leb·suc-suc}
 use lib.ListN.{length, getD, take, drop, length-drop, drop-of-length-le}
 use lib.Seq.{drop-cons, drop-drop}
 use borrow.Author.Tests.{eq-eqb, ne-eqb, lt-ltb, ltb-true, eqb-true, eqb-false}
-use Rattle.frames.specs.Lines.{Line, onto, lines, lineLength, hasFeed}
-use Rattle.frames.proofs.Tests.{neither, same-test}
+use Rattle.laws.proofs.Tests.{neither, same-test}
+use Rattle.lines.specs.Lines.{Line, onto, lines, lineLength, hasFeed}
 
 -- ---- the length of the first line, byte by byte
 

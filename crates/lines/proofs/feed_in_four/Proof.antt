@@ -1,8 +1,8 @@
 -- `feed_in_four` meets its contract, byte by byte. Assumes nothing.
 use borrow.Author.Needs.{needs}
-use Rattle.frames.proofs.Lines.{four-told}
-use Rattle.frames.proofs.feed_in_four.Statement.{statement}
-use Rattle.frames.proofs.feed_in_four.Tie as tie
+use Rattle.lines.proofs.Lines.{four-told}
+use Rattle.lines.proofs.feed_in_four.Statement.{statement}
+use Rattle.lines.proofs.feed_in_four.Tie as tie
 
 shared-slice-read-first : tie.Need-shared-slice-read-first
 shared-slice-read-first c = search needs

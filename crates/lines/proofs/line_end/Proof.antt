@@ -2,12 +2,12 @@
 use mathlib.Core.Path.{_≡_}
 use Prim.Native.Nat.{_+_, _-_}
 use lib.ListN.{length, drop}
-use Rattle.frames.specs.Lines.{lineLength}
-use Rattle.frames.proofs.Lines.{length-stops, length-goes-on, length-ends}
+use Rattle.lines.specs.Lines.{lineLength}
+use Rattle.lines.proofs.Lines.{length-stops, length-goes-on, length-ends}
 use borrow.Author.Needs.{needs}
 use native.Mathlib.Omega.{arith}
-use Rattle.frames.proofs.line_end.Statement.{statement}
-use Rattle.frames.proofs.line_end.Tie as tie
+use Rattle.lines.proofs.line_end.Statement.{statement}
+use Rattle.lines.proofs.line_end.Tie as tie
 
 abbrev Inv-loop : tie.InvT-loop
 Inv-loop input at i₀ i = i + lineLength (drop i input) ≡ at + lineLength (drop at input)

@@ -1,7 +1,7 @@
 // Damage down to a penetration: C, G1 and G3 of a layer, and the ends of G and Q of a span, in billionths rounded both ways.
 use numbers::above;
 use numbers::billionths;
-use numbers::ceiling;
+use numbers::ceiling_near;
 use numbers::halves;
 use numbers::portion;
 use records::Ends;
@@ -142,6 +142,6 @@ pub fn q_ends(c: u64, d: u64, p: Ends, g: Ends) -> Ends
 {
     let other = d - c;
     let lower = (p.lower * c + g.lower * other) / d;
-    let upper = ceiling(p.upper * c + g.upper * other, d);
+    let upper = ceiling_near(lower, p.upper * c + g.upper * other, d);
     Ends { lower, upper }
 }

@@ -39,6 +39,10 @@ ceil-least n d k p = (λ h. le-trans (ceil-lower n d p) (mul-le-mul-right d h), 
 pub above-ceil : (n d k : ℕ) → 0 < d → (k < ceil n d) ↔ (k * d < n)
 above-ceil n d k p = (λ h. lt-of-not-le (λ m. not-le-of-lt h (ceil-least n d k p .1 m)), λ h. lt-of-not-le (λ m. not-le-of-lt h (ceil-least n d k p .0 m)))
 
+-- by a whole number it is not above n
+pub ceil-at-most : (n d : ℕ) → 0 < d → ceil n d ≤ n
+ceil-at-most n d p = ceil-least n d n p .1 (omega (arith, mul-le-mul-left n p))
+
 -- ---- order
 
 -- what holds of a quotient by 0, and of one by a number above 0, holds

@@ -9,7 +9,7 @@ use lib.Dec.{leb}
 use borrow.Author.Tests.{le-leb, lt-leb}
 use Rattle.laws.specs.Rounding.{ceil}
 use Rattle.laws.proofs.Choice.{chosen}
-use Rattle.laws.proofs.Rounding.{ceil-exact, ceil-least, ceil-past, above-ceil}
+use Rattle.laws.proofs.Rounding.{ceil-exact, ceil-least, ceil-at-most, ceil-past, above-ceil}
 use Rattle.numbers.specs.Division.{Division, Carries, dividend}
 use Rattle.numbers.specs.declared.Quotient.{Quotient}
 
@@ -57,6 +57,14 @@ ready s n q {d} {by} h =
       whole-fits = omega (arith, mul-le-mul-left by top);
     }
 
+-- the machine's quotient, and one more where it leaves a rest
+pub up-by-rest : (n d : ℕ) {u : ℕ} → 0 < d → u ≡ cond (leb (n % d) 0) 0 1 → (n / d + u ≡ ceil n d) × (n / d + u ≤ n)
+up-by-rest n d {u} hd e =
+    let q = by-machine n d hd in
+    let up : n / d + u ≡ ceil n d =
+    rw e (chosen (λ (x : ℕ). n / d + x ≡ ceil n d) (n % d) 0 (λ h. omega (arith, up-exact (omega arith) q)) (λ h. up-more (λ z. absurd (omega arith)) q)) in
+    (up, rw up (ceil-at-most n d hd))
+
 -- a quotient that leaves a rest has room for one more
 pub below : (n d : ℕ) → (n % d ≡ 0 → ⊥) → 0 < d → n / d < n
 below n d e hd = omega (arith, div-add-mod' n d, mul-le-mul-left (n / d) hd)
@@ -93,4 +101,4 @@ up-near low n d {a} {b} {c} {e} hd h k p q r s =
     let c′ = r ∙ beyond-multiple m d 2 (omega arith) hd in
     let e′ = s ∙ beyond-multiple m d 3 (omega arith) hd in
     let sum : low + (a + b + c + e) ≡ ceil n d = omega (arith, up, t, a′, b′, c′, e′) in
-    (sum, rw sum (ceil-least n d n hd .1 (omega (arith, mul-le-mul-left n hd))))
+    (sum, rw sum (ceil-at-most n d hd))

@@ -6,7 +6,7 @@ ghost use Prim.Native.Nat.{_+_, _-_, _*_, _^_, _≤_, _<_};
 ghost use lib.Dec.{leb};
 ghost use Rattle.laws.specs.Rounding.{ceil};
 ghost use Rattle.numbers.specs.Division.{Division, Carries, dividend};
-ghost use Rattle.numbers.specs.Figures.{Proper, billionthsOf, portionOf, halvesOf};
+ghost use Rattle.numbers.specs.Figures.{Proper, bothWays, billionthsOf, portionOf, halvesOf};
 ghost use Rattle.numbers.specs.Root.{RootDown, RootUp};
 
 // The largest number that 64 bits hold.
@@ -71,6 +71,16 @@ pub fn ceiling_near(low: u64, n: u64, d: u64) -> u64
     let three = beyond(rest, 2 * d);
     let four = beyond(rest, 3 * d);
     low + (one + two + three + four)
+}
+
+// n/d rounded down and up, by one division.
+pub fn both_ways(n: u64, d: u64) -> Ends
+    requires { ⌜ 0 < d ⌝ }
+    ensures { λ r. ⌜ r ≡ bothWays n d ⌝ }
+{
+    let lower = n / d;
+    let upper = lower + beyond(n % d, 0);
+    Ends { lower, upper }
 }
 
 fn divided(n: u64, d: u64) -> Quotient

@@ -2,7 +2,7 @@
 use Prim.Native.Nat.{ℕ, zero, suc, _+_, _-_, _*_, _/_, _≤_, _<_, min, zero-le}
 use mathlib.Core.Path.{_≡_, sym}
 use mathlib.Core.Logic.{_↔_}
-use native.Mathlib.Nat.{le-trans, le-of-eq, le-antisymm, div-zero, div-mul-le-self, lt-div-mul-add, le-div-iff-mul-le, lt-of-mul-lt-mul-right, mul-le-mul-left, mul-le-mul-right, mul-pos, min-eq-left, min-eq-right, lt-of-not-le, not-le-of-lt, le-of-mul-le-mul-left, le-of-mul-le-mul-right, le-of-lt, lt-of-le-of-lt}
+use native.Mathlib.Nat.{le-trans, le-of-eq, le-antisymm, div-zero, mul-div-cancel, div-mul-le-self, lt-div-mul-add, le-div-iff-mul-le, lt-of-mul-lt-mul-right, mul-le-mul-left, mul-le-mul-right, mul-pos, min-eq-left, min-eq-right, lt-of-not-le, not-le-of-lt, le-of-mul-le-mul-left, le-of-mul-le-mul-right, le-of-lt, lt-of-le-of-lt}
 use native.Mathlib.Omega.{arith, sub-cases}
 use mathlib.Core.List.{List, [], _∷_}
 use lib.ListN.{length}
@@ -38,6 +38,10 @@ ceil-least n d k p = (λ h. le-trans (ceil-lower n d p) (mul-le-mul-right d h), 
 
 pub above-ceil : (n d k : ℕ) → 0 < d → (k < ceil n d) ↔ (k * d < n)
 above-ceil n d k p = (λ h. lt-of-not-le (λ m. not-le-of-lt h (ceil-least n d k p .1 m)), λ h. lt-of-not-le (λ m. not-le-of-lt h (ceil-least n d k p .0 m)))
+
+-- by a whole number it is not above n
+pub ceil-at-most : (n d : ℕ) → 0 < d → ceil n d ≤ n
+ceil-at-most n d p = ceil-least n d n p .1 (omega (arith, mul-le-mul-left n p))
 
 -- ---- order
 
@@ -109,6 +113,12 @@ ceil-sum-lower a b d p =
     let m : (a / d + ceil b d) * d < suc (ceil (a + b) d) * d = omega (arith, div-mul-le-self a d, ceil-upper b d p, ceil-lower (a + b) d p) in
     let r : a / d + ceil b d < suc (ceil (a + b) d) = lt-of-mul-lt-mul-right d m in
     omega arith
+
+-- a whole number beside the quotient
+pub ceil-past : (q r d : ℕ) → 0 < d → ceil (q * d + r) d ≡ q + ceil r d
+ceil-past q r d p =
+    le-antisymm (ceil-least (q * d + r) d (q + ceil r d) p .1 (omega (arith, ceil-lower r d p)))
+    (rw (mul-div-cancel q p) at (ceil-sum-lower (q * d) r d p))
 
 -- ---- common factors and nested quotients; of floors the library has `mul-div-mul-left` and `div-div-eq-div-mul`
 

@@ -1,12 +1,13 @@
 -- What holds of figures with two ends, of billionths, portions and halves: what they enclose, how wide they are, how large, and in what order. Assumes nothing.
-use mathlib.Core.Path.{_≡_, sym}
+use mathlib.Core.Path.{_≡_}
 use Prim.Native.Nat.{ℕ, _+_, _*_, _/_, _^_, _≤_, _<_}
-use native.Mathlib.Nat.{le-trans, le-antisymm, le-of-eq, div-mul-le-self, le-div-iff-mul-le, div-le-self, div-le-of-le-mul, le-of-mul-le-mul-right, mul-le-mul-left, mul-le-mul-right}
+use native.Mathlib.Nat.{le-trans, div-mul-le-self, div-le-self, div-le-of-le-mul, le-of-mul-le-mul-right, mul-le-mul-left, mul-le-mul-right}
 use native.Mathlib.Omega.{arith}
 use Rattle.laws.specs.Rounding.{ceil}
 use Rattle.laws.proofs.Rounding.{ceil-lower, ceil-least, ceil-near-floor, floor-rises, floor-not-above-ceil, floor-product, ceil-product, part-apart, halves-apart}
+use Rattle.laws.proofs.Equal.{same-floor, same-ceil}
 use Rattle.records.specs.declared.Ends.{Ends}
-use Rattle.numbers.specs.Figures.{Proper, Encloses, billionthsOf, portionOf, halvesOf}
+use Rattle.numbers.specs.Figures.{Proper, Encloses, bothWays, billionthsOf, portionOf, halvesOf}
 
 -- figures with the same ends are the same
 pub both : {a b l u : ℕ} → a ≡ l → b ≡ u → _≡_ {A = Ends} (record { lower = a; upper = b }) (record { lower = l; upper = u })
@@ -46,30 +47,17 @@ module _ (n : ℕ) {d : ℕ} (hd : 0 < d) where
   unfolding billionthsOf
   billionths-at-most h = ceil-least (10 ^ 9 * n) d (10 ^ 9) hd .1 (mul-le-mul-left (10 ^ 9) h)
 
--- a fraction that is not above another has ends that are not above the other's
-module _ (m n : ℕ) {c d : ℕ} (hc : 0 < c) (hd : 0 < d) where
-  pub billionths-lower-rises : m * d ≤ n * c → billionthsOf m c .lower ≤ billionthsOf n d .lower
-  unfolding billionthsOf
-  billionths-lower-rises h =
-      let low : 10 ^ 9 * m / c * c ≤ 10 ^ 9 * m = div-mul-le-self (10 ^ 9 * m) c in
-      let cross : 10 ^ 9 * m / c * d * c ≤ 10 ^ 9 * n * c = omega (arith, mul-le-mul-right d low) in
-      le-div-iff-mul-le hd .1 (le-of-mul-le-mul-right cross hc)
-
-  pub billionths-upper-rises : m * d ≤ n * c → billionthsOf m c .upper ≤ billionthsOf n d .upper
-  unfolding billionthsOf
-  billionths-upper-rises h =
-      let high : 10 ^ 9 * n ≤ ceil (10 ^ 9 * n) d * d = ceil-lower (10 ^ 9 * n) d hd in
-      let cross : 10 ^ 9 * m * d ≤ ceil (10 ^ 9 * n) d * c * d = omega (arith, mul-le-mul-right c high) in
-      ceil-least (10 ^ 9 * m) c (ceil (10 ^ 9 * n) d) hc .1 (le-of-mul-le-mul-right cross hd)
-
 -- equal fractions have the same ends
 pub billionths-same : (m n : ℕ) {c d : ℕ} → 0 < c → 0 < d → m * d ≡ n * c → billionthsOf m c ≡ billionthsOf n d
-billionths-same m n hc hd e =
-    let up = le-of-eq e in
-    let down = le-of-eq (sym e) in
-    both
-    (le-antisymm (billionths-lower-rises m n hc hd up) (billionths-lower-rises n m hd hc down))
-    (le-antisymm (billionths-upper-rises m n hc hd up) (billionths-upper-rises n m hd hc down))
+unfolding billionthsOf
+billionths-same m n {c} {d} hc hd e =
+    let cross : 10 ^ 9 * m * d ≡ 10 ^ 9 * n * c = omega arith in
+    both (same-floor (10 ^ 9 * m) (10 ^ 9 * n) hc hd cross) (same-ceil (10 ^ 9 * m) (10 ^ 9 * n) hc hd cross)
+
+-- a quotient rounded both ways, of the same value
+pub billionths-both-ways : (m n : ℕ) {c d : ℕ} → 0 < c → 0 < d → 10 ^ 9 * m * d ≡ n * c → billionthsOf m c ≡ bothWays n d
+unfolding billionthsOf bothWays
+billionths-both-ways m n hc hd e = both (same-floor (10 ^ 9 * m) n hc hd e) (same-ceil (10 ^ 9 * m) n hc hd e)
 
 -- ---- portions
 

@@ -10,6 +10,10 @@ pub record Proper (n d : ℕ) : Type 0 where
   pub at-most-one : n ≤ d
   pub narrow : 40 * d < 2 ^ 64
 
+-- n/d rounded down and up
+unfoldable pub bothWays : ℕ → ℕ → Ends
+bothWays n d = record { lower = n / d; upper = ceil n d }
+
 -- "Probabilities: billionths, as a lower and an upper end"
 unfoldable pub billionthsOf : ℕ → ℕ → Ends
 billionthsOf n d = record { lower = 10 ^ 9 * n / d; upper = ceil (10 ^ 9 * n) d }

@@ -1,10 +1,12 @@
 // Machine numbers: differences held to be not below 0, quotients rounded up, billionths of a fraction rounded both ways, portions, halves, and fourth roots.
 use records::Ends;
 ghost use mathlib.Core.Path.{_≡_};
+ghost use mathlib.Core.Bool.{cond};
 ghost use Prim.Native.Nat.{_+_, _-_, _*_, _^_, _≤_, _<_};
+ghost use lib.Dec.{leb};
 ghost use Rattle.laws.specs.Rounding.{ceil};
 ghost use Rattle.numbers.specs.Division.{Division, Carries, dividend};
-ghost use Rattle.numbers.specs.Figures.{Proper, billionthsOf, portionOf, halvesOf};
+ghost use Rattle.numbers.specs.Figures.{Proper, bothWays, billionthsOf, portionOf, halvesOf};
 ghost use Rattle.numbers.specs.Root.{RootDown, RootUp};
 
 // The largest number that 64 bits hold.
@@ -16,6 +18,9 @@ const ONE_STEP: u64 = LARGEST / 1_000_000_000;
 const TWO_STEPS: u64 = LARGEST / 100_000;
 
 const THREE_STEPS: u64 = LARGEST / 1_000;
+
+// The largest divisor that 64 bits hold four times.
+const FOUR_TIMES: u64 = LARGEST / 4;
 
 // How often a divisor goes into a number, and what is left.
 struct Quotient {
@@ -36,6 +41,46 @@ pub fn ceiling(n: u64, d: u64) -> u64
     ensures { λ r. ⌜ r ≡ ceil n d ⌝ }
 {
     if n % d == 0 { n / d } else { n / d + 1 }
+}
+
+// One where a lies above b, and else nothing.
+fn beyond(a: u64, b: u64) -> u64
+    ensures { λ r. ⌜ (r ≡ cond (leb a b) 0 1) × (r ≤ 1) ⌝ }
+{
+    if a <= b { 0 } else { 1 }
+}
+
+// n/d rounded up, from a number that is as a rule not above it, and near: it takes a division only where that number is not so.
+pub fn ceiling_near(low: u64, n: u64, d: u64) -> u64
+    requires { ⌜ (0 < d) × (low * d < 2 ^ 64) ⌝ }
+    ensures { λ r. ⌜ r ≡ ceil n d ⌝ }
+{
+    let base = low * d;
+    if n < base {
+        return ceiling(n, d);
+    }
+    if FOUR_TIMES < d {
+        return ceiling(n, d);
+    }
+    let rest = n - base;
+    if 4 * d < rest {
+        return ceiling(n, d);
+    }
+    let one = beyond(rest, 0);
+    let two = beyond(rest, d);
+    let three = beyond(rest, 2 * d);
+    let four = beyond(rest, 3 * d);
+    low + (one + two + three + four)
+}
+
+// n/d rounded down and up, by one division.
+pub fn both_ways(n: u64, d: u64) -> Ends
+    requires { ⌜ 0 < d ⌝ }
+    ensures { λ r. ⌜ r ≡ bothWays n d ⌝ }
+{
+    let lower = n / d;
+    let upper = lower + beyond(n % d, 0);
+    Ends { lower, upper }
 }
 
 fn divided(n: u64, d: u64) -> Quotient
@@ -112,7 +157,7 @@ pub fn portion(x: u64, g: Ends, l: u64) -> Ends
     ensures { λ r. ⌜ r ≡ portionOf x g l ⌝ }
 {
     let lower = x * g.lower / l;
-    let upper = ceiling(x * g.upper, l);
+    let upper = ceiling_near(lower, x * g.upper, l);
     Ends { lower, upper }
 }
 

@@ -1,13 +1,13 @@
 -- C, G1 and G3 of a penetration that is at most half of the breadth: not negative, not above one, and small enough for 64 bits. Assumes nothing.
-use mathlib.Core.Path.{_≡_, refl}
+use mathlib.Core.Path.{_≡_, refl, _∙_}
 use Prim.Native.Nat.{ℕ, _-_, _*_, _^_, _≤_, _<_}
-use native.Mathlib.Nat.{mul-le-mul, mul-le-mul-left, mul-pos}
+use native.Mathlib.Nat.{mul-le-mul, mul-le-mul-left, mul-pos, mul-sub}
 use native.Mathlib.Omega.{arith}
 use Rattle.laws.specs.Fraction.{Is, _less_over_}
 use Rattle.laws.proofs.Fraction.{is-less-over, is-shifted, is-written}
 use Rattle.records.specs.declared.Ends.{Ends}
-use Rattle.numbers.specs.Figures.{Proper, billionthsOf, halvesOf}
-use Rattle.numbers.proofs.Figures.{proper}
+use Rattle.numbers.specs.Figures.{Proper, bothWays, halvesOf}
+use Rattle.numbers.proofs.Figures.{proper, billionths-both-ways}
 use Rattle.solas.specs.Penetration.{C, G1, G3}
 use Rattle.penetration.specs.Penetration.{c, d, G1Ends, G3Ends}
 use Rattle.penetration.specs.Layer.{layerOf}
@@ -41,6 +41,13 @@ products B b h =
       some′ = mul-pos (mul-pos (h .0) (h .0)) (h .0);
     }
 
+-- the factors common to 10⁹ times the fraction's numerator, and to its denominator, cancelled
+G1-cancelled : (B b t : ℕ) {n : ℕ} → n ≡ 11 * b * t → 10 ^ 9 * n * (3 * B * B) ≡ 4400000 * b * t * (7500 * B * B)
+G1-cancelled B b t e = rw e (omega arith)
+
+G3-cancelled : (B b t : ℕ) {n : ℕ} → n ≡ 11 * b * b * t → 10 ^ 9 * n * (9 * B * B * B) ≡ 1760000 * b * b * t * (56250 * B * B * B)
+G3-cancelled B b t e = rw e (omega arith)
+
 module _ (B b : ℕ) (h : (1 ≤ B) × (B ≤ 6000) × (2 * b ≤ B)) where
   pub C-over : Is (C B b) (c B b) 0 (d B)
   unfolding c d
@@ -69,13 +76,33 @@ module _ (B b : ℕ) (h : (1 ≤ B) × (B ≤ 6000) × (2 * b ≤ B)) where
   pub G3-proper : Proper (1375 * b * b * B - 363 * b * b * b) (56250 * B * B * B)
   G3-proper = let q = products B b h in proper (omega arith) (omega arith) (omega arith)
 
-  pub G1-ends : G1Ends B b ≡ billionthsOf (5500 * b * B - 1089 * b * b) (7500 * B * B)
+  pub G1-ends : G1Ends B b ≡ bothWays (4400000 * b * (500 * B - 99 * b)) (3 * B * B)
   unfolding G1Ends
-  G1-ends = ends-are (G1-proper .positive) G1-is
+  G1-ends =
+      let q = products B b h in
+      let e : 5500 * b * B - 1089 * b * b ≡ 11 * b * (500 * B - 99 * b) = omega (arith, mul-sub b (500 * B) (99 * b)) in
+      ends-are (G1-proper .positive) G1-is ∙ billionths-both-ways _ _ (G1-proper .positive) (omega arith) (G1-cancelled B b (500 * B - 99 * b) e)
 
-  pub G3-ends : G3Ends B b ≡ billionthsOf (1375 * b * b * B - 363 * b * b * b) (56250 * B * B * B)
+  pub G3-ends : G3Ends B b ≡ bothWays (1760000 * b * b * (125 * B - 33 * b)) (9 * B * B * B)
   unfolding G3Ends
-  G3-ends = ends-are (G3-proper .positive) G3-is
+  G3-ends =
+      let q = products B b h in
+      let e : 1375 * b * b * B - 363 * b * b * b ≡ 11 * b * b * (125 * B - 33 * b) = omega (arith, mul-sub (b * b) (125 * B) (33 * b)) in
+      ends-are (G3-proper .positive) G3-is ∙ billionths-both-ways _ _ (G3-proper .positive) (omega arith) (G3-cancelled B b (125 * B - 33 * b) e)
+
+  -- 64 bits hold the cancelled numerators
+  pub G1-fits : 4400000 * b * (500 * B - 99 * b) ≤ 4400000 * 3000 * 3000000
+  G1-fits =
+      let half : 4400000 * b ≤ 4400000 * 3000 = omega arith in
+      let rest : 500 * B - 99 * b ≤ 3000000 = omega arith in
+      mul-le-mul half rest
+
+  pub G3-fits : (1760000 * b * b ≤ 1760000 * 3000 * 3000) × (1760000 * b * b * (125 * B - 33 * b) ≤ 1760000 * 3000 * 3000 * 750000)
+  G3-fits =
+      let half : b ≤ 3000 = omega arith in
+      let square : 1760000 * b * b ≤ 1760000 * 3000 * 3000 = mul-le-mul (mul-le-mul-left 1760000 half) half in
+      let rest : 125 * B - 33 * b ≤ 750000 = omega arith in
+      (square, mul-le-mul square rest)
 
 -- what is kept for a layer
 pub layer-is : (B b : ℕ) {g1 g3 half : Ends} → g1 ≡ G1Ends B b → g3 ≡ G3Ends B b → half ≡ halvesOf g3 →

@@ -1,7 +1,7 @@
 // Damage down to a penetration: C, G1 and G3 of a layer, and the ends of G and Q of a span, in billionths rounded both ways.
 use numbers::above;
-use numbers::billionths;
-use numbers::ceiling;
+use numbers::both_ways;
+use numbers::ceiling_near;
 use numbers::halves;
 use numbers::portion;
 use records::Ends;
@@ -26,23 +26,25 @@ pub struct Layer {
     pub half: Ends,
 }
 
+// 10⁹(5,500bB - 1,089b²)/(7,500B²), with the factor 2,500 cancelled.
 fn g1_ends(breadth: u64, b: u64) -> Ends
     requires { ⌜ (1 ≤ breadth) × (breadth ≤ 6000) × (2 * b ≤ breadth) ⌝ }
     ensures { λ r. ⌜ r ≡ G1Ends breadth b ⌝ }
 {
-    billionths(
-        5_500 * b * breadth - 1_089 * b * b,
-        7_500 * breadth * breadth,
+    both_ways(
+        4_400_000 * b * (500 * breadth - 99 * b),
+        3 * breadth * breadth,
     )
 }
 
+// 10⁹(1,375b²B - 363b³)/(56,250B³), with the factor 6,250 cancelled.
 fn g3_ends(breadth: u64, b: u64) -> Ends
     requires { ⌜ (1 ≤ breadth) × (breadth ≤ 6000) × (2 * b ≤ breadth) ⌝ }
     ensures { λ r. ⌜ r ≡ G3Ends breadth b ⌝ }
 {
-    billionths(
-        1_375 * b * b * breadth - 363 * b * b * b,
-        56_250 * breadth * breadth * breadth,
+    both_ways(
+        1_760_000 * b * b * (125 * breadth - 33 * b),
+        9 * breadth * breadth * breadth,
     )
 }
 
@@ -142,6 +144,6 @@ pub fn q_ends(c: u64, d: u64, p: Ends, g: Ends) -> Ends
 {
     let other = d - c;
     let lower = (p.lower * c + g.lower * other) / d;
-    let upper = ceiling(p.upper * c + g.upper * other, d);
+    let upper = ceiling_near(lower, p.upper * c + g.upper * other, d);
     Ends { lower, upper }
 }

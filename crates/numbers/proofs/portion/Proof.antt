@@ -1,8 +1,8 @@
--- `numbers::portion` meets its contract: neither product wraps. Assumes nothing.
+-- `numbers::portion` meets its contract: no product wraps. Assumes nothing.
 use borrow.Author.Needs.{needs}
 use mathlib.Core.Path.{refl}
 use Prim.Native.Nat.{ℕ, _*_, _^_, _≤_}
-use native.Mathlib.Nat.{mul-le-mul}
+use native.Mathlib.Nat.{mul-le-mul, div-mul-le-self}
 use native.Mathlib.Omega.{arith}
 use Rattle.records.specs.declared.Ends.{Ends}
 use Rattle.numbers.specs.Figures.{portionOf}
@@ -20,16 +20,19 @@ mul-lower c = let s = c .before in omega (arith, products (s .args .x) (s .args 
 div-lower : tie.Need-div-lower
 div-lower c = search needs
 
-mul-ceiling : tie.Need-mul-ceiling
-mul-ceiling c =
+mul-ceiling-near : tie.Need-mul-ceiling-near
+mul-ceiling-near c =
     let s = c .before .before in omega (arith, products (s .args .x) (s .args .g) (s .pre .1) (s .pre .2) (s .pre .3))
 
-ceiling-requires : tie.Need-ceiling-requires
-ceiling-requires c κs = search needs
+ceiling-near-requires : tie.Need-ceiling-near-requires
+ceiling-near-requires c κs =
+    let s = c .before .before in
+    let a = s .args in
+    (s .pre .0, omega (arith, div-mul-le-self (a .x * a .g .lower) (a .l), products (a .x) (a .g) (s .pre .1) (s .pre .2) (s .pre .3)))
 
 returns : tie.Need-returns
 unfolding portionOf
-returns c = both refl (c .ceiling .ensures)
+returns c = both refl (c .ceiling-near .ensures)
 
 pub portion-spec : {M : Type 1} → statement M
-portion-spec = tie.close (tie.spec mul-lower div-lower mul-ceiling ceiling-requires returns)
+portion-spec = tie.close (tie.spec mul-lower div-lower mul-ceiling-near ceiling-near-requires returns)

@@ -1,39 +1,48 @@
 -- `penetration::g1_ends` meets its contract: no product wraps. Assumes nothing.
+use borrow.Author.Needs.{needs}
 use mathlib.Core.Path.{sym, _∙_}
 use native.Mathlib.Omega.{arith}
-use Rattle.penetration.proofs.Depth.{Products, products, G1-proper, G1-ends}
+use Rattle.penetration.proofs.Depth.{products, G1-fits, G1-ends}
 use Rattle.penetration.proofs.g1_ends.Statement.{statement}
 use Rattle.penetration.proofs.g1_ends.Tie as tie
 
-sizes : (c : tie.Start) → Products (c .args .breadth) (c .args .b)
-sizes c = products (c .args .breadth) (c .args .b) (c .pre)
+mul-both-ways : tie.Need-mul-both-ways
+mul-both-ways c = search needs
 
-mul-billionths : tie.Need-mul-billionths
-mul-billionths c = let q = sizes c in omega arith
+mul-both-ways-2 : tie.Need-mul-both-ways-2
+mul-both-ways-2 c = search needs
 
-mul-billionths-2 : tie.Need-mul-billionths-2
-mul-billionths-2 c = let q = sizes c in omega arith
+mul-both-ways-3 : tie.Need-mul-both-ways-3
+mul-both-ways-3 c = search needs
 
-mul-billionths-3 : tie.Need-mul-billionths-3
-mul-billionths-3 c = let q = sizes c in omega arith
+sub-both-ways : tie.Need-sub-both-ways
+sub-both-ways c = search needs
 
-mul-billionths-4 : tie.Need-mul-billionths-4
-mul-billionths-4 c = let q = sizes c in omega arith
+mul-both-ways-4 : tie.Need-mul-both-ways-4
+mul-both-ways-4 c = omega (arith, G1-fits (c .args .breadth) (c .args .b) (c .pre))
 
-sub-billionths : tie.Need-sub-billionths
-sub-billionths c = let q = sizes c in omega arith
+mul-both-ways-5 : tie.Need-mul-both-ways-5
+mul-both-ways-5 c = search needs
 
-mul-billionths-5 : tie.Need-mul-billionths-5
-mul-billionths-5 c = let q = sizes c in omega arith
+mul-both-ways-6 : tie.Need-mul-both-ways-6
+mul-both-ways-6 c = let q = products (c .args .breadth) (c .args .b) (c .pre) in omega arith
 
-mul-billionths-6 : tie.Need-mul-billionths-6
-mul-billionths-6 c = let q = sizes c in omega arith
-
-billionths-requires : tie.Need-billionths-requires
-billionths-requires c κs = G1-proper (c .args .breadth) (c .args .b) (c .pre)
+both-ways-requires : tie.Need-both-ways-requires
+both-ways-requires c κs = let q = products (c .args .breadth) (c .args .b) (c .pre) in omega arith
 
 returns : tie.Need-returns
-returns c = let s = c .before in c .billionths .ensures ∙ sym (G1-ends (s .args .breadth) (s .args .b) (s .pre))
+returns c = let s = c .before in c .both-ways .ensures ∙ sym (G1-ends (s .args .breadth) (s .args .b) (s .pre))
 
 pub g1-ends-spec : {M : Type 1} → statement M
-g1-ends-spec = tie.close (tie.spec mul-billionths mul-billionths-2 mul-billionths-3 mul-billionths-4 sub-billionths mul-billionths-5 mul-billionths-6 billionths-requires returns)
+g1-ends-spec =
+    tie.close
+    (tie.spec
+    mul-both-ways
+    mul-both-ways-2
+    mul-both-ways-3
+    sub-both-ways
+    mul-both-ways-4
+    mul-both-ways-5
+    mul-both-ways-6
+    both-ways-requires
+    returns)

@@ -1,7 +1,7 @@
 -- `penetration::q_ends` meets its contract: no product wraps. Assumes nothing.
-use Prim.Native.Nat.{ℕ, _-_, _*_, _^_, _≤_}
+use Prim.Native.Nat.{ℕ, _+_, _-_, _*_, _^_, _≤_}
 use mathlib.Core.Path.{refl}
-use native.Mathlib.Nat.{mul-le-mul}
+use native.Mathlib.Nat.{mul-le-mul, div-mul-le-self}
 use native.Mathlib.Omega.{arith}
 use Rattle.records.specs.declared.Ends.{Ends}
 use Rattle.numbers.proofs.Figures.{both}
@@ -42,21 +42,25 @@ add-lower c = let q = at (c .before .before) in omega arith
 div-lower : tie.Need-div-lower
 div-lower c = c .before .before .pre .0
 
-mul-ceiling : tie.Need-mul-ceiling
-mul-ceiling c = let q = at (c .before .before .before) in omega arith
+mul-ceiling-near : tie.Need-mul-ceiling-near
+mul-ceiling-near c = let q = at (c .before .before .before) in omega arith
 
-mul-ceiling-2 : tie.Need-mul-ceiling-2
-mul-ceiling-2 c = let q = at (c .before .before .before .before) in omega arith
+mul-ceiling-near-2 : tie.Need-mul-ceiling-near-2
+mul-ceiling-near-2 c = let q = at (c .before .before .before .before) in omega arith
 
-add-ceiling : tie.Need-add-ceiling
-add-ceiling c = let q = at (c .before .before .before .before) in omega arith
+add-ceiling-near : tie.Need-add-ceiling-near
+add-ceiling-near c = let q = at (c .before .before .before .before) in omega arith
 
-ceiling-requires : tie.Need-ceiling-requires
-ceiling-requires c κs = c .before .before .before .before .pre .0
+ceiling-near-requires : tie.Need-ceiling-near-requires
+ceiling-near-requires c κs =
+    let s = c .before .before .before .before in
+    let a = s .args in
+    let q = at s in
+    (s .pre .0, omega (arith, div-mul-le-self (a .p .lower * a .c + a .g .lower * (a .d - a .c)) (a .d)))
 
 returns : tie.Need-returns
 unfolding mixed
-returns c = both refl (c .ceiling .ensures)
+returns c = both refl (c .ceiling-near .ensures)
 
 pub q-ends-spec : {M : Type 1} → statement M
 q-ends-spec =
@@ -67,8 +71,8 @@ q-ends-spec =
     mul-lower-2
     add-lower
     div-lower
-    mul-ceiling
-    mul-ceiling-2
-    add-ceiling
-    ceiling-requires
+    mul-ceiling-near
+    mul-ceiling-near-2
+    add-ceiling-near
+    ceiling-near-requires
     returns)

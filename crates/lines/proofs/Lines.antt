@@ -1,14 +1,14 @@
 -- Lines: where the first one ends, what is left after it, and the bytes that lines came from. Assumes nothing.
-use Prim.Native.Nat.{ℕ, suc, _+_, _-_, _≤_, _<_}
+use Prim.Native.Nat.{ℕ, zero, suc, _+_, _-_, _≤_, _<_}
 use mathlib.Core.Path.{_≡_, refl, sym, _∙_, ap, ap₂}
-use mathlib.Core.Bool.{Bool, true, false, cond, _||_}
+use mathlib.Core.Bool.{Bool, true, false, cond, _||_, or-false, or-assoc}
 use mathlib.Core.List.{List, [], _∷_, _++_}
 use native.Mathlib.Numerals.{add-one}
 use native.Mathlib.Omega.{arith}
 use lib.Dec.{eqb, ltb, leb·suc-suc}
 use lib.ListN.{length, getD, take, drop, length-drop, drop-of-length-le}
-use lib.Seq.{drop-cons, drop-drop}
-use borrow.Author.Tests.{eq-eqb, ne-eqb, lt-ltb, ltb-true, eqb-true, eqb-false}
+use lib.Seq.{drop-cons, drop-drop, getD-drop}
+use borrow.Author.Tests.{eq-eqb, ne-eqb, lt-ltb, ltb-true, eqb-true}
 use Rattle.laws.proofs.Tests.{neither, same-test}
 use Rattle.lines.specs.Lines.{Line, onto, lines, lineLength, hasFeed}
 
@@ -27,56 +27,26 @@ module _ (f : List ℕ) (i : ℕ) where
   unfolding lineLength
   length-ends h = rw (drop-of-length-le f h) refl
 
--- four bytes at a time
-module _ (f : List ℕ) (i : ℕ) (h : i + 4 ≤ length f) where
-  first-four : take 4 (drop i f) ≡ getD f i 0 ∷ getD f (i + 1) 0 ∷ getD f (i + 2) 0 ∷ getD f (i + 3) 0 ∷ []
-  first-four =
-      let p : i + 1 ≡ suc i = omega arith in
-      let q : i + 2 ≡ suc (suc i) = omega arith in
-      let r : i + 3 ≡ suc (suc (suc i)) = omega arith in
-      rw (p, q, r, drop-cons f i 0 (omega arith), drop-cons f (suc i) 0 (omega arith), drop-cons f (suc (suc i)) 0 (omega arith), drop-cons f (suc (suc (suc i))) 0 (omega arith)) refl
+-- one byte more that may be a line feed
+pub feed-taken : (g : List ℕ) (k : ℕ) → k < length g → (hasFeed (take k g) || eqb (getD g k 0) 10) ≡ hasFeed (take (suc k) g)
+unfolding hasFeed
+feed-taken [] k h = absurd (omega arith)
+feed-taken (b ∷ g) zero h = sym (or-false (eqb b 10))
+feed-taken (b ∷ g) (suc k) h = or-assoc (eqb b 10) (hasFeed (take k g)) (eqb (getD g k 0) 10) ∙ ap (eqb b 10 ||_) (feed-taken g k (omega arith))
 
-  four-tests : (s t u v : Bool) → (s || t || u || v) ≡ (s || (t || (u || (v || false))))
-  four-tests true t u v = refl
-  four-tests false true u v = refl
-  four-tests false false true v = refl
-  four-tests false false false true = refl
-  four-tests false false false false = refl
+-- n bytes at a time
+length-past : (n : ℕ) (g : List ℕ) → n ≤ length g → hasFeed (take n g) ≡ false → lineLength g ≡ n + lineLength (drop n g)
+unfolding hasFeed lineLength
+length-past zero g h e = omega arith
+length-past (suc n) [] h e = absurd (omega arith)
+length-past (suc n) (b ∷ g) h e = let (p, q) = neither (eqb b 10) (hasFeed (take n g)) e in rw p (omega (arith, length-past n g (omega arith) q))
 
-  pub four-told : (eqb (getD f i 0) 10 || eqb (getD f (i + 1) 0) 10 || eqb (getD f (i + 2) 0) 10 || eqb (getD f (i + 3) 0) 10) ≡ hasFeed (take 4 (drop i f))
-  unfolding hasFeed
-  four-told = rw first-four (four-tests (eqb (getD f i 0) 10) (eqb (getD f (i + 1) 0) 10) (eqb (getD f (i + 2) 0) 10) (eqb (getD f (i + 3) 0) 10))
+module _ (f : List ℕ) (i : ℕ) where
+  pub feed-next : (k : ℕ) → i + k < length f → (hasFeed (take k (drop i f)) || eqb (getD f (i + k) 0) 10) ≡ hasFeed (take (k + 1) (drop i f))
+  feed-next k h = rw (add-one, ← getD-drop i f k 0) (feed-taken (drop i f) k (omega (arith, length-drop i f)))
 
-  pub four-go-on : hasFeed (take 4 (drop i f)) ≡ false → i + 4 + lineLength (drop (i + 4) f) ≡ i + lineLength (drop i f)
-  four-go-on e =
-      let (abc, d) = neither (eqb (getD f i 0) 10 || eqb (getD f (i + 1) 0) 10 || eqb (getD f (i + 2) 0) 10) (eqb (getD f (i + 3) 0) 10) (four-told ∙ e) in
-      let (ab, c) = neither (eqb (getD f i 0) 10 || eqb (getD f (i + 1) 0) 10) (eqb (getD f (i + 2) 0) 10) abc in
-      let (a, b) = neither (eqb (getD f i 0) 10) (eqb (getD f (i + 1) 0) 10) ab in
-      let pp : i + 1 + 1 ≡ i + 2 = omega arith in
-      let p : lineLength (drop (i + 1 + 1) f) ≡ lineLength (drop (i + 2) f) = ap (λ k. lineLength (drop k f)) pp in
-      let qq : i + 2 + 1 ≡ i + 3 = omega arith in
-      let q : lineLength (drop (i + 2 + 1) f) ≡ lineLength (drop (i + 3) f) = ap (λ k. lineLength (drop k f)) qq in
-      let rr : i + 3 + 1 ≡ i + 4 = omega arith in
-      let r : lineLength (drop (i + 3 + 1) f) ≡ lineLength (drop (i + 4) f) = ap (λ k. lineLength (drop k f)) rr in
-      omega (
-        arith,
-        p,
-        q,
-        r,
-        length-goes-on f i (omega arith) (eqb-false (getD f i 0) 10 a),
-        length-goes-on f (i + 1) (omega arith) (eqb-false (getD f (i + 1) 0) 10 b),
-        length-goes-on f (i + 2) (omega arith) (eqb-false (getD f (i + 2) 0) 10 c),
-        length-goes-on f (i + 3) (omega arith) (eqb-false (getD f (i + 3) 0) 10 d),
-      )
-
--- and eight
-pub eight-go-on : (f : List ℕ) (i : ℕ) → i + 8 ≤ length f → (hasFeed (take 4 (drop i f)) || hasFeed (take 4 (drop (i + 4) f))) ≡ false →
-    i + 8 + lineLength (drop (i + 8) f) ≡ i + lineLength (drop i f)
-eight-go-on f i h e =
-    let (a, b) = neither (hasFeed (take 4 (drop i f))) (hasFeed (take 4 (drop (i + 4) f))) e in
-    let p : i + 4 + 4 ≡ i + 8 = omega arith in
-    let q : lineLength (drop (i + 4 + 4) f) ≡ lineLength (drop (i + 8) f) = ap (λ k. lineLength (drop k f)) p in
-    omega (arith, q, four-go-on f i (omega arith) a, four-go-on f (i + 4) (omega arith) b)
+  pub feedless-go-on : (n : ℕ) → i + n ≤ length f → hasFeed (take n (drop i f)) ≡ false → i + n + lineLength (drop (i + n) f) ≡ i + lineLength (drop i f)
+  feedless-go-on n h e = rw (← drop-drop n i f) (omega (arith, length-past n (drop i f) (omega (arith, length-drop i f)) e))
 
 pub length-within : (f : List ℕ) → lineLength f ≤ length f
 unfolding lineLength

@@ -4,31 +4,33 @@ ghost use Prim.Native.Nat.{_+_, _≤_};
 ghost use lib.ListN.{length, take, drop};
 ghost use Rattle.lines.specs.Lines.{lineLength, hasFeed};
 
-// Whether one of the four bytes from a place on is a line feed.
-fn feed_in_four(input: &[u8], at: usize) -> bool
-    requires { ⌜ at + 4 ≤ length (now input) ⌝ }
-    ensures { λ r. ⌜ r ≡ hasFeed (take 4 (drop at (now (input .entry)))) ⌝ }
+// Whether one of the sixteen bytes from a place on is a line feed: each is looked at whatever the others are, so that no jump is taken among them.
+fn feed_in_sixteen(input: &[u8], at: usize) -> bool
+    requires { ⌜ at + 16 ≤ length (now input) ⌝ }
+    ensures { λ r. ⌜ r ≡ hasFeed (take 16 (drop at (now (input .entry)))) ⌝ }
 {
-    let first = input[at] == b'\n';
-    let second = input[at + 1] == b'\n';
-    let third = input[at + 2] == b'\n';
-    let fourth = input[at + 3] == b'\n';
-    first | second | third | fourth
+    let mut found = false;
+    let mut k: usize = 0;
+    while k < 16 {
+        found = found | (input[at + k] == b'\n');
+        k = k + 1;
+    }
+    found
 }
 
-// A place from which the line ends where it does from `at`: past as many eights of bytes as hold no line feed.
-fn past_eights(input: &[u8], at: usize) -> usize
+// A place from which the line ends where it does from `at`: past as many sixteens of bytes as hold no line feed.
+fn past_sixteens(input: &[u8], at: usize) -> usize
     ensures { λ r. ⌜ r + lineLength (drop r (now (input .entry))) ≡ at + lineLength (drop at (now (input .entry))) ⌝ }
 {
     let mut i = at;
     while i < input.len() {
-        if input.len() - i < 8 {
+        if input.len() - i < 16 {
             return i;
         }
-        if feed_in_four(input, i) | feed_in_four(input, i + 4) {
+        if feed_in_sixteen(input, i) {
             return i;
         }
-        i = i + 8;
+        i = i + 16;
     }
     i
 }
@@ -37,7 +39,7 @@ fn past_eights(input: &[u8], at: usize) -> usize
 pub fn line_end(input: &[u8], at: usize) -> usize
     ensures { λ r. ⌜ r ≡ at + lineLength (drop at (now (input .entry))) ⌝ }
 {
-    let mut i = past_eights(input, at);
+    let mut i = past_sixteens(input, at);
     while i < input.len() {
         if input[i] == b'\n' {
             return i;

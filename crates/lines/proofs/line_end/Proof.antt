@@ -15,11 +15,11 @@ Inv-loop input at i₀ i = i + lineLength (drop i input) ≡ at + lineLength (dr
 abbrev μ-loop : tie.MeasureT-loop
 μ-loop input at i₀ i = length input - i
 
-past-eights-requires : tie.Need-past-eights-requires Inv-loop μ-loop
-past-eights-requires c κs = search needs
+past-sixteens-requires : tie.Need-past-sixteens-requires Inv-loop μ-loop
+past-sixteens-requires c κs = search needs
 
 loop-holds : tie.Need-loop-holds Inv-loop μ-loop
-loop-holds c = c .past-eights .ensures
+loop-holds c = c .past-sixteens .ensures
 
 shared-slice-read-if1 : tie.Need-shared-slice-read-if1 Inv-loop μ-loop
 shared-slice-read-if1 c = search needs
@@ -45,7 +45,7 @@ line-end-spec =
     (tie.spec
     Inv-loop
     μ-loop
-    past-eights-requires
+    past-sixteens-requires
     loop-holds
     shared-slice-read-if1
     returns

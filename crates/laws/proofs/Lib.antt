@@ -15,6 +15,7 @@ pub mod Certificate
 pub mod Polynomial
 -- quotients and roots of whole numbers
 pub mod Rounding
+pub mod Equal
 pub mod Roots
 -- fractions
 pub mod Fraction

@@ -8,9 +8,9 @@ use lib.Dec.{eqb}
 use borrow.Author.Tests.{eq-eqb, ne-eqb}
 use Rattle.laws.specs.Rounding.{ceil}
 use Rattle.laws.proofs.Rounding.{ceil-least, floor-not-above-ceil, ceil-near-floor}
-use Rattle.numbers.specs.Root.{RootDown, RootUp}
-use Rattle.numbers.proofs.Root.{below-next}
-use Rattle.numbers.proofs.RootValue.{down-value, up-value}
+use Rattle.roots.specs.Root.{RootDown, RootUp}
+use Rattle.roots.proofs.Root.{below-next}
+use Rattle.roots.proofs.RootValue.{down-value, up-value}
 use Rattle.records.specs.declared.Finding.{Finding}
 use Rattle.records.specs.declared.Survival.{Survival}
 use Rattle.solas.specs.Survival.{s⁴}

@@ -3,7 +3,7 @@ use Prim.Native.Nat.{ℕ}
 use mathlib.Core.Path.{_≡_, refl}
 use Rattle.laws.specs.Fraction.{_less_over_, _⊛_}
 use Rattle.laws.specs.Rounding.{ceil}
-use Rattle.numbers.specs.Root.{withDigits, rootDown, rootUp}
+use Rattle.roots.specs.Root.{withDigits, rootDown, rootUp}
 use Rattle.records.specs.declared.Finding.{Finding}
 use Rattle.records.specs.declared.Survival.{Survival}
 use Rattle.solas.specs.Height.{v, vAt}

@@ -1,10 +1,10 @@
 // The survival of a row's results: s⁴ as one fraction, and from it the bottom and the top in ten-thousandths.
 use crate::Ratio;
 use numbers::ceiling;
-use numbers::root_down;
-use numbers::root_up;
 use records::Finding;
 use records::Survival;
+use roots::root_down;
+use roots::root_up;
 ghost use mathlib.Core.Path.{_≡_};
 ghost use Prim.Native.Nat.{_^_, min};
 ghost use Rattle.solas.specs.Survival.{k, s⁴};

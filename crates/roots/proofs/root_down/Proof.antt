@@ -1,12 +1,12 @@
--- `numbers::root_down` meets its contract: n stays between the fourth powers of the stretch's ends, which close in on each other. Assumes nothing.
+-- `roots::root_down` meets its contract: n stays between the fourth powers of the stretch's ends, which close in on each other. Assumes nothing.
 use borrow.Author.Needs.{needs}
 use mathlib.Core.Path.{_≡_}
 use mathlib.Core.Logic.{⊎-elim}
 use Prim.Native.Nat.{_-_}
 use native.Mathlib.Omega.{arith}
-use Rattle.numbers.proofs.Root.{Stretch, upper-part, lower-part, down-in-stretch}
-use Rattle.numbers.proofs.root_down.Statement.{statement}
-use Rattle.numbers.proofs.root_down.Tie as tie
+use Rattle.roots.proofs.Root.{Stretch, upper-part, lower-part, down-in-stretch}
+use Rattle.roots.proofs.root_down.Statement.{statement}
+use Rattle.roots.proofs.root_down.Tie as tie
 
 abbrev Inv-loop : tie.InvT-loop
 Inv-loop n low₀ width₀ low width = Stretch n low width

@@ -7,7 +7,7 @@ use native.Mathlib.Omega.{arith}
 use Rattle.laws.specs.Rounding.{ceil}
 use Rattle.laws.proofs.Roots.{powers-ordered, powers-strict}
 use Rattle.laws.proofs.Rounding.{ceil-least}
-use Rattle.numbers.specs.Root.{RootDown, RootUp}
+use Rattle.roots.specs.Root.{RootDown, RootUp}
 
 within-of-fourth : {s t : ℕ} → s ^ 4 ≤ t ^ 4 → s ≤ t
 within-of-fourth {s} {t} = powers-ordered 3 s t .0

@@ -1,8 +1,8 @@
 -- What holds of the fourth roots, rounded down and up: each is one number, and they are at most one apart. Assumes nothing.
 use mathlib.Core.Path.{_≡_, sym}
 use mathlib.Core.Logic.{_↔_}
-use Prim.Native.Nat.{ℕ, _+_, _-_, _*_, _/_, _^_, _≤_, _<_}
-use native.Mathlib.Nat.{le-of-lt, le-of-eq, lt-of-not-le, lt-of-lt-of-le, le-antisymm, le-trans, le-div-iff-mul-le}
+use Prim.Native.Nat.{ℕ, _+_, _*_, _/_, _^_, _≤_, _<_}
+use native.Mathlib.Nat.{le-of-lt, le-of-eq, lt-of-not-le, le-antisymm, le-trans, le-div-iff-mul-le}
 use native.Mathlib.Omega.{arith}
 use Rattle.laws.specs.Rounding.{ceil}
 use Rattle.laws.proofs.Roots.{powers-ordered, powers-strict}

@@ -4,7 +4,7 @@ use mathlib.Core.List.{List, [], _∷_}
 use mathlib.Core.Path.{_≡_, refl}
 use Rattle.laws.specs.Fraction.{_less_over_, _⊛_}
 use Rattle.laws.specs.Rounding.{ceil}
-use Rattle.numbers.specs.Root.{withDigits, rootDown, rootUp}
+use Rattle.roots.specs.Root.{withDigits, rootDown, rootUp}
 use Rattle.records.specs.declared.Ends.{Ends}
 use Rattle.records.specs.declared.Finding.{Finding}
 use Rattle.records.specs.declared.Trio.{Trio}

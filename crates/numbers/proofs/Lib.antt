@@ -1,5 +1,3 @@
 mod Division
 pub mod Figures
-pub mod Root
-pub mod RootValue
 pub mod Values

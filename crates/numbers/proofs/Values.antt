@@ -1,10 +1,9 @@
--- Worked values of 01, computed: the chances and shares of its file in billionths, and the fourth roots of its survivals. Assumes nothing.
+-- Worked values of 01, computed: the chances and shares of its file in billionths. Assumes nothing.
 use mathlib.Core.Path.{_≡_, refl}
-use Prim.Native.Nat.{ℕ, _/_, _^_}
+use Prim.Native.Nat.{ℕ}
 use Rattle.laws.specs.Rounding.{ceil}
 use Rattle.records.specs.declared.Ends.{Ends}
 use Rattle.numbers.specs.Figures.{billionthsOf, halvesOf, portionOf}
-use Rattle.numbers.specs.Root.{withDigits, rootDown, rootUp}
 
 abbrev ends : ℕ → ℕ → Ends
 ends lower upper = record { lower = lower; upper = upper }
@@ -26,16 +25,3 @@ pub parts :
     × (halvesOf (ends 21782223 21782223) ≡ ends 10891111 10891112)
 unfolding billionthsOf portionOf halvesOf ceil
 parts = (refl, refl, refl)
-
--- s at (30, 400, 0), (60, 800, 0), (120, 1600, 2995) and heel 3,000
-pub roots :
-    (rootDown (10 ^ 16 / 16) ≡ 5000)
-    × (rootUp (10 ^ 16 / 16) ≡ 5000)
-    × (rootDown (10 ^ 16 / 4) ≡ 7071)
-    × (rootUp (10 ^ 16 / 4) ≡ 7072)
-    × (rootDown (10 ^ 16 / 10000) ≡ 1000)
-    × (rootUp (10 ^ 16 / 10000) ≡ 1000)
-    × (rootDown 0 ≡ 0)
-    × (rootUp 0 ≡ 0)
-unfolding rootDown rootUp withDigits
-roots = (refl, refl, refl, refl, refl, refl, refl, refl)

@@ -1,4 +1,4 @@
-// Machine numbers: differences held to be not below 0, quotients rounded up, billionths of a fraction rounded both ways, portions, halves, and fourth roots.
+// Machine numbers: differences held to be not below 0, quotients rounded up, billionths of a fraction rounded both ways, portions, and halves.
 use records::Ends;
 ghost use mathlib.Core.Path.{_≡_};
 ghost use mathlib.Core.Bool.{cond};
@@ -7,7 +7,6 @@ ghost use lib.Dec.{leb};
 ghost use Rattle.laws.specs.Rounding.{ceil};
 ghost use Rattle.numbers.specs.Division.{Division, Carries, dividend};
 ghost use Rattle.numbers.specs.Figures.{Proper, bothWays, billionthsOf, portionOf, halvesOf};
-ghost use Rattle.numbers.specs.Root.{RootDown, RootUp};
 
 // The largest number that 64 bits hold.
 const LARGEST: u64 = 18_446_744_073_709_551_615;
@@ -168,40 +167,4 @@ pub fn halves(g: Ends) -> Ends
     let lower = g.lower / 2;
     let upper = g.upper / 2 + g.upper % 2;
     Ends { lower, upper }
-}
-
-fn fourth_power(s: u64) -> u64
-    requires { ⌜ s < 2 ^ 16 ⌝ }
-    ensures { λ r. ⌜ r ≡ s ^ 4 ⌝ }
-{
-    let square = s * s;
-    square * square
-}
-
-// The fourth root rounded down: it lies in a stretch from 0 to 10,000, which is halved 14 times, whatever n is.
-pub fn root_down(n: u64) -> u64
-    requires { ⌜ n ≤ 10 ^ 16 ⌝ }
-    ensures { λ r. ⌜ RootDown n r × (r ≤ 10000) ⌝ }
-{
-    let mut low: u64 = 0;
-    let mut width: u64 = 10_001;
-    while 1 < width {
-        let half = width / 2;
-        let middle = low + half;
-        low = if fourth_power(middle) <= n {
-            middle
-        } else {
-            low
-        };
-        width = width - half;
-    }
-    low
-}
-
-// The fourth root rounded up, where s or the next number is: s is the root of n, or of the number before it, rounded down.
-pub fn root_up(s: u64, n: u64) -> u64
-    requires { ⌜ (s ≤ 10000) × (s ^ 4 ≤ n) × (n ≤ (s + 1) ^ 4) ⌝ }
-    ensures { λ r. ⌜ RootUp n r ⌝ }
-{
-    if fourth_power(s) == n { s } else { s + 1 }
 }

@@ -5,7 +5,7 @@ use Rattle.laws.specs.Rounding.{ceil}
 use Rattle.laws.specs.Lists.{tabulate}
 use Rattle.laws.specs.Bytes.{bytes}
 use Rattle.numbers.specs.Figures.{billionthsOf, portionOf, halvesOf}
-use Rattle.numbers.specs.Root.{withDigits, rootDown, rootUp}
+use Rattle.roots.specs.Root.{withDigits, rootDown, rootUp}
 use Rattle.solas.specs.Span.{touch, p, P}
 use Rattle.solas.specs.Penetration.{G1, G3}
 use Rattle.solas.specs.Count.{added, taken}

@@ -6,7 +6,7 @@ use lib.Dec.{lit<}
 use Rattle.laws.specs.Fraction.{_less_over_, whole, _≈_, _⊹_, _⊝_, _⊛_}
 use Rattle.laws.specs.Rounding.{ceil}
 use Rattle.laws.proofs.Fraction.{is-nothing, is-shifted, same}
-use Rattle.numbers.specs.Root.{withDigits, rootDown, rootUp}
+use Rattle.roots.specs.Root.{withDigits, rootDown, rootUp}
 use Rattle.solas.specs.Span.{touch, p, P}
 use Rattle.solas.specs.Penetration.{C, G1, G3, G, Q}
 use Rattle.solas.specs.Share.{within, share, rowShare}

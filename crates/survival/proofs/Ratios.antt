@@ -1,6 +1,7 @@
 -- Fractions and their numerators and denominators: products, s⁴ and its bounds. Assumes nothing.
-use Prim.Native.Nat.{ℕ, _+_, _-_, _*_, _^_, _≤_, _<_, min}
+use Prim.Native.Nat.{ℕ, _+_, _-_, _*_, _≤_, _<_, min}
 use mathlib.Core.Bool.{Bool, true, false, cond}
+use mathlib.Core.Logic.{_⊎_, inl, inr, ⊎-elim}
 use mathlib.Core.Path.{_≡_, refl, ap, _∙_}
 use native.Mathlib.Nat.{mul-pos, mul-le-mul, min-le-right}
 use native.Mathlib.Omega.{arith}
@@ -10,7 +11,7 @@ use Rattle.laws.specs.Fraction.{Fraction, den, _less_over_, _over_, whole, _⊛
 use Rattle.laws.proofs.Fraction.{positive}
 use Rattle.solas.specs.Survival.{k, s⁴}
 use Rattle.laws.proofs.Choice.{split}
-use Rattle.survival.specs.Ratio.{ratioOf, Proper}
+use Rattle.survival.specs.Ratio.{ratioOf, OfCaps, Capped}
 use Rattle.survival.specs.declared.Ratio.{Ratio}
 
 pub same-ratio : {a b c d : ℕ} → a ≡ c → b ≡ d → _≡_ {A = Ratio} (record { num = a; den = b }) (record { num = c; den = d })
@@ -87,14 +88,21 @@ fourth-ratio g t e =
     let pair = product-plain lever range (over-plain (min g 120) 120) (over-plain (min t 1600) 1600) in
     rw (ratio-product (lever ⊛ range) (k e) pair (k-plain e), ratio-product lever range (over-plain (min g 120) 120) (over-plain (min t 1600) 1600), one, two) refl
 
-pub k-bounds : (e : ℕ) → (0 < ratioOf (k e) .den) × (ratioOf (k e) .num ≤ ratioOf (k e) .den) × (ratioOf (k e) .den ≤ 250000)
+pub k-bounds : (e : ℕ) → (ratioOf (k e) .num ≤ ratioOf (k e) .den) × ((ratioOf (k e) .den ≡ 1) ⊎ (ratioOf (k e) .den ≡ 250000))
 k-bounds e =
-    k-cases (λ n d. (0 < d) × (n ≤ d) × (d ≤ 250000)) e (omega arith) (omega arith)
-    (λ h l. let q : 3000 - e ≤ 500 = omega arith in (omega arith, mul-le-mul q q, omega arith))
+    k-cases (λ n d. (n ≤ d) × ((d ≡ 1) ⊎ (d ≡ 250000))) e (omega arith, inl refl) (omega arith, inl refl)
+    (λ h l. let q : 3000 - e ≤ 500 = omega arith in (mul-le-mul q q, inr refl))
 
-pub fourth-proper : (g t e : ℕ) → Proper (10 ^ 8) (ratioOf (s⁴ g t e))
-fourth-proper g t e =
+pub fourth-capped : (g t e : ℕ) → Capped (ratioOf (s⁴ g t e))
+fourth-capped g t e =
     let b = k-bounds e in
     let n : min g 120 * min t 1600 ≤ 192000 = mul-le-mul (min-le-right g 120) (min-le-right t 1600) in
     rw (fourth-ratio g t e)
-    (record { positive = omega (arith, b); at-most-one = mul-le-mul n (b .1); narrow = omega (arith, b) })
+    (record { at-most-one = mul-le-mul n (b .0); of-caps = ⊎-elim (λ d. inl (omega arith)) (λ d. inr (omega arith)) (b .1) })
+
+-- ---- its two denominators
+pub caps-positive : {d : ℕ} → OfCaps d → 0 < d
+caps-positive h = ⊎-elim (λ e. omega arith) (λ e. omega arith) h
+
+pub other-denominator : {d : ℕ} → OfCaps d → (d ≡ 192000 → ⊥) → d ≡ 192000 * 250000
+other-denominator h n = ⊎-elim (λ e. omega (arith, n e)) (λ e. e) h

@@ -1,9 +1,9 @@
 -- Survivals and heights that refuse a slip in this crate at once; document 01's own table is crates/promises/specs/Values.antt. Assumes nothing.
-use Prim.Native.Nat.{ℕ}
+use Prim.Native.Nat.{ℕ, _*_, _^_}
 use mathlib.Core.Path.{_≡_, refl}
 use Rattle.laws.specs.Fraction.{_less_over_, _⊛_}
 use Rattle.laws.specs.Rounding.{ceil}
-use Rattle.numbers.specs.Root.{withDigits, rootDown, rootUp}
+use Rattle.roots.specs.Root.{withDigits, rootDown, rootUp}
 use Rattle.records.specs.declared.Finding.{Finding}
 use Rattle.records.specs.declared.Survival.{Survival}
 use Rattle.solas.specs.Height.{v, vAt}
@@ -30,6 +30,11 @@ pub survivals :
     × (survivalOf 3 (given 7071) ≡ s 7071 7071)
 unfolding survivalOf factorOf s⁴ k ratioOf scaledOf roundedOf rootDown rootUp withDigits ceil _⊛_ _less_over_
 survivals = (refl, refl, refl, refl, refl, refl)
+
+-- 10¹⁶ times a fraction that is 1 and a half: below it 1 is the greatest root, and above it 2 the least
+pub apart : roundedOf (record { num = 3; den = 2 * 10 ^ 16 }) ≡ s 1 2
+unfolding scaledOf roundedOf rootDown rootUp withDigits ceil
+apart = refl
 
 -- ---- heights
 pub heights : (v 7800 ≡ 733200) × (v 7801 ≡ 733239) × (vAt 13801 6000 ≡ 733239)

@@ -6,7 +6,7 @@ use lib.Dec.{eqb}
 use lib.ListN.{getD}
 use Rattle.laws.specs.Fraction.{Fraction, _over_, whole, _≼_, _⊛_}
 use Rattle.laws.specs.Rounding.{ceil}
-use Rattle.numbers.specs.Root.{rootDown, rootUp}
+use Rattle.roots.specs.Root.{rootDown, rootUp}
 use Rattle.records.specs.declared.Finding.{Finding}
 use Rattle.records.specs.declared.Survival.{Survival}
 use Rattle.solas.specs.Survival.{s⁴}

@@ -1,14 +1,14 @@
 // The survival of a row's results: s⁴ as one fraction, and from it the bottom and the top in ten-thousandths.
 use crate::Ratio;
 use numbers::ceiling;
-use numbers::root_down;
-use numbers::root_up;
 use records::Finding;
 use records::Survival;
+use roots::root_down;
+use roots::root_up;
 ghost use mathlib.Core.Path.{_≡_};
-ghost use Prim.Native.Nat.{_^_, min};
+ghost use Prim.Native.Nat.{_*_, _^_, min};
 ghost use Rattle.solas.specs.Survival.{k, s⁴};
-ghost use Rattle.survival.specs.Ratio.{Proper, ratioOf};
+ghost use Rattle.survival.specs.Ratio.{Capped, OfCaps, ratioOf};
 ghost use Rattle.survival.specs.Survival.{scaledOf, roundedOf, survivalOf, survivalsOf};
 
 // The caps of lever (mm) and range (hundredths of a degree), and the heels between which survival falls to nothing.
@@ -25,8 +25,8 @@ const CAPS: u64 = LEVER * RANGE;
 
 const FALL: u64 = (LOST - UPRIGHT) * (LOST - UPRIGHT);
 
-// 10¹⁶ in two steps of the long division.
-const STEP: u64 = 100_000_000;
+// 3·10¹⁶, into which either denominator goes without a rest.
+const THIRDS: u64 = 30_000_000_000_000_000;
 
 // 10¹⁶ times a fraction, rounded down and up.
 struct Multiple {
@@ -70,23 +70,33 @@ fn fourth(f: Finding) -> Ratio
     }
 }
 
+// How often a denominator goes into 3·10¹⁶.
+fn thirds(den: u64) -> u64
+    requires { ⌜ OfCaps den ⌝ }
+    ensures { λ r. ⌜ r * den ≡ 3 * 10 ^ 16 ⌝ }
+{
+    if den == CAPS {
+        THIRDS / CAPS
+    } else {
+        THIRDS / (CAPS * FALL)
+    }
+}
+
+// In whole thirds, so that nothing is divided by the denominator.
 fn scaled(f: Ratio) -> Multiple
-    requires { ⌜ Proper (10 ^ 8) f ⌝ }
+    requires { ⌜ Capped f ⌝ }
     ensures { λ r. ⌜ r ≡ scaledOf f ⌝ }
 {
-    let d = f.den;
-    let first = STEP * f.num;
-    let whole = STEP * (first / d);
-    let rest = STEP * (first % d);
+    let n = thirds(f.den) * f.num;
     Multiple {
-        down: whole + rest / d,
-        up: whole + ceiling(rest, d),
+        down: n / 3,
+        up: ceiling(n, 3),
     }
 }
 
 // The fourth root of a fraction in ten-thousandths: the greatest not above it, the least not below.
 fn rounded(f: Ratio) -> Survival
-    requires { ⌜ Proper (10 ^ 8) f ⌝ }
+    requires { ⌜ Capped f ⌝ }
     ensures { λ r. ⌜ r ≡ roundedOf f ⌝ }
 {
     let s = scaled(f);

@@ -1,5 +1,6 @@
 -- `survival::finding::fourth` meets its contract: no product wraps, and s⁴ is the three factors' product. Assumes nothing.
 use borrow.Author.Needs.{needs}
+use mathlib.Core.Logic.{⊎-elim}
 use mathlib.Core.Path.{_≡_, sym}
 use Prim.Native.Nat.{ℕ, _≤_}
 use native.Mathlib.Nat.{mul-le-mul}
@@ -21,7 +22,7 @@ heel-factor-requires : tie.Need-heel-factor-requires
 heel-factor-requires c κs = search needs
 
 heeled : (e : ℕ) {r : Ratio} → r ≡ ratioOf (k e) → (r .num ≤ 250000) × (r .den ≤ 250000)
-heeled e h = let b = k-bounds e in rw h (omega arith)
+heeled e h = let b = k-bounds e in rw h (⊎-elim (λ d. omega (arith, b .0)) (λ d. omega (arith, b .0)) (b .1))
 
 mul-t5 : tie.Need-mul-t5
 mul-t5 c =

@@ -1,6 +1,10 @@
 -- `survival::finding::rounded` meets its contract: the roots are those of 10¹⁶ times the fraction, rounded the same way. Assumes nothing.
 use borrow.Author.Needs.{needs}
-use Rattle.survival.proofs.Factors.{scaled-down-fits, top-after, rounds}
+use native.Mathlib.Omega.{arith}
+use Rattle.roots.proofs.Root.{below-next}
+use Rattle.roots.proofs.RootValue.{down-value, up-value}
+use Rattle.survival.specs.Survival.{roundedOf}
+use Rattle.survival.proofs.Factors.{scaled-fits, scaled-near, same-survival}
 use Rattle.survival.proofs.finding.rounded.Statement.{statement}
 use Rattle.survival.proofs.finding.rounded.Tie as tie
 
@@ -8,14 +12,20 @@ scaled-requires : tie.Need-scaled-requires
 scaled-requires c κs = search needs
 
 root-down-requires : tie.Need-root-down-requires
-root-down-requires c κs = rw (c .scaled .ensures) (scaled-down-fits (c .before .pre))
+root-down-requires c κs = rw (c .scaled .ensures) (scaled-fits (c .before .pre) .0)
 
 root-up-requires : tie.Need-root-up-requires
-root-up-requires c κs = top-after (c .before .before .pre) (c .before .scaled .ensures) (c .root-down .ensures .0) (c .root-down .ensures .1)
+root-up-requires c κs =
+    let s = c .before .scaled .ensures in
+    let r = c .root-down .ensures in
+    omega (arith, r .0 .within, below-next (r .0), r .1, rw (← s) at (scaled-near (c .before .before .pre)))
 
 returns : tie.Need-returns
+unfolding roundedOf
 returns c =
-    rounds (c .before .before .before .pre) (c .before .before .scaled .ensures) (c .before .root-down .ensures .0) (c .root-up .ensures)
+    let s = c .before .before .scaled .ensures in
+    let h = scaled-fits (c .before .before .before .pre) in
+    same-survival (down-value (omega arith) (rw s at (c .before .root-down .ensures .0))) (up-value (omega arith) (rw s at (c .root-up .ensures)))
 
 pub rounded-spec : {M : Type 1} → statement M
 rounded-spec = tie.close (tie.spec scaled-requires root-down-requires root-up-requires returns)

@@ -4,7 +4,7 @@ use mathlib.Core.Path.{ap, sym, _∙_}
 use native.Mathlib.Omega.{arith}
 use Rattle.survival.specs.Survival.{roundedOf}
 use Rattle.survival.proofs.Factors.{as-given, as-found}
-use Rattle.survival.proofs.Ratios.{fourth-proper}
+use Rattle.survival.proofs.Ratios.{fourth-capped}
 use Rattle.survival.proofs.finding.survival.Statement.{statement}
 use Rattle.survival.proofs.finding.survival.Tie as tie
 
@@ -15,7 +15,7 @@ fourth-requires : tie.Need-fourth-requires
 fourth-requires c κs = search needs
 
 rounded-requires : tie.Need-rounded-requires
-rounded-requires c κs = rw (c .fourth .ensures) (fourth-proper _ _ _)
+rounded-requires c κs = rw (c .fourth .ensures) (fourth-capped _ _ _)
 
 returns-2 : tie.Need-returns-2
 returns-2 c =

@@ -6,8 +6,8 @@ use native.Mathlib.Nat.{pow-suc, le-of-lt}
 use native.Mathlib.Omega.{arith}
 use borrow.Author.Tests.{leb-true, leb-false, eqb-true, eqb-false}
 use lib.Dec.{leb, eqb}
-use Rattle.numbers.specs.Root.{RootDown, RootUp, withDigits, rootDown, rootUp}
-use Rattle.numbers.proofs.Root.{down-between, below-next, up-exact, up-next, down-unique, up-unique}
+use Rattle.roots.specs.Root.{RootDown, RootUp, withDigits, rootDown, rootUp}
+use Rattle.roots.proofs.Root.{down-between, below-next, up-exact, up-next, down-unique, up-unique}
 
 digits-root : (n k s : ℕ) → s ^ 4 ≤ n → n < (s + 2 ^ k) ^ 4 → RootDown n (withDigits n k s)
 unfolding withDigits

@@ -1,9 +1,9 @@
--- `numbers::root_up` meets its contract, from a number whose fourth power is not above, and the next one's not below. Assumes nothing.
+-- `roots::root_up` meets its contract, from a number whose fourth power is not above, and the next one's not below. Assumes nothing.
 use borrow.Author.Needs.{needs}
 use mathlib.Core.Path.{sym, _∙_}
-use Rattle.numbers.proofs.Root.{up-exact, up-next}
-use Rattle.numbers.proofs.root_up.Statement.{statement}
-use Rattle.numbers.proofs.root_up.Tie as tie
+use Rattle.roots.proofs.Root.{up-exact, up-next}
+use Rattle.roots.proofs.root_up.Statement.{statement}
+use Rattle.roots.proofs.root_up.Tie as tie
 
 fourth-power-requires : tie.Need-fourth-power-requires
 fourth-power-requires c κs = search needs

@@ -1,13 +1,13 @@
 -- What holds of the fourth roots, rounded down and up: each is one number, and they are at most one apart. Assumes nothing.
 use mathlib.Core.Path.{_≡_, sym}
 use mathlib.Core.Logic.{_↔_}
-use Prim.Native.Nat.{ℕ, _+_, _-_, _*_, _/_, _^_, _≤_, _<_}
-use native.Mathlib.Nat.{le-of-lt, le-of-eq, lt-of-not-le, lt-of-lt-of-le, le-antisymm, le-trans, le-div-iff-mul-le}
+use Prim.Native.Nat.{ℕ, _+_, _*_, _/_, _^_, _≤_, _<_}
+use native.Mathlib.Nat.{le-of-lt, le-of-eq, lt-of-not-le, le-antisymm, le-trans, le-div-iff-mul-le}
 use native.Mathlib.Omega.{arith}
 use Rattle.laws.specs.Rounding.{ceil}
 use Rattle.laws.proofs.Roots.{powers-ordered, powers-strict}
 use Rattle.laws.proofs.Rounding.{ceil-least}
-use Rattle.numbers.specs.Root.{RootDown, RootUp}
+use Rattle.roots.specs.Root.{RootDown, RootUp}
 
 within-of-fourth : {s t : ℕ} → s ^ 4 ≤ t ^ 4 → s ≤ t
 within-of-fourth {s} {t} = powers-ordered 3 s t .0
@@ -21,32 +21,15 @@ pub down-between : {n s : ℕ} → s ^ 4 ≤ n → n < (s + 1) ^ 4 → RootDown 
 down-between {n} {s} low high =
     record { within = low; greatest = λ t h. let below : t < s + 1 = below-of-fourth (omega arith) in omega arith }
 
--- ---- the root lies in a stretch of so many numbers from `low` on
+-- ---- the fourth power of a number
 
-pub record Stretch (n low width : ℕ) : Type 0 where
-  pub some : 1 ≤ width
-  pub short : low + width ≤ 10001
-  pub from : low ^ 4 ≤ n
-  pub to : n < (low + width) ^ 4
+-- that of 0 is above no number
+pub positive : (n s : ℕ) → n < s ^ 4 → 0 < s
+positive n s h = below-of-fourth {s = 0} (omega arith)
 
--- its upper part, or its lower one
-module _ {n low width half : ℕ} (s : Stretch n low width) (h : 2 * half ≤ width) (less : half < width) where
-  pub upper-part : (low + half) ^ 4 ≤ n → Stretch n (low + half) (width - half)
-  upper-part p =
-      let e : low + half + (width - half) ≡ low + width = omega arith in
-      record { some = omega arith; short = omega (arith, s .short); from = p; to = rw e (s .to) }
-
-  pub lower-part : n < (low + half) ^ 4 → Stretch n low (width - half)
-  lower-part p =
-      record {
-        some = omega arith;
-        short = omega (arith, s .short);
-        from = s .from;
-        to = lt-of-lt-of-le p (powers-ordered 3 (low + half) (low + (width - half)) .1 (omega arith));
-      }
-
-pub down-in-stretch : {n s : ℕ} → Stretch n s 1 → RootDown n s × (s ≤ 10000)
-down-in-stretch h = (down-between (h .from) (h .to), omega (arith, h .short))
+-- and that of a number above k is above that of k
+pub fourth-at-most : {n s : ℕ} (k : ℕ) → n ≤ k ^ 4 → s ^ 4 ≤ n → s ≤ k
+fourth-at-most k h p = within-of-fourth (le-trans p h)
 
 pub below-next : {n s : ℕ} → RootDown n s → n < (s + 1) ^ 4
 below-next {n} {s} p = lt-of-not-le (λ g. omega (arith, p .greatest (s + 1) g))
@@ -55,7 +38,7 @@ pub down-unique : {n s t : ℕ} → RootDown n s → RootDown n t → s ≡ t
 down-unique {n} {s} {t} p q = le-antisymm (q .greatest s (p .within)) (p .greatest t (q .within))
 
 pub down-at-most : {n s : ℕ} (k : ℕ) → n ≤ k ^ 4 → RootDown n s → s ≤ k
-down-at-most k h p = within-of-fourth (le-trans (p .within) h)
+down-at-most k h p = fourth-at-most k h (p .within)
 
 -- ---- rounded up: the root rounded down where that is exact, and else the next number
 

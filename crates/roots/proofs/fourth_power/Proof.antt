@@ -1,10 +1,10 @@
--- `numbers::fourth_power` meets its contract: neither product wraps. Assumes nothing.
+-- `roots::fourth_power` meets its contract: neither product wraps. Assumes nothing.
 use mathlib.Core.List.{[]}
 use native.Mathlib.Nat.{mul-le-mul}
 use native.Mathlib.Omega.{arith}
 use Rattle.laws.proofs.Polynomial.{_:*_, _:^_, _:=_, _⊢_, poly1}
-use Rattle.numbers.proofs.fourth_power.Statement.{statement}
-use Rattle.numbers.proofs.fourth_power.Tie as tie
+use Rattle.roots.proofs.fourth_power.Statement.{statement}
+use Rattle.roots.proofs.fourth_power.Tie as tie
 
 mul-square : tie.Need-mul-square
 mul-square c = omega (arith, mul-le-mul (c .pre) (c .pre))

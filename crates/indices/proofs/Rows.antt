@@ -10,7 +10,7 @@ use Rattle.records.specs.declared.Finding.{Finding}
 use Rattle.records.specs.declared.Trio.{Trio}
 use Rattle.solas.specs.Height.{rowV}
 use Rattle.solas.proofs.Height.{row-at-most}
-use Rattle.survival.specs.Height.{rowVs}
+use Rattle.heights.specs.Height.{rowVs}
 use Rattle.survival.specs.Survival.{ends, factorOf, factorsOf, survivalsOf, nothing}
 use Rattle.indices.specs.Index.{Weights, RowWeights, Given, trio, lost}
 use Rattle.survival.proofs.Bounds.{ends-ordered, ends-at-most}

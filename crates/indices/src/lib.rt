@@ -5,10 +5,10 @@ use records::Finding;
 use records::Survival;
 use records::Trio;
 use survival::finding::survivals;
-use survival::height::row_factors;
+use heights::row_factors;
 ghost use mathlib.Core.Path.{_≡_};
 ghost use Prim.Native.Nat.{_*_, _^_, _≤_};
-ghost use Rattle.survival.specs.Height.{rowVs};
+ghost use Rattle.heights.specs.Height.{rowVs};
 ghost use Rattle.survival.specs.Survival.{survivalsOf};
 ghost use Rattle.indices.specs.Index.{Share, Weights, RowWeights, Given, Small, Within, addsOf, rowAdds, sums, plus, weighed, attainedOf};
 

@@ -41,7 +41,7 @@ pub extern "C" fn probe_top(kind: u64, lever: u64, range: u64, heel: u64, given:
 pub extern "C" fn probe_height(below: u64, height: u64, draught: u64) -> u64
     ensures { λ r. ⌜ r ≡ rowV below height draught ⌝ }
 {
-    survival::height::row_factor(below, height, draught)
+    heights::row_factor(below, height, draught)
 }
 
 // The refusal's number of any bytes whatever, 0 where they are accepted.

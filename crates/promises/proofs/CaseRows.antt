@@ -12,7 +12,7 @@ use Rattle.spans.specs.Hull.{shipOf, Hulled}
 use Rattle.spans.proofs.Places.{ship-sound}
 use Rattle.chances.specs.Promises as chance
 use Rattle.chances.proofs.Row.{shares-enclosed, shares-near}
-use Rattle.survival.specs.Height.{rowVs}
+use Rattle.heights.specs.Height.{rowVs}
 use Rattle.survival.specs.Survival.{Sensible, given, factorsOf, survivalsOf}
 use Rattle.indices.specs.Index.{Given, partials}
 use Rattle.indices.specs.Exact as exact

@@ -21,7 +21,7 @@ use Rattle.solas.proofs.Figure.{over, over-positive}
 use Rattle.solas.proofs.Height.{dp-below-deepest}
 use Rattle.spans.specs.Hull.{shipOf, Hulled}
 use Rattle.spans.proofs.Places.{ship-sound}
-use Rattle.survival.specs.Height.{rowVs}
+use Rattle.heights.specs.Height.{rowVs}
 use Rattle.indices.specs.Exact.{weight, rowAt, AtAll}
 use Rattle.casefile.specs.Record.{Row, Case}
 use Rattle.casefile.specs.Limits.{sizesFit}

@@ -9,7 +9,7 @@ use Rattle.solas.specs.Share.{share, rowShare}
 use Rattle.solas.specs.Count.{Group}
 use Rattle.solas.specs.Index.{draughts}
 use Rattle.spans.specs.Hull.{shipOf}
-use Rattle.survival.specs.Height.{rowVs}
+use Rattle.heights.specs.Height.{rowVs}
 use Rattle.survival.specs.Survival.{factorsOf}
 use Rattle.indices.specs.Exact as exact
 use Rattle.indices.specs.Exact.{RowAt, weight, Thrice, rowsAt}

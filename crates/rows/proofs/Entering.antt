@@ -10,7 +10,7 @@ use Rattle.records.specs.declared.Trio.{Trio}
 use Rattle.solas.specs.Index.{draughts}
 use Rattle.spans.specs.Hull.{Hulled}
 use Rattle.spans.specs.Table.{tableOf}
-use Rattle.survival.specs.Height.{rowVs}
+use Rattle.heights.specs.Height.{rowVs}
 use Rattle.survival.specs.Survival.{survivalsOf}
 use Rattle.indices.specs.Index.{plus, rowAdds, Share, Given, Within}
 use Rattle.indices.proofs.Rows.{row-weights}

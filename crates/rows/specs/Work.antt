@@ -8,7 +8,7 @@ use Rattle.records.specs.declared.Trio.{Trio}
 use Rattle.solas.specs.Index.{draughts}
 use Rattle.spans.specs.Hull.{shipOf}
 use Rattle.chances.specs.Share.{rowEnds}
-use Rattle.survival.specs.Height.{rowVs}
+use Rattle.heights.specs.Height.{rowVs}
 use Rattle.survival.specs.Survival.{survivalsOf}
 use Rattle.indices.specs.Index.{rowAdds}
 use Rattle.casefile.specs.Record.{Row}

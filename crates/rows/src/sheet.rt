@@ -49,7 +49,7 @@ pub fn fill(input: &[u8], from: usize, rows: usize, h: Hull, t: &[u64], sheet: &
     requires { ⌜ Ready h (now t) × ((h .deepest < 2 ^ 32) × (h .light < 2 ^ 32)) × (rows ≤ 500) × (2 * rows ≤ length (now sheet)) × Follow h nowhere (rowsFrom rows (now input) from) ⌝ }
     ensures { λ r. ⌜ (r ≡ partials (addsFrom h nowhere (rowsFrom rows (now (input .entry)) from))) × Within (500 * 10 ^ 9) r × (now (sheet .exit) ≡ numbers (sharesFrom h nowhere (rowsFrom rows (now (input .entry)) from)) ++ drop (2 * rows) (now (sheet .entry))) ⌝ }
 {
-    let at = survival::height::three_draughts(h.deepest, h.light);
+    let at = heights::three_draughts(h.deepest, h.light);
     let mut s = begin();
     let mut place = from;
     let mut i: usize = 0;

@@ -1,4 +1,4 @@
--- Survivals and heights that refuse a slip in this crate at once; document 01's own table is crates/promises/specs/Values.antt. Assumes nothing.
+-- Survivals that refuse a slip in this crate at once; document 01's own table is crates/promises/specs/Values.antt. Assumes nothing.
 use Prim.Native.Nat.{ℕ, _*_, _^_}
 use mathlib.Core.Path.{_≡_, refl}
 use Rattle.laws.specs.Fraction.{_less_over_, _⊛_}
@@ -6,7 +6,6 @@ use Rattle.laws.specs.Rounding.{ceil}
 use Rattle.roots.specs.Root.{withDigits, rootDown, rootUp}
 use Rattle.records.specs.declared.Finding.{Finding}
 use Rattle.records.specs.declared.Survival.{Survival}
-use Rattle.solas.specs.Height.{v, vAt}
 use Rattle.solas.specs.Survival.{k, s⁴}
 use Rattle.survival.specs.Ratio.{ratioOf}
 use Rattle.survival.specs.Survival.{factorOf, scaledOf, roundedOf, survivalOf}
@@ -20,7 +19,6 @@ given s = record { lever = 0; range = 0; heel = 0; given = s }
 abbrev s : ℕ → ℕ → Survival
 s bottom top = record { bottom = bottom; top = top }
 
--- ---- survival
 pub survivals :
     (survivalOf 2 (found 30 400 0) ≡ s 5000 5000)
     × (survivalOf 2 (found 60 800 0) ≡ s 7071 7072)
@@ -35,8 +33,3 @@ survivals = (refl, refl, refl, refl, refl, refl)
 pub apart : roundedOf (record { num = 3; den = 2 * 10 ^ 16 }) ≡ s 1 2
 unfolding scaledOf roundedOf rootDown rootUp withDigits ceil
 apart = refl
-
--- ---- heights
-pub heights : (v 7800 ≡ 733200) × (v 7801 ≡ 733239) × (vAt 13801 6000 ≡ 733239)
-unfolding v vAt
-heights = (refl, refl, refl)

@@ -1,3 +1,2 @@
-pub mod Height
 pub mod Ratio
 pub mod Survival

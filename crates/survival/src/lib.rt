@@ -1,5 +1,4 @@
-// Height and survival in proved code: v of a row at the draughts, and the survival of a result.
-pub mod height; // v of a row, and the three draughts
+// Survival in proved code: s⁴ of a result as one fraction, and its fourth root rounded both ways.
 pub mod finding; // the survival of a result, rounded both ways
 
 // A fraction from 0 to 1, as a numerator and a denominator.

@@ -1,9 +1,9 @@
--- `survival::height::row_factor` meets its contract. Assumes nothing.
+-- `heights::row_factor` meets its contract. Assumes nothing.
 use borrow.Author.Needs.{needs}
 use native.Mathlib.Omega.{arith}
 use Rattle.solas.specs.Height.{rowV}
-use Rattle.survival.proofs.height.row_factor.Statement.{statement}
-use Rattle.survival.proofs.height.row_factor.Tie as tie
+use Rattle.heights.proofs.row_factor.Statement.{statement}
+use Rattle.heights.proofs.row_factor.Tie as tie
 
 factor-at-requires : tie.Need-factor-at-requires
 factor-at-requires c κs = search needs

@@ -1,10 +1,10 @@
-// Heights: the factor v of a row at each of the three draughts, in 916,500ths, and the draughts themselves.
+// Heights in code: the factor v of a row at each of the three draughts, in 916,500ths, and the draughts themselves.
 use numbers::above;
 ghost use mathlib.Core.Path.{_≡_};
 ghost use Prim.Native.Nat.{_^_, _<_};
 ghost use Rattle.solas.specs.Height.{v, vAt, rowV};
 ghost use Rattle.solas.specs.Index.{dp, draughts};
-ghost use Rattle.survival.specs.Height.{rowVs};
+ghost use Rattle.heights.specs.Height.{rowVs};
 
 // v of a height h above the draught.
 fn factor(h: u64) -> u64

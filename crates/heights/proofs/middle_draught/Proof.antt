@@ -1,9 +1,9 @@
--- `survival::height::middle_draught` meets its contract. Assumes nothing.
+-- `heights::middle_draught` meets its contract. Assumes nothing.
 use borrow.Author.Needs.{needs}
 use native.Mathlib.Omega.{arith}
 use Rattle.solas.specs.Index.{dp}
-use Rattle.survival.proofs.height.middle_draught.Statement.{statement}
-use Rattle.survival.proofs.height.middle_draught.Tie as tie
+use Rattle.heights.proofs.middle_draught.Statement.{statement}
+use Rattle.heights.proofs.middle_draught.Tie as tie
 
 above-requires : tie.Need-above-requires
 above-requires c κs = search needs

@@ -1,9 +1,9 @@
--- `survival::height::factor_at` meets its contract. Assumes nothing.
+-- `heights::factor_at` meets its contract. Assumes nothing.
 use borrow.Author.Needs.{needs}
 use mathlib.Core.Path.{_∙_, ap}
 use Rattle.solas.specs.Height.{v, vAt}
-use Rattle.survival.proofs.height.factor_at.Statement.{statement}
-use Rattle.survival.proofs.height.factor_at.Tie as tie
+use Rattle.heights.proofs.factor_at.Statement.{statement}
+use Rattle.heights.proofs.factor_at.Tie as tie
 
 above-requires : tie.Need-above-requires
 above-requires c κs = search needs

@@ -1,9 +1,9 @@
--- `survival::height::factor` meets its contract: each of the three slopes is v's. Assumes nothing.
+-- `heights::factor` meets its contract: each of the three slopes is v's. Assumes nothing.
 use borrow.Author.Needs.{needs}
 use native.Mathlib.Omega.{arith}
 use Rattle.solas.proofs.Height.{v-slopes}
-use Rattle.survival.proofs.height.factor.Statement.{statement}
-use Rattle.survival.proofs.height.factor.Tie as tie
+use Rattle.heights.proofs.factor.Statement.{statement}
+use Rattle.heights.proofs.factor.Tie as tie
 
 mul-result : tie.Need-mul-result
 mul-result c = search needs

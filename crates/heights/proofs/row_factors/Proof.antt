@@ -1,9 +1,9 @@
--- `survival::height::row_factors` meets its contract, draught by draught. Assumes nothing.
+-- `heights::row_factors` meets its contract, draught by draught. Assumes nothing.
 use borrow.Author.Needs.{needs}
 use Rattle.laws.proofs.Lists.{three-same}
-use Rattle.survival.specs.Height.{rowVs}
-use Rattle.survival.proofs.height.row_factors.Statement.{statement}
-use Rattle.survival.proofs.height.row_factors.Tie as tie
+use Rattle.heights.specs.Height.{rowVs}
+use Rattle.heights.proofs.row_factors.Statement.{statement}
+use Rattle.heights.proofs.row_factors.Tie as tie
 
 array-read-row-factor : tie.Need-array-read-row-factor
 array-read-row-factor c = search needs

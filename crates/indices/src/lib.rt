@@ -1,11 +1,11 @@
 // The indices: what a row adds at the three draughts, the partial indices as sums of that, and the attained index.
+use heights::row_factors;
 use numbers::ceiling;
 use records::Ends;
 use records::Finding;
 use records::Survival;
 use records::Trio;
 use survival::finding::survivals;
-use heights::row_factors;
 ghost use mathlib.Core.Path.{_≡_};
 ghost use Prim.Native.Nat.{_*_, _^_, _≤_};
 ghost use Rattle.heights.specs.Height.{rowVs};

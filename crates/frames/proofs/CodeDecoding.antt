@@ -1,136 +1,79 @@
--- What the loop over a line's pairs of digits keeps: the bytes of the pairs that are left go on behind those that are stored. Assumes nothing.
-use Prim.Native.Nat.{ℕ, zero, suc, _+_, _-_, _*_, _/_, _≤_, _<_}
+-- What the loop over a line's pairs of digits keeps, and what a caller has of the answer and of the buffer. Assumes nothing.
+use Prim.Native.Nat.{ℕ, zero, suc, _+_, _*_, _/_, _%_, _≤_, _<_}
 use mathlib.Core.Path.{_≡_, refl, sym, _∙_, ap}
-use mathlib.Core.Bool.{Bool, true, false, cond, _&&_}
-use mathlib.Core.List.{List, [], _∷_}
-use mathlib.Core.Logic.{_⊎_, inl, inr}
+use mathlib.Core.Bool.{Bool, true, false, cond, not, _&&_, _||_, or-false, or-assoc}
+use mathlib.Core.List.{List, [], _∷_, _++_}
 use native.Mathlib.Numerals.{add-one}
 use native.Mathlib.Omega.{arith}
-use lib.Dec.{leb, ltb}
-use lib.ListN.{length, getD, take, drop, set, replicate, length-set, getD-replicate}
-use lib.Seq.{sets, sets-eq, take-at}
-use borrow.Author.Tests.{leb-true, ltb-true, ltb-false, lt-ltb, le-leb, lt-leb, eq-eqb, ne-eqb}
-use Rattle.laws.proofs.Tests.{both, one-fails}
-use Rattle.frames.specs.declared.Digit.{Digit}
-use Rattle.frames.specs.declared.Digit.the-variants.{Value, Bad}
+use lib.Dec.{eqb}
+use lib.ListN.{length, getD, take, drop, set, replicate, getD-replicate, drop-of-length-le}
+use lib.Seq.{sets, sets-eq, length-sets, take-at, take-suc, length-take-le, drop-cons}
+use Rattle.laws.proofs.Lists.{sets-append}
 use Rattle.frames.specs.declared.Written.the-variants.{Bytes, Badly}
-use Rattle.frames.specs.Hex.{digitOf, markOf, joined, pairOf, pairs, proper}
+use Rattle.frames.specs.Hex.{digitOf, refusalOf, markOf, pairs, byteOf, bytesOf, digitsOnly, proper}
 use Rattle.frames.specs.Decoding.{writtenOf}
-use Rattle.frames.proofs.Hex.{digit-below}
-use Rattle.frames.proofs.Pairs.{length-pairs, pairs-some}
-use Rattle.frames.proofs.Decode.{pairs-go-on, proper-by-count}
-
--- ---- a byte by its value as a digit
-
--- a byte that a range has, or lies below or above
-module _ (low high b v : ℕ) where
-  pub in-range : low ≤ b → b ≤ high → v ≡ cond (leb low b && leb b high) v 16
-  in-range h k = rw (le-leb low b h, le-leb b high k) refl
-
-  pub below-range : b < low → 16 ≡ cond (leb low b && leb b high) v 16
-  below-range h = rw (lt-leb low b h) refl
-
-  pub above-range : low ≤ b → high < b → 16 ≡ cond (leb low b && leb b high) v 16
-  above-range h k = rw (le-leb low b h, lt-leb b high k) refl
-
-module _ (b : ℕ) {d l : ℕ} (e : d ≡ cond (leb 48 b && leb b 57) (b - 48) 16) (f : l ≡ cond (leb 97 b && leb b 102) (b - 87) 16) where
-  by-tests : (s t : Bool) → (leb 48 b && leb b 57) ≡ s → (leb 97 b && leb b 102) ≡ t → (d < 16 → d ≡ markOf (digitOf b)) × (16 ≤ d → l ≡ markOf (digitOf b))
-  unfolding digitOf
-  by-tests true t p q =
-      let (x, y) = both (leb 48 b) (leb b 57) p in
-      let g : d ≡ b - 48 = rw p at e in
-      (λ _. rw p g, λ h. absurd (omega (arith, g, h, leb-true b 57 y)))
-  by-tests false true p q =
-      let g : d ≡ 16 = rw p at e in
-      let k : l ≡ b - 87 = rw q at f in
-      (λ h. absurd (omega (arith, g, h)), λ _. rw (p, q) k)
-  by-tests false false p q =
-      let g : d ≡ 16 = rw p at e in
-      let k : l ≡ 16 = rw q at f in
-      (λ h. absurd (omega (arith, g, h)), λ _. rw (p, q) k)
-
-  pub mark-decimal : d < 16 → d ≡ markOf (digitOf b)
-  mark-decimal = by-tests (leb 48 b && leb b 57) (leb 97 b && leb b 102) refl refl .0
-
-  pub mark-letter : 16 ≤ d → l ≡ markOf (digitOf b)
-  mark-letter = by-tests (leb 48 b && leb b 57) (leb 97 b && leb b 102) refl refl .1
-
--- ---- a pair by its digits' values
-
-marked-pair : (d e : Digit) → markOf d < 16 → markOf e < 16 → Value (markOf d * 16 + markOf e) ≡ joined d e
-marked-pair (Value h) (Value l) p q = refl
-marked-pair (Value h) Bad p q = absurd (omega (arith, q))
-marked-pair Bad e p q = absurd (omega (arith, p))
-
-marked-none : (d e : Digit) → ((v : ℕ) → d ≡ Value v → v < 16) → ((v : ℕ) → e ≡ Value v → v < 16) → (ltb (markOf d) 16 && ltb (markOf e) 16) ≡ false → Bad ≡ joined d e
-marked-none (Value h) (Value l) p q t = absurd (one-way (one-fails (ltb h 16) (ltb l 16) t))
-  where
-    one-way : ((ltb h 16 ≡ false) ⊎ (ltb l 16 ≡ false)) → ⊥
-    one-way (inl f) = omega (arith, ltb-false h 16 f, p h refl)
-    one-way (inr f) = omega (arith, ltb-false l 16 f, q l refl)
-marked-none (Value h) Bad p q t = refl
-marked-none Bad e p q t = refl
-
-module _ (a b h l : ℕ) (e : h ≡ markOf (digitOf a)) (f : l ≡ markOf (digitOf b)) where
-  pub pair-value : (ltb h 16 && ltb l 16) ≡ true → Value (h * 16 + l) ≡ pairOf a b
-  unfolding pairOf
-  pair-value t =
-      let (p, q) = both (ltb h 16) (ltb l 16) t in
-      rw (e, f) (marked-pair (digitOf a) (digitOf b) (rw e at (ltb-true h 16 p)) (rw f at (ltb-true l 16 q)))
-
-  pub pair-none : (ltb h 16 && ltb l 16) ≡ false → Bad ≡ pairOf a b
-  unfolding pairOf
-  pair-none t = marked-none (digitOf a) (digitOf b) (digit-below a) (digit-below b) (rw (e, f) at t)
-
-pub both-small : (h l : ℕ) → (ltb h 16 && ltb l 16) ≡ true → (h < 16) × (l < 16)
-both-small h l t = let (p, q) = both (ltb h 16) (ltb l 16) t in (ltb-true h 16 p, ltb-true l 16 q)
-
-pub too-few : (text : List ℕ) → length text < 2 → Badly ≡ writtenOf text
-unfolding writtenOf proper
-too-few [] h = refl
-too-few (a ∷ []) h = refl
-too-few (a ∷ b ∷ text) h = absurd (omega arith)
+use Rattle.frames.proofs.Marks.{mark-tells, mark-counts}
+use Rattle.frames.proofs.Pairs.{proper-parts, length-pairs, pairs-some}
+use Rattle.frames.proofs.Decode.{length-bytesOf, byte-there, bytes-pairs, digits-taken, proper-by-parts}
 
 -- ---- i pairs are read, and their bytes stand at the front of out, which came as was
 
-pub record Decoding (text was out : List ℕ) (i : ℕ) : Type 0 where
-  pub long : length out ≡ length was
-  pub count : length (pairs text) ≡ i + length (pairs (drop (i * 2) text))
-  pub same : sets was 0 (pairs text) ≡ sets out i (pairs (drop (i * 2) text))
+not-both : (a b : Bool) → (not a || not b) ≡ not (a && b)
+not-both true b = refl
+not-both false b = refl
 
-pub none-read : (text was : List ℕ) → Decoding text was was 0
-none-read text was = record { long = refl; count = omega arith; same = refl }
+-- a digit more that may be none
+pub other-taken : (s : List ℕ) (k m : ℕ) → k < length s → m ≡ markOf (digitOf (getD s k 0)) → (not (digitsOnly (take k s)) || eqb m 16) ≡ not (digitsOnly (take (suc k) s))
+other-taken s k m h e = rw (mark-tells (getD s k 0) m e, digits-taken s k h) (not-both (digitsOnly (take k s)) (eqb (refusalOf (digitOf (getD s k 0))) 0))
 
-module _ (text was out : List ℕ) (i : ℕ) (p : Decoding text was out i) where
-  pub pair-read : (b : ℕ) → i * 2 + 2 ≤ length text → pairOf (getD text (i * 2) 0) (getD text (i * 2 + 1) 0) ≡ Value b → Decoding text was (set out i b) (i + 1)
-  pair-read b h e =
-      let k : (i + 1) * 2 ≡ i * 2 + 2 = omega arith in
-      let next = pairs-go-on text (i * 2) h b e in
+-- the digits from a place on, where `bad` tells of those before it
+module _ (bad : Bool) (s : List ℕ) (k : ℕ) where
+  pub other-next : (m : ℕ) → k < length s → m ≡ markOf (digitOf (getD s k 0)) → (bad || eqb m 16 || not (digitsOnly (drop (k + 1) s))) ≡ (bad || not (digitsOnly (drop k s)))
+  unfolding digitsOnly
+  other-next m h e =
+      or-assoc bad (eqb m 16) (not (digitsOnly (drop (k + 1) s)))
+      ∙ ap (bad ||_) (rw (mark-tells (getD s k 0) m e, add-one, drop-cons s k 0 h) (not-both (eqb (refusalOf (digitOf (getD s k 0))) 0) (digitsOnly (drop (suc k) s))))
+
+  pub other-ended : length s ≤ k → (bad || not (digitsOnly (drop k s))) ≡ bad
+  unfolding digitsOnly
+  other-ended h = rw (drop-of-length-le s h) (or-false bad)
+
+pub record Decoding (text was out : List ℕ) (bad : Bool) (i : ℕ) : Type 0 where
+  pub other : bad ≡ not (digitsOnly (take (i * 2) text))
+  pub front : out ≡ sets was 0 (take i (bytesOf text))
+
+pub none-read : (text was : List ℕ) → Decoding text was was false 0
+unfolding digitsOnly
+none-read text was = record { other = refl; front = refl }
+
+module _ (text was out : List ℕ) (bad : Bool) (i : ℕ) (p : Decoding text was out bad i) where
+  pub as-long : length out ≡ length was
+  as-long = ap length (p .front) ∙ length-sets was 0 (take i (bytesOf text))
+
+  pub pair-read : (h l : ℕ) → i * 2 + 2 ≤ length text → h ≡ markOf (digitOf (getD text (i * 2) 0)) → l ≡ markOf (digitOf (getD text (i * 2 + 1) 0)) →
+      Decoding text was (set out i (h % 16 * 16 + l % 16)) (bad || eqb h 16 || eqb l 16) (i + 1)
+  unfolding byteOf
+  pair-read h l r e f =
+      let two : (i + 1) * 2 ≡ suc (suc (i * 2)) = omega arith in
+      let one : i * 2 + 1 ≡ suc (i * 2) = omega arith in
+      let there : i < length (bytesOf text) = omega (arith, length-bytesOf text) in
+      let byte : h % 16 * 16 + l % 16 ≡ getD (bytesOf text) i 0 = rw (mark-counts (getD text (i * 2) 0) h e, mark-counts (getD text (i * 2 + 1) 0) l f) (sym (byte-there text i r)) in
+      let next : take (i + 1) (bytesOf text) ≡ take i (bytesOf text) ++ (getD (bytesOf text) i 0 ∷ []) = rw add-one (take-suc (bytesOf text) i 0 there) in
+      let long : 0 + length (take i (bytesOf text)) ≡ i = omega (arith, length-take-le i (bytesOf text) (omega arith)) in
       record {
-        long = length-set out i b ∙ p .long;
-        count = rw k (omega (arith, p .count, ap length next));
-        same = p .same ∙ rw (k, add-one, next) refl;
+        other = rw (p .other, other-taken text (i * 2) h (omega arith) e, two) (other-taken text (suc (i * 2)) l (omega arith) (rw one at f));
+        front = rw (byte, p .front, next, sets-append was 0 (take i (bytesOf text)) (getD (bytesOf text) i 0 ∷ []), long) refl;
       }
 
-  -- no pair is left
-  module _ (e : pairs (drop (i * 2) text) ≡ []) where
-    all-counted : length (pairs text) ≡ i
-    all-counted = omega (arith, p .count, ap length e)
+-- the answer by the four tests
+module _ (text : List ℕ) (k : ℕ) {f r : Bool} (front : f ≡ not (digitsOnly (take k text))) (rest : r ≡ not (digitsOnly (drop k text))) where
+  pub told-badly : (f || r || eqb (length text % 2) 1 || eqb (length text / 2) 0) ≡ true → Badly ≡ writtenOf text
+  unfolding writtenOf
+  told-badly t = rw (proper-by-parts text k, rw (front, rest) at t) refl
 
-    pub stored : out ≡ sets was 0 (pairs text)
-    stored = sym (p .same ∙ rw e refl)
-
-    pub not-all : (i * 2 ≡ length text → ⊥) → Badly ≡ writtenOf text
-    unfolding writtenOf
-    not-all f = rw (proper-by-count text, all-counted, ne-eqb (i * 2) (length text) f) (neither (ltb 0 (length text)))
-      where
-        neither : (t : _) → Badly ≡ cond (t && false) (Bytes (length text / 2)) Badly
-        neither true = refl
-        neither false = refl
-
-    pub all : i * 2 ≡ length text → 0 < i → Bytes (length text / 2) ≡ writtenOf text
-    unfolding writtenOf
-    all f h = rw (proper-by-count text, all-counted, eq-eqb (i * 2) (length text) f, lt-ltb 0 (length text) (omega arith)) refl
+  pub told-bytes : (f || r || eqb (length text % 2) 1 || eqb (length text / 2) 0) ≡ false → Bytes (length text / 2) ≡ writtenOf text
+  unfolding writtenOf
+  told-bytes t = rw (proper-by-parts text k, rw (front, rest) at t) refl
 
 -- ---- what a caller has of the answer and of the buffer
 
@@ -151,12 +94,16 @@ module _ (text : List ℕ) where
   unfolding writtenOf
   badly-written e = badly-case (proper text) e
 
+-- what is well written is stored pair by pair
+pub stored : (text was : List ℕ) {out : List ℕ} (n : ℕ) → writtenOf text ≡ Bytes n → out ≡ sets was 0 (bytesOf text) → out ≡ sets was 0 (pairs text)
+stored text was n w e = e ∙ ap (sets was 0) (bytes-pairs text (proper-parts text (well-written text n w .0) .2))
+
 -- a buffer that is long enough has the bytes at its front
-module _ (text was out : List ℕ) (n : ℕ) (w : writtenOf text ≡ Bytes n) (e : out ≡ sets was 0 (pairs text)) (h : n ≤ length was) where
+module _ (text was out : List ℕ) (n : ℕ) (w : writtenOf text ≡ Bytes n) (e : out ≡ sets was 0 (bytesOf text)) (h : n ≤ length was) where
   pub front-decoded : take n out ≡ pairs text
   front-decoded =
       let count : n ≡ length (pairs text) = well-written text n w .1 in
-      rw (e, sets-eq (pairs text) was 0 (omega arith)) (take-at (pairs text) (drop (0 + length (pairs text)) was) n (sym count))
+      rw (stored text was n w e, sets-eq (pairs text) was 0 (omega arith)) (take-at (pairs text) (drop (0 + length (pairs text)) was) n (sym count))
 
   pub front-long : n ≡ length (take n out)
   front-long = well-written text n w .1 ∙ sym (ap length front-decoded)

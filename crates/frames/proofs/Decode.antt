@@ -1,114 +1,109 @@
--- Decoding pair by pair: the next pair of a line from a place on, the first of its bytes, and a proper line by the count of its bytes. Assumes nothing.
-use Prim.Native.Nat.{ℕ, zero, suc, _+_, _*_, _%_, _≤_, _<_}
-use mathlib.Core.Path.{_≡_, refl, ap}
-use mathlib.Core.Bool.{true, _&&_}
+-- A line's bytes two by two, how far its digits go, and when it is well written. Assumes nothing.
+use Prim.Native.Nat.{ℕ, zero, suc, _+_, _*_, _/_, _%_, _≤_, _<_, min}
+use mathlib.Core.Path.{_≡_, refl, sym, _∙_, ap}
+use mathlib.Core.Bool.{Bool, true, not, _&&_, _||_, and-assoc, and-true}
 use mathlib.Core.List.{List, [], _∷_}
-use native.Mathlib.Nat.{suc-mul}
-use native.Mathlib.Numerals.{add-one, add-two}
+use native.Mathlib.Nat.{min-eq-left, min-eq-right, le-of-lt}
 use native.Mathlib.Omega.{arith}
-use lib.Dec.{ltb, eqb}
-use lib.ListN.{length, getD, take, drop, length-drop}
-use lib.Seq.{drop-cons, drop-nil}
-use borrow.Author.Tests.{lt-ltb, eq-eqb, eqb-true}
-use Rattle.laws.proofs.Tests.{both, same-test}
-use Rattle.frames.specs.declared.Digit.{Digit}
-use Rattle.frames.specs.declared.Digit.the-variants.{Value, Bad}
-use Rattle.frames.specs.Hex.{digitOf, pairOf, before, pairs, digitsOnly, proper}
-use Rattle.frames.proofs.Hex.{pair-parts}
-use Rattle.frames.proofs.Pairs.{first-pair, length-pairs, proper-parts}
+use lib.Dec.{eqb}
+use lib.ListN.{length, getD, take, drop, set, length-set}
+use lib.Seq.{sets, set-out, take-all, take-nil}
+use borrow.Author.Tests.{lt-ltb, eq-eqb, ne-eqb, eqb-false, not-true, not-false}
+use Rattle.laws.proofs.Tests.{both, neither, same-test}
+use Rattle.laws.proofs.Choice.{split}
+use Rattle.frames.specs.Hex.{digitOf, refusalOf, byteOf, bytesOf, pairs, digitsOnly, proper}
+use Rattle.frames.proofs.Hex.{byte-of-pair}
+use Rattle.frames.proofs.Pairs.{first-pair, proper-parts}
 
--- ---- from a place of the line on
+-- ---- the bytes
 
-module _ (s : List ℕ) (j : ℕ) where
-  two-more : j + 2 ≤ length s → drop j s ≡ getD s j 0 ∷ getD s (j + 1) 0 ∷ drop (j + 2) s
-  two-more h = rw (add-one, add-two, drop-cons s j 0 (omega arith), drop-cons s (suc j) 0 (omega arith)) refl
+pub length-bytesOf : (s : List ℕ) → length (bytesOf s) ≡ length s / 2
+unfolding bytesOf
+length-bytesOf [] = refl
+length-bytesOf (a ∷ []) = refl
+length-bytesOf (a ∷ b ∷ s) = omega (arith, length-bytesOf s)
 
-  pub pairs-go-on : j + 2 ≤ length s → (x : ℕ) → pairOf (getD s j 0) (getD s (j + 1) 0) ≡ Value x → pairs (drop j s) ≡ x ∷ pairs (drop (j + 2) s)
-  unfolding pairs
-  pairs-go-on h x e = rw (two-more h, e) refl
+-- the byte at a place is that of its two
+pub byte-there : (s : List ℕ) (i : ℕ) → i * 2 + 2 ≤ length s → getD (bytesOf s) i 0 ≡ byteOf (getD s (i * 2) 0) (getD s (i * 2 + 1) 0)
+unfolding bytesOf
+byte-there [] i h = absurd (omega arith)
+byte-there (a ∷ []) i h = absurd (omega arith)
+byte-there (a ∷ b ∷ s) zero h = refl
+byte-there (a ∷ b ∷ s) (suc i) h =
+    let k : suc i * 2 ≡ suc (suc (i * 2)) = omega arith in
+    let q : suc (suc (i * 2)) + 1 ≡ suc (suc (i * 2 + 1)) = omega arith in
+    rw (k, q) (byte-there s i (omega arith))
 
-  pub pairs-stop : j + 2 ≤ length s → pairOf (getD s j 0) (getD s (j + 1) 0) ≡ Bad → pairs (drop j s) ≡ []
-  unfolding pairs
-  pairs-stop h e = rw (two-more h, e) refl
-
-pairs-of-few : (s : List ℕ) → length s < 2 → pairs s ≡ []
-unfolding pairs
-pairs-of-few [] h = refl
-pairs-of-few (a ∷ []) h = refl
-pairs-of-few (a ∷ b ∷ s) h = absurd (omega arith)
-
-pub pairs-end : (s : List ℕ) (j : ℕ) → length s < j + 2 → pairs (drop j s) ≡ []
-pairs-end s j h = pairs-of-few (drop j s) (omega (arith, length-drop j s))
-
--- ---- the first bytes need the first digits alone
-
-front-taken : (d : Digit) (k : ℕ) (bs cs : List ℕ) → bs ≡ take k cs → before d bs ≡ take (suc k) (before d cs)
-front-taken (Value x) k bs cs e = ap (x ∷_) e
-front-taken Bad k bs cs e = refl
-
-pub pairs-take : (k : ℕ) (s : List ℕ) → pairs (take (k * 2) s) ≡ take k (pairs s)
-unfolding pairs
-pairs-take zero s = refl
-pairs-take (suc k) [] = rw (suc-mul k 2, add-two) refl
-pairs-take (suc k) (a ∷ []) = rw (suc-mul k 2, add-two) refl
-pairs-take (suc k) (a ∷ b ∷ s) = rw (suc-mul k 2, add-two) (front-taken (pairOf a b) k (pairs (take (k * 2) s)) (pairs s) (pairs-take k s))
-
--- ---- a line is proper where it has some bytes, and all its digits are theirs
-
--- a byte in front is written by two digits
-both-digits : (a b x : ℕ) (s : List ℕ) → pairOf a b ≡ Value x → digitsOnly s ≡ true → digitsOnly (a ∷ b ∷ s) ≡ true
-unfolding pairOf digitsOnly
-both-digits a b x s e r =
-    let (h, l, p, q, k) = pair-parts (digitOf a) (digitOf b) x e in
-    rw (p, q, r) refl
-
-module _ (a b : ℕ) (s : List ℕ) (rest : length (pairs s) * 2 ≡ length s → digitsOnly s ≡ true) where
-  counted-pair : (d : Digit) → pairOf a b ≡ d → length (before d (pairs s)) * 2 ≡ suc (suc (length s)) → digitsOnly (a ∷ b ∷ s) ≡ true
-  counted-pair (Value x) e k = both-digits a b x s e (rest (omega arith))
-  counted-pair Bad e k = absurd (omega arith)
-
-all-counted : (s : List ℕ) → length (pairs s) * 2 ≡ length s → digitsOnly s ≡ true
-unfolding pairs
-all-counted [] k = unfold digitsOnly in refl
-all-counted (a ∷ []) k = absurd (omega arith)
-all-counted (a ∷ b ∷ s) k = counted-pair a b s (all-counted s) (pairOf a b) refl k
-
-pub proper-by-count : (s : List ℕ) → proper s ≡ (ltb 0 (length s) && eqb (length (pairs s) * 2) (length s))
-unfolding proper
-proper-by-count s =
-    same-test (proper s) (ltb 0 (length s) && eqb (length (pairs s) * 2) (length s))
-    (λ e. rw (lt-ltb 0 (length s) (proper-parts s e .0), eq-eqb (length (pairs s) * 2) (length s) (length-pairs s e)) refl)
-    (λ e. backwards (both (ltb 0 (length s)) (eqb (length (pairs s) * 2) (length s)) e))
-  where
-    backwards : (ltb 0 (length s) ≡ true) × (eqb (length (pairs s) * 2) (length s) ≡ true) → proper s ≡ true
-    backwards (n, c) =
-        let k : length (pairs s) * 2 ≡ length s = eqb-true (length (pairs s) * 2) (length s) c in
-        rw (n, eq-eqb (length s % 2) 0 (omega arith), all-counted s k) refl
-
--- ---- a proper line's bytes from a place on
-
-pub pairs-drop : (i : ℕ) (s : List ℕ) → digitsOnly s ≡ true → pairs (drop (i * 2) s) ≡ drop i (pairs s)
-unfolding pairs
-pairs-drop zero s e = refl
-pairs-drop (suc i) [] e = rw (suc-mul i 2, add-two) refl
-pairs-drop (suc i) (a ∷ []) e = rw (suc-mul i 2, add-two, drop-nil (suc (i * 2))) refl
-pairs-drop (suc i) (a ∷ b ∷ s) e =
+-- of digits alone they are those of its pairs
+pub bytes-pairs : (s : List ℕ) → digitsOnly s ≡ true → bytesOf s ≡ pairs s
+unfolding bytesOf pairs
+bytes-pairs [] e = refl
+bytes-pairs (a ∷ []) e = refl
+bytes-pairs (a ∷ b ∷ s) e =
     let (x, p, r) = first-pair a b s e in
-    rw (suc-mul i 2, add-two, p) (pairs-drop i s r)
+    rw (p, byte-of-pair a b x p, bytes-pairs s r) refl
 
--- the byte at a place is that of its two digits
-pub pair-at : (s : List ℕ) (i : ℕ) → i < length (pairs s) → pairOf (getD s (i * 2) 0) (getD s (i * 2 + 1) 0) ≡ Value (getD (pairs s) i 0)
-unfolding pairs
-pair-at [] i h = absurd (omega arith)
-pair-at (a ∷ []) i h = absurd (omega arith)
-pair-at (a ∷ b ∷ s) i h = by (pairOf a b) refl i h (pair-at s)
-  where
-    by : (d : Digit) → pairOf a b ≡ d → (i : ℕ) → i < length (before d (pairs s)) →
-        ((j : ℕ) → j < length (pairs s) → pairOf (getD s (j * 2) 0) (getD s (j * 2 + 1) 0) ≡ Value (getD (pairs s) j 0)) →
-        pairOf (getD (a ∷ b ∷ s) (i * 2) 0) (getD (a ∷ b ∷ s) (i * 2 + 1) 0) ≡ Value (getD (before d (pairs s)) i 0)
-    by Bad e i h ih = absurd (omega arith)
-    by (Value x) e zero h ih = e
-    by (Value x) e (suc i) h ih =
-        let k : suc i * 2 ≡ suc (suc (i * 2)) = omega arith in
-        let q : suc (suc (i * 2)) + 1 ≡ suc (suc (i * 2 + 1)) = omega arith in
-        rw (k, q) (ih i (omega arith))
+-- a store past the end changes nothing, so that as many bytes as go in are enough
+sets-out : (l : List ℕ) (i : ℕ) (vs : List ℕ) → length l ≤ i → sets l i vs ≡ l
+sets-out l i [] h = refl
+sets-out l i (v ∷ vs) h = rw (set-out l i v h) (sets-out l (suc i) vs (omega arith))
+
+sets-cut : (l : List ℕ) (i k : ℕ) (vs : List ℕ) → length l ≤ i + k → sets l i (take k vs) ≡ sets l i vs
+sets-cut l i k [] h = rw (take-nil k) refl
+sets-cut l i zero (v ∷ vs) h = sym (sets-out l i (v ∷ vs) (omega arith))
+sets-cut l i (suc k) (v ∷ vs) h = sets-cut (set l i v) (suc i) k vs (omega (arith, length-set l i v))
+
+pub all-that-go-in : (text was : List ℕ) (m : ℕ) → m ≡ min (length text / 2) (length was) → sets was 0 (take m (bytesOf text)) ≡ sets was 0 (bytesOf text)
+all-that-go-in text was m e =
+    split (length text / 2) (length was)
+    (λ h. ap (sets was 0) (take-all m (bytesOf text) (omega (arith, e, min-eq-left h, length-bytesOf text))))
+    (λ h. sets-cut was 0 m (bytesOf text) (omega (arith, e, min-eq-right (le-of-lt h))))
+
+-- ---- the digits
+
+abbrev isDigit : ℕ → Bool
+isDigit b = eqb (refusalOf (digitOf b)) 0
+
+-- one byte more
+pub digits-taken : (s : List ℕ) (k : ℕ) → k < length s → digitsOnly (take (suc k) s) ≡ (digitsOnly (take k s) && isDigit (getD s k 0))
+unfolding digitsOnly
+digits-taken [] k h = absurd (omega arith)
+digits-taken (b ∷ s) zero h = and-true (isDigit b)
+digits-taken (b ∷ s) (suc k) h = ap (isDigit b &&_) (digits-taken s k (omega arith)) ∙ sym (and-assoc (isDigit b) (digitsOnly (take k s)) (isDigit (getD s k 0)))
+
+pub digits-in-two : (k : ℕ) (s : List ℕ) → digitsOnly s ≡ (digitsOnly (take k s) && digitsOnly (drop k s))
+unfolding digitsOnly
+digits-in-two zero s = refl
+digits-in-two (suc k) [] = refl
+digits-in-two (suc k) (b ∷ s) = ap (isDigit b &&_) (digits-in-two k s) ∙ sym (and-assoc (isDigit b) (digitsOnly (take k s)) (digitsOnly (drop k s)))
+
+-- ---- a line is well written where both parts have digits only, and it is neither odd nor without a pair
+module _ (s : List ℕ) (k : ℕ) where
+  abbrev faulty : Bool
+  faulty = not (digitsOnly (take k s)) || not (digitsOnly (drop k s)) || eqb (length s % 2) 1 || eqb (length s / 2) 0
+
+  faultless : proper s ≡ true → not faulty ≡ true
+  faultless e =
+      let (some, even, digits) = proper-parts s e in
+      let (front, back) = both (digitsOnly (take k s)) (digitsOnly (drop k s)) (sym (digits-in-two k s) ∙ digits) in
+      rw (front, back, ne-eqb (length s % 2) 1 (λ o. omega arith), ne-eqb (length s / 2) 0 (λ o. omega arith)) refl
+
+  no-fault : not faulty ≡ true → proper s ≡ true
+  unfolding proper
+  no-fault e =
+      let (abc, d) = neither (not (digitsOnly (take k s)) || not (digitsOnly (drop k s)) || eqb (length s % 2) 1) (eqb (length s / 2) 0) (not-true faulty e) in
+      let (ab, c) = neither (not (digitsOnly (take k s)) || not (digitsOnly (drop k s))) (eqb (length s % 2) 1) abc in
+      let (a, b) = neither (not (digitsOnly (take k s))) (not (digitsOnly (drop k s))) ab in
+      let even = eqb-false (length s % 2) 1 c in
+      let some = eqb-false (length s / 2) 0 d in
+      rw (
+        digits-in-two k s,
+        not-false (digitsOnly (take k s)) a,
+        not-false (digitsOnly (drop k s)) b,
+        lt-ltb 0 (length s) (omega arith),
+        eq-eqb (length s % 2) 0 (omega arith),
+      )
+      refl
+
+  pub proper-by-parts : proper s ≡ not faulty
+  proper-by-parts = same-test (proper s) (not faulty) faultless no-fault

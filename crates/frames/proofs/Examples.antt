@@ -7,7 +7,7 @@ use lib.Dec.{T, eqb}
 use lib.ListN.{getD}
 use Rattle.laws.proofs.Table.{everyBelow}
 use Rattle.lines.specs.Lines.{Line}
-use Rattle.frames.specs.Hex.{digitOf, refusalOf, valueOf, pairOf, pairs, digitsOnly, proper, badlyWritten, digit, hex}
+use Rattle.frames.specs.Hex.{digitOf, refusalOf, valueOf, pairOf, pairs, byteOf, bytesOf, digitsOnly, proper, badlyWritten, digit, hex}
 use Rattle.frames.specs.Fields.{wordAt}
 
 -- 0123456789abcdef
@@ -33,6 +33,11 @@ endLine = 48 ∷ 102 ∷ 48 ∷ 48 ∷ 48 ∷ 51 ∷ []
 end-bytes : pairs endLine ≡ 15 ∷ 0 ∷ 3 ∷ []
 unfolding pairs pairOf digitOf
 end-bytes = refl
+
+-- 0g 1: a letter that is no digit counts as 0, and a digit without a second is no byte
+no-digit : bytesOf (48 ∷ 103 ∷ 49 ∷ []) ≡ 0 ∷ []
+unfolding bytesOf byteOf digitOf
+no-digit = refl
 
 end-digits : hex (15 ∷ 0 ∷ 3 ∷ []) ≡ endLine
 unfolding hex digit

@@ -9,7 +9,7 @@ use borrow.Author.Tests.{ltb-true, ltb-false, lt-ltb, le-ltb, le-leb, lt-leb, le
 use Rattle.laws.proofs.Tests.{both, picked}
 use Rattle.frames.specs.declared.Digit.{Digit}
 use Rattle.frames.specs.declared.Digit.the-variants.{Value, Bad}
-use Rattle.frames.specs.Hex.{digitOf, joined, pairOf, digit}
+use Rattle.frames.specs.Hex.{digitOf, joined, pairOf, byteOf, digit}
 
 -- ---- one digit
 
@@ -83,6 +83,10 @@ module _ (a b x : ℕ) (e : pairOf a b ≡ Value x) where
 
   pub pair-below : x < 256
   pair-below = let (h, l, p, q, k) = parts in omega (arith, digit-below a h p, digit-below b l q)
+
+  pub byte-of-pair : byteOf a b ≡ x
+  unfolding byteOf
+  byte-of-pair = let (h, l, p, q, k) = parts in rw (p, q) (sym k)
 
   pub pair-again : _≡_ {A = List ℕ} (digit (x / 16) ∷ digit (x % 16) ∷ []) (a ∷ b ∷ [])
   pair-again =

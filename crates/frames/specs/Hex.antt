@@ -46,6 +46,16 @@ pairs [] = []
 pairs (a ∷ []) = []
 pairs (a ∷ b ∷ s) = before (pairOf a b) (pairs s)
 
+-- the byte that two bytes of a line write, where what is no digit counts as 0
+unfoldable pub byteOf : ℕ → ℕ → ℕ
+byteOf a b = valueOf (digitOf a) * 16 + valueOf (digitOf b)
+
+-- a line's bytes two by two, whatever they are
+unfoldable pub bytesOf : List ℕ → List ℕ
+bytesOf [] = []
+bytesOf (a ∷ []) = []
+bytesOf (a ∷ b ∷ s) = byteOf a b ∷ bytesOf s
+
 -- no byte is outside 0-9 a-f
 unfoldable pub digitsOnly : List ℕ → Bool
 digitsOnly [] = true

@@ -1,11 +1,11 @@
 // What stands in a line of the case file: hexadecimal digits, and the fields that are read from a place of their bytes on.
 ghost use mathlib.Core.Path.{_≡_};
-ghost use mathlib.Core.Bool.{cond, _&&_};
-ghost use Prim.Native.Nat.{_-_, _<_};
+ghost use mathlib.Core.Bool.{cond, not, _&&_};
+ghost use Prim.Native.Nat.{_-_, _*_, _≤_, _<_, min};
 ghost use lib.Dec.{leb};
-ghost use lib.ListN.{set};
+ghost use lib.ListN.{length, take, drop};
 ghost use lib.Seq.{sets};
-ghost use Rattle.frames.specs.Hex.{digitOf, markOf, pairOf, pairs};
+ghost use Rattle.frames.specs.Hex.{digitOf, markOf, pairOf, digitsOnly, bytesOf};
 ghost use Rattle.frames.specs.Decoding.{writtenOf};
 ghost use Rattle.frames.specs.Fields.{byteAt, wordAt};
 
@@ -62,33 +62,54 @@ pub fn pair_of(high: u8, low: u8) -> Digit
     Digit::Bad
 }
 
-// A store that a short buffer does not take.
-fn put(out: &mut [u8], i: usize, b: u8)
-    ensures { λ r. ⌜ now (out .exit) ≡ set (now (out .entry)) i b ⌝ }
+// Writes the bytes of the first m pairs to the front of the buffer, and says whether one of their digits is none. Each turn does the same
+// whatever the digits are, so that the compiler takes many turns at once.
+fn decode_pairs(text: &[u8], out: &mut [u8], m: usize) -> bool
+    requires { ⌜ (m * 2 ≤ length (now text)) × (m ≤ length (now out)) ⌝ }
+    ensures result { λ r. ⌜ r ≡ not (digitsOnly (take (m * 2) (now (text .entry)))) ⌝ }
+    ensures buffer { λ r. ⌜ now (out .exit) ≡ sets (now (out .entry)) 0 (take m (bytesOf (now (text .entry)))) ⌝ }
 {
-    if i < out.len() {
-        out[i] = b;
+    let mut bad = false;
+    let mut i: usize = 0;
+    while i < m {
+        let h = value_of(text[i * 2]);
+        let l = value_of(text[i * 2 + 1]);
+        bad = bad | (h == 16) | (l == 16);
+        out[i] = h % 16 * 16 + l % 16;
+        i = i + 1;
     }
+    bad
+}
+
+// Whether a byte from a place on is no digit.
+fn other_from(text: &[u8], at: usize) -> bool
+    ensures { λ r. ⌜ r ≡ not (digitsOnly (drop at (now (text .entry)))) ⌝ }
+{
+    let mut bad = false;
+    let mut i = at;
+    while i < text.len() {
+        bad = bad | (value_of(text[i]) == 16);
+        i = i + 1;
+    }
+    bad
+}
+
+fn lesser(a: usize, b: usize) -> usize
+    ensures { λ r. ⌜ r ≡ min a b ⌝ }
+{
+    if a <= b { a } else { b }
 }
 
 // Judges all of a line's text, and writes its bytes to the front of the buffer, as many as go in.
 pub fn decode_text(text: &[u8], out: &mut [u8]) -> Written
     ensures result { λ r. ⌜ r ≡ writtenOf (now (text .entry)) ⌝ }
-    ensures buffer { λ r. ⌜ now (out .exit) ≡ sets (now (out .entry)) 0 (pairs (now (text .entry))) ⌝ }
+    ensures buffer { λ r. ⌜ now (out .exit) ≡ sets (now (out .entry)) 0 (bytesOf (now (text .entry))) ⌝ }
 {
     let n = text.len() / 2;
-    let mut i: usize = 0;
-    while i < n {
-        let Digit::Value(b) = pair_of(text[i * 2], text[i * 2 + 1]) else {
-            return Written::Badly;
-        };
-        put(out, i, b);
-        i = i + 1;
-    }
-    if n == 0 {
-        return Written::Badly;
-    }
-    if text.len() % 2 != 0 {
+    let m = lesser(n, out.len());
+    let front = decode_pairs(text, out, m);
+    let rest = other_from(text, m * 2);
+    if front | rest | (text.len() % 2 == 1) | (n == 0) {
         return Written::Badly;
     }
     Written::Bytes(n)

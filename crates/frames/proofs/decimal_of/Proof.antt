@@ -1,7 +1,7 @@
 -- `decimal_of` meets its contract: a byte of the range from 0 to 9, below it or above it. Assumes nothing.
 use Prim.Native.Nat.{_-_}
 use native.Mathlib.Omega.{arith}
-use Rattle.frames.proofs.CodeDecoding.{in-range, below-range, above-range}
+use Rattle.frames.proofs.Marks.{in-range, below-range, above-range}
 use Rattle.frames.proofs.decimal_of.Statement.{statement}
 use Rattle.frames.proofs.decimal_of.Tie as tie
 

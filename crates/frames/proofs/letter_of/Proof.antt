@@ -2,7 +2,7 @@
 use borrow.Author.Needs.{needs}
 use Prim.Native.Nat.{_-_}
 use native.Mathlib.Omega.{arith}
-use Rattle.frames.proofs.CodeDecoding.{in-range, below-range, above-range}
+use Rattle.frames.proofs.Marks.{in-range, below-range, above-range}
 use Rattle.frames.proofs.letter_of.Statement.{statement}
 use Rattle.frames.proofs.letter_of.Tie as tie
 

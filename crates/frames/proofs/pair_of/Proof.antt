@@ -1,7 +1,7 @@
 -- `pair_of` meets its contract: two digits below sixteen write a byte. Assumes nothing.
 use borrow.Author.Needs.{needs}
 use native.Mathlib.Omega.{arith}
-use Rattle.frames.proofs.CodeDecoding.{pair-value, pair-none, both-small}
+use Rattle.frames.proofs.Marks.{pair-value, pair-none, both-small}
 use Rattle.frames.proofs.pair_of.Statement.{statement}
 use Rattle.frames.proofs.pair_of.Tie as tie
 

@@ -1,6 +1,6 @@
 -- `value_of` meets its contract: what no decimal digit is may be a letter. Assumes nothing.
 use borrow.Author.Needs.{needs}
-use Rattle.frames.proofs.CodeDecoding.{mark-decimal, mark-letter}
+use Rattle.frames.proofs.Marks.{mark-decimal, mark-letter}
 use Rattle.frames.proofs.value_of.Statement.{statement}
 use Rattle.frames.proofs.value_of.Tie as tie
 

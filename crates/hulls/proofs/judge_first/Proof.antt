@@ -3,7 +3,7 @@ use mathlib.Core.Path.{sym, _∙_}
 use borrow.Author.Tests.{not-true, not-false}
 use denote.Ref.{now}
 use Rattle.frames.specs.Hex.{pairs}
-use Rattle.frames.proofs.CodeDecoding.{badly-written}
+use Rattle.frames.proofs.CodeDecoding.{badly-written, stored}
 use Rattle.hulls.proofs.CodeOpening.{first-not-closed, first-no-digits, first-short, first-other, first-hull, kind-stored, hull-stored}
 use borrow.Author.Needs.{needs}
 use native.Mathlib.Omega.{arith}
@@ -65,16 +65,16 @@ refusal-requires-4 c κs = search needs
 returns-4 : tie.Need-returns-4
 returns-4 c =
     let w = sym (c .before .before .before .before .before .before .before .before .before .decode-text .ensures .0) ∙ c .before .before .before .before .before .before .n .given .1 in
-    let bs = pairs (now (c .before .before .before .before .before .before .before .before .before .before .before .before .before .args .text)) in
-    let stored = c .before .before .before .before .before .before .before .before .before .decode-text .ensures .1 in
-    rw (not-false (c .before .before .before .before .before .before .before .before .before .before .before .before .before .args .closed) (c .before .before .before .before .before .before .before .before .before .before .before .if1 .left)) (first-hull _ _ w _ _ (omega arith) (sym (kind-stored bs _ stored) ∙ c .before .before .before .match2 .keys1) (hull-stored bs _ stored) (c .judge-hull .ensures))
+    let text = now (c .before .before .before .before .before .before .before .before .before .before .before .before .before .args .text) in
+    let there = stored text _ _ w (c .before .before .before .before .before .before .before .before .before .decode-text .ensures .1) in
+    rw (not-false (c .before .before .before .before .before .before .before .before .before .before .before .before .before .args .closed) (c .before .before .before .before .before .before .before .before .before .before .before .if1 .left)) (first-hull _ _ w _ _ (omega arith) (sym (kind-stored (pairs text) _ there) ∙ c .before .before .before .match2 .keys1) (hull-stored (pairs text) _ there) (c .judge-hull .ensures))
 
 returns-5 : tie.Need-returns-5
 returns-5 c =
     let w = sym (c .before .before .before .before .before .before .before .decode-text .ensures .0) ∙ c .before .before .before .before .n .given .1 in
-    let bs = pairs (now (c .before .before .before .before .before .before .before .before .before .before .before .args .text)) in
+    let text = now (c .before .before .before .before .before .before .before .before .before .before .before .args .text) in
     c .refusal4 .ensures
-    ∙ rw (not-false (c .before .before .before .before .before .before .before .before .before .before .before .args .closed) (c .before .before .before .before .before .before .before .before .before .if1 .left)) (first-other _ _ w (λ f. c .before .match2 .rest .1 (kind-stored bs _ (c .before .before .before .before .before .before .before .decode-text .ensures .1) ∙ f)))
+    ∙ rw (not-false (c .before .before .before .before .before .before .before .before .before .before .before .args .closed) (c .before .before .before .before .before .before .before .before .before .if1 .left)) (first-other _ _ w (λ f. c .before .match2 .rest .1 (kind-stored (pairs text) _ (stored text _ _ w (c .before .before .before .before .before .before .before .decode-text .ensures .1)) ∙ f)))
 
 pub judge-first-spec : {M : Type 1} → statement M
 judge-first-spec =

@@ -10,7 +10,7 @@ use Rattle.spans.specs.Rounded.{Probable}
 use Rattle.spans.specs.Span.{PEnds}
 use Rattle.penetration.specs.Penetration.{c, d, GEnds, mixed, QEnds}
 use Rattle.penetration.specs.Layer.{layerOf, Reached}
-use Rattle.chances.specs.Lent.{alone}
+use Rattle.chances.specs.Lent.{alone, across}
 use Rattle.chances.specs.Share.{withinEnds}
 use Rattle.laws.proofs.Polynomial.{pow-two}
 use Rattle.penetration.proofs.Depth.{products, C-at-most-one}
@@ -29,13 +29,13 @@ some-is s zero a e f = absurd (f refl)
 some-is s (suc b) a e f = refl
 
 -- the zones from a to e are within b what their span is by itself
-alone-is : (s : Ship) (b a e : ℕ) → withinEnds (alone (s .L) (s .B) (s .aft a) (s .fwd e)) b 1 1 ≡ withinEnds s b a e
+alone-is : (s : Ship) (b a e : ℕ) → across (s .L) (s .B) b (s .aft a) (s .fwd e) ≡ withinEnds s b a e
 unfolding withinEnds
 alone-is s zero a e = refl
 alone-is s (suc b) a e = refl
 
-pub zones-within : (s : Ship) (b a e : ℕ) {aft : ℕ} {q : Ends} → aft ≡ s .aft a → q ≡ withinEnds (alone (s .L) (s .B) aft (s .fwd e)) b 1 1 → q ≡ withinEnds s b a e
-zones-within s b a e f g = rw (g, f) (alone-is s b a e)
+pub zones-within : (s : Ship) (b a e : ℕ) {aft fwd : ℕ} → aft ≡ s .aft a → fwd ≡ s .fwd e → across (s .L) (s .B) b aft fwd ≡ withinEnds s b a e
+zones-within s b a e f g = rw (f, g) (alone-is s b a e)
 
 pub at-none : (s : Ship) (b a e : ℕ) → b ≡ 0 → (record { lower = 0; upper = 0 } ≡ withinEnds s b a e) × Probable (record { lower = 0; upper = 0 })
 at-none s b a e z = (none-is s b a e z, record { ordered = omega arith; at-most-one = omega arith })
@@ -76,7 +76,7 @@ module _ {L B aft fwd : ℕ} {s : SpanEnds} {y : Layer} (r : Reached L B aft fwd
     q-is = rw (e, p, c-is, d-is)
 
     pub at-some : {q : Ends} → (y .depth ≡ 0 → ⊥) → q ≡ mixed (y .c) (y .d) (s .chance) g →
-        (q ≡ withinEnds (alone L B aft fwd) (y .depth) 1 1) × Probable q
+        (q ≡ across L B (y .depth) aft fwd) × Probable q
     at-some n f = (
       rw (f, q-is) (some-is (alone L B aft fwd) (y .depth) 1 1 n),
       rw (f, q-is) (Q-probable L aft fwd (r .long) (r .short) (r .within) B (y .depth) depths),

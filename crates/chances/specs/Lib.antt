@@ -1,3 +1,3 @@
-pub mod Lent
 pub mod Share
+pub mod Lent
 pub mod Promises

@@ -17,8 +17,8 @@ ghost use Rattle.spans.specs.Hull.{shipOf, Hulled};
 ghost use Rattle.spans.specs.Table.{tableOf};
 ghost use Rattle.spans.specs.Span.{PEnds};
 ghost use Rattle.penetration.specs.Layer.{Reached};
-ghost use Rattle.chances.specs.Lent.{Lent, alone};
-ghost use Rattle.chances.specs.Share.{withinEnds, sumsOf, Few, rowOf, rowEnds};
+ghost use Rattle.chances.specs.Lent.{Lent, Layered, across, sumsAcross};
+ghost use Rattle.chances.specs.Share.{Few, rowOf, rowEnds};
 
 // What a group adds and what it takes away, at one b.
 pub struct Sums {
@@ -26,10 +26,18 @@ pub struct Sums {
     pub taken: Ends,
 }
 
+// The bulkheads of a group of zones: where it begins, where its first zone ends, where its last one begins, and where it ends.
+struct Bulkheads {
+    aft: u64,
+    first: u64,
+    last: u64,
+    fwd: u64,
+}
+
 // Q of the span from aft to fwd at the layer y, from the span's p and P; where b is 0, nothing.
 fn span_within(l: u64, breadth: u64, aft: u64, fwd: u64, s: SpanEnds, y: Layer) -> Ends
     requires { ⌜ Reached l breadth aft fwd (s .inner) y × (s .chance ≡ PEnds l aft fwd) ⌝ }
-    ensures { λ r. ⌜ (r ≡ withinEnds (alone l breadth aft fwd) (y .depth) 1 1) × Probable r ⌝ }
+    ensures { λ r. ⌜ (r ≡ across l breadth (y .depth) aft fwd) × Probable r ⌝ }
 {
     if y.depth == 0 {
         return Ends { lower: 0, upper: 0 };
@@ -40,85 +48,65 @@ fn span_within(l: u64, breadth: u64, aft: u64, fwd: u64, s: SpanEnds, y: Layer) 
     q_ends(y.c, y.d, chance, g)
 }
 
-fn one_zone(t: &[u64], h: Hull, y: Layer, a: usize) -> Sums
-    requires { ⌜ Lent (now t) h y × Group (shipOf h) a 1 ⌝ }
-    ensures { λ r. ⌜ (r ≡ sumsOf (shipOf h) (y .depth) a 1) × Few r ⌝ }
+fn one_zone(t: &[u64], l: u64, breadth: u64, k: Bulkheads, y: Layer, a: usize) -> Sums
+    requires { ⌜ Lent (now t) l breadth k a 1 × Layered breadth y ⌝ }
+    ensures { λ r. ⌜ (r ≡ sumsAcross l breadth k (y .depth) 1) × Few r ⌝ }
 {
-    let aft = h.places[a - 1];
-    let fwd = h.places[a];
-    let added = span_within(h.length, h.breadth, aft, fwd, span_of(t, a, a), y);
+    let added = span_within(l, breadth, k.aft, k.fwd, span_of(t, a, a), y);
     let taken = Ends { lower: 0, upper: 0 };
     Sums { added, taken }
 }
 
-fn two_zones(t: &[u64], h: Hull, y: Layer, a: usize) -> Sums
-    requires { ⌜ Lent (now t) h y × Group (shipOf h) a 2 ⌝ }
-    ensures { λ r. ⌜ (r ≡ sumsOf (shipOf h) (y .depth) a 2) × Few r ⌝ }
+fn two_zones(t: &[u64], l: u64, breadth: u64, k: Bulkheads, y: Layer, a: usize) -> Sums
+    requires { ⌜ Lent (now t) l breadth k a 2 × Layered breadth y ⌝ }
+    ensures { λ r. ⌜ (r ≡ sumsAcross l breadth k (y .depth) 2) × Few r ⌝ }
 {
-    let l = h.length;
-    let breadth = h.breadth;
-    let aft = h.places[a - 1];
-    let bulkhead = h.places[a];
-    let fwd = h.places[a + 1];
-    let added = span_within(l, breadth, aft, fwd, span_of(t, a, a + 1), y);
-    let first = span_within(l, breadth, aft, bulkhead, span_of(t, a, a), y);
-    let last = span_within(l, breadth, bulkhead, fwd, span_of(t, a + 1, a + 1), y);
+    let added = span_within(l, breadth, k.aft, k.fwd, span_of(t, a, a + 1), y);
+    let first = span_within(l, breadth, k.aft, k.last, span_of(t, a, a), y);
+    let last = span_within(l, breadth, k.first, k.fwd, span_of(t, a + 1, a + 1), y);
     let taken = with(first, last);
     Sums { added, taken }
 }
 
-fn more_zones(t: &[u64], h: Hull, y: Layer, a: usize, n: usize) -> Sums
-    requires { ⌜ Lent (now t) h y × Group (shipOf h) a n × (3 ≤ n) ⌝ }
-    ensures { λ r. ⌜ (r ≡ sumsOf (shipOf h) (y .depth) a n) × Few r ⌝ }
+fn more_zones(t: &[u64], l: u64, breadth: u64, k: Bulkheads, y: Layer, a: usize, n: usize) -> Sums
+    requires { ⌜ Lent (now t) l breadth k a n × Layered breadth y × (3 ≤ n) ⌝ }
+    ensures { λ r. ⌜ (r ≡ sumsAcross l breadth k (y .depth) n) × Few r ⌝ }
 {
-    let l = h.length;
-    let breadth = h.breadth;
     let last = a + n - 1;
-    let aft = h.places[a - 1];
-    let after_first = h.places[a];
-    let before_last = h.places[last - 1];
-    let fwd = h.places[last];
-    let all = span_within(l, breadth, aft, fwd, span_of(t, a, last), y);
-    let middle = span_within(
-        l,
-        breadth,
-        after_first,
-        before_last,
-        span_of(t, a + 1, last - 1),
-        y,
-    );
-    let without_last = span_within(l, breadth, aft, before_last, span_of(t, a, last - 1), y);
-    let without_first = span_within(l, breadth, after_first, fwd, span_of(t, a + 1, last), y);
+    let all = span_within(l, breadth, k.aft, k.fwd, span_of(t, a, last), y);
+    let middle = span_within(l, breadth, k.first, k.last, span_of(t, a + 1, last - 1), y);
+    let without_last = span_within(l, breadth, k.aft, k.last, span_of(t, a, last - 1), y);
+    let without_first = span_within(l, breadth, k.first, k.fwd, span_of(t, a + 1, last), y);
     let added = with(all, middle);
     let taken = with(without_last, without_first);
     Sums { added, taken }
 }
 
 // The group of n zones from zone a, at the layer y.
-pub fn group_sums(t: &[u64], h: Hull, y: Layer, a: usize, n: usize) -> Sums
-    requires { ⌜ Lent (now t) h y × Group (shipOf h) a n ⌝ }
-    ensures { λ r. ⌜ (r ≡ sumsOf (shipOf h) (y .depth) a n) × Few r ⌝ }
+fn group_sums(t: &[u64], l: u64, breadth: u64, k: Bulkheads, y: Layer, a: usize, n: usize) -> Sums
+    requires { ⌜ Lent (now t) l breadth k a n × Layered breadth y ⌝ }
+    ensures { λ r. ⌜ (r ≡ sumsAcross l breadth k (y .depth) n) × Few r ⌝ }
 {
     if n == 1 {
-        return one_zone(t, h, y, a);
+        return one_zone(t, l, breadth, k, y, a);
     }
     if n == 2 {
-        return two_zones(t, h, y, a);
+        return two_zones(t, l, breadth, k, y, a);
     }
-    more_zones(t, h, y, a, n)
+    more_zones(t, l, breadth, k, y, a, n)
 }
 
 // The same down to a penetration: nothing at 0, where no layer has to be worked out.
-fn sums_to(t: &[u64], h: Hull, a: usize, n: usize, b: u64) -> Sums
-    requires { ⌜ Hulled h × (now t ≡ tableOf h) × Group (shipOf h) a n × (2 * b ≤ h .breadth) ⌝ }
-    ensures { λ r. ⌜ (r ≡ sumsOf (shipOf h) b a n) × Few r ⌝ }
+fn sums_to(t: &[u64], l: u64, breadth: u64, k: Bulkheads, a: usize, n: usize, b: u64) -> Sums
+    requires { ⌜ Lent (now t) l breadth k a n × (2 * b ≤ breadth) ⌝ }
+    ensures { λ r. ⌜ (r ≡ sumsAcross l breadth k b n) × Few r ⌝ }
 {
     if b == 0 {
         let added = Ends { lower: 0, upper: 0 };
         let taken = Ends { lower: 0, upper: 0 };
         return Sums { added, taken };
     }
-    group_sums(t, h, at_depth(h.breadth, b), a, n)
+    group_sums(t, l, breadth, k, at_depth(breadth, b), a, n)
 }
 
 // A row's share: the sums at its b, less those at the layer before.
@@ -148,7 +136,18 @@ pub fn share_ends(t: &[u64], h: Hull, a: usize, n: usize, b1: u64, b2: u64) -> E
     requires { ⌜ Hulled h × (now t ≡ tableOf h) × Group (shipOf h) a n × (2 * b1 ≤ h .breadth) × (2 * b2 ≤ h .breadth) ⌝ }
     ensures { λ r. ⌜ r ≡ rowEnds (shipOf h) a n b1 b2 ⌝ }
 {
-    let before = sums_to(t, h, a, n, b1);
-    let at = sums_to(t, h, a, n, b2);
+    let end = a + n - 1;
+    let aft = h.places[a - 1];
+    let first = h.places[a];
+    let last = h.places[end - 1];
+    let fwd = h.places[end];
+    let k = Bulkheads {
+        aft,
+        first,
+        last,
+        fwd,
+    };
+    let before = sums_to(t, h.length, h.breadth, k, a, n, b1);
+    let at = sums_to(t, h.length, h.breadth, k, a, n, b2);
     row_ends(before, at)
 }

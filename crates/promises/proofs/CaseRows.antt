@@ -28,6 +28,8 @@ use Rattle.rows.specs.Running.{Stood, Follow}
 use Rattle.index.specs.Answer.{partialsOf}
 use Rattle.index.proofs.ValidCase.{hulled, rows-follow}
 use Rattle.promises.specs.Rows.{exactRow, exactRows, rowsOf}
+-- checked first, so that a sentence that is not so is refused at a number
+use Rattle.promises.proofs.WitnessEnclosure.{no-more}
 
 -- ---- what they add
 

@@ -35,6 +35,8 @@ use Rattle.promises.specs.Rows.{exactRow, exactRows, rowsOf, chances, gr
 use Rattle.promises.proofs.Numerators.{gives, is-gives, is-all, gives-nothing, all-give}
 use Rattle.promises.proofs.Weighed.{rowsWeigh, groupGives, groupsIn, case-weighs}
 use Rattle.promises.proofs.ListedGroups.{OfGroup, of-groups, listed-at-most, NoneLeftOut, all-exactly-when}
+-- checked first, so that a sentence that is not so is refused at a number
+use Rattle.promises.proofs.WitnessChances.{all-there}
 
 -- ---- the chances are what the rows weigh, over one denominator
 module _ (h : Hull) (sound : Sound (shipOf h)) (i d : ℕ) (afloat : d ≤ h .deepest) (v-is : (H′ H : ℕ) → getD (rowVs H′ H (draughts (h .deepest) (h .light))) i 0 ≡ rowV H′ H d) where

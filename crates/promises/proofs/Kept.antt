@@ -35,6 +35,8 @@ use Rattle.promises.specs.Promises.{Enclosure, Near, Width, Chances, Ver
 use Rattle.promises.proofs.CaseRows.{sums-are, as-many, all-sound, all-close}
 use Rattle.promises.proofs.Chances.{chances-at-most-one, chances-one}
 use Rattle.promises.proofs.Widths.{rows-ordered, attained-ordered, lower-at-most-one}
+-- checked first, so that a sentence that is not so is refused at a number
+use Rattle.promises.proofs.WitnessVerdict.{meets}
 
 -- ---- over the rows of a valid case, whatever else the answer says
 module _ (c : Case) (v : Valid c) where

@@ -1,3 +1,10 @@
+pub mod WitnessNumbers
+pub mod WitnessCases
+pub mod WitnessEnclosure
+pub mod WitnessVerdict
+pub mod WitnessChances
+pub mod WitnessSheet
+pub mod WitnessService
 pub mod CaseRows
 pub mod Numerators
 pub mod Weighed
@@ -7,6 +14,7 @@ pub mod Chances
 pub mod Widths
 pub mod Kept
 pub mod Sheet
+pub mod Files
 pub mod Service
 pub mod Fits
 pub mod OfSolas

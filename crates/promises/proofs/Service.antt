@@ -9,18 +9,12 @@ use lib.ListN.{length}
 use borrow.Author.Tests.{ltb-true, ltb-false, lt-ltb, le-ltb}
 use Rattle.casefile.specs.Record.{Case}
 use Rattle.casefile.specs.Reading.{Reading, refused, accepted, reading}
-use Rattle.casefile.proofs.Soundness.{sound}
-use Rattle.casefile.proofs.Completeness.{complete}
 use Rattle.casefile.proofs.Refusal.{is-refusal, refusal-is, nonzero}
 use Rattle.index.specs.Answer.{figures, answer, refusal, answered, sheetAfter}
 use Rattle.promises.specs.Service.{FileOf, AcceptedExactly, RefusedFor, by-table, no-room, RefusedExactly, RefusalsAreBare}
-
--- ---- a file of a case is read as it, and what is read as a case is its file
-is-file : (f : List ℕ) (c : Case) → reading f ≡ accepted c → FileOf f c
-is-file f c e = let (s, v, b) = sound f c e in record { short = s; valid = v; bytes = b }
-
-file-is : (f : List ℕ) (c : Case) → FileOf f c → reading f ≡ accepted c
-file-is f c k = let e = k .bytes in rw e (complete c (k .valid) (rw (← e) (k .short)))
+use Rattle.promises.proofs.Files.{is-file, file-is}
+-- checked first, so that a sentence that is not so is refused at a number
+use Rattle.promises.proofs.WitnessService.{too-short}
 
 -- ---- an accepted case, with room and without
 no-number : (c : Case) → answer c .number ≡ 0

@@ -20,6 +20,8 @@ use Rattle.index.proofs.ValidCase.{hulled, rows-follow}
 use Rattle.promises.specs.Rows.{exactRows}
 use Rattle.promises.specs.Sheet.{TellsRows, SheetTells}
 use Rattle.promises.proofs.CaseRows.{sound-row, close-row}
+-- checked first, so that a sentence that is not so is refused at a number
+use Rattle.promises.proofs.WitnessSheet.{outer}
 
 tells-rows : {h : Hull} (k : Hulled h) (y : Standing) (rs : List Row) (rest : List ℕ) → Follow h y rs → TellsRows (numbers (sharesFrom h y rs) ++ rest) (exactRows h y rs)
 unfolding sharesFrom exactRows
@@ -27,7 +29,7 @@ tells-rows k y [] rest w = tt
 tells-rows k y (r ∷ rs) rest w =
     let z = stands y (r .head) in
     let s = sound-row k z (w .0) (w .1) 0 in
-    (record { low = s .share .low; high = s .share .high; near = close-row k z (w .0) (w .1) 0 .near }, tells-rows k z rs rest (w .2))
+    (record { low = s .share .low; high = s .share .high; near = omega (arith, close-row k z (w .0) (w .1) 0 .near) }, tells-rows k z rs rest (w .2))
 
 -- text in front of what is left of a list
 module _ (text list : List ℕ) (n : ℕ) (long : length text ≡ n) (room : n ≤ length list) where

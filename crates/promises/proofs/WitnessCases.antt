@@ -1,0 +1,127 @@
+-- Small cases to hold the promises against, and the answer of each, worked out: a ship of one zone, of two and of three. Assumes nothing.
+use Prim.Native.Nat.{ℕ}
+use mathlib.Core.Path.{_≡_, refl}
+use mathlib.Core.List.{List, [], _∷_}
+use Rattle.laws.specs.Fraction.{_less_over_, _⊹_, _⊛_}
+use Rattle.laws.specs.Rounding.{ceil}
+use Rattle.numbers.specs.Figures.{billionthsOf, portionOf, halvesOf}
+use Rattle.numbers.specs.Root.{withDigits, rootDown, rootUp}
+use Rattle.records.specs.declared.Answer.{Answer}
+use Rattle.records.specs.declared.Ends.{Ends}
+use Rattle.records.specs.declared.Finding.{Finding}
+use Rattle.records.specs.declared.Hull.{Hull}
+use Rattle.solas.specs.Span.{touch, p, P}
+use Rattle.solas.specs.Penetration.{G1, G3}
+use Rattle.solas.specs.Count.{added, taken}
+use Rattle.solas.specs.Height.{v, vAt, rowV}
+use Rattle.solas.specs.Survival.{k, s⁴}
+use Rattle.solas.specs.Index.{dp, R, partialMark}
+use Rattle.spans.specs.Rounded as rounded
+use Rattle.spans.specs.Span.{pEnds, PEnds}
+use Rattle.penetration.specs.Figures.{plus, minus}
+use Rattle.penetration.specs.Penetration.{G1Ends, G3Ends, partEnds, GEnds, c, d, mixed, QEnds}
+use Rattle.chances.specs.Share.{withinEnds, sumsOf, lowest, highest, rowOf, rowEnds}
+use Rattle.survival.specs.Ratio.{ratioOf}
+use Rattle.survival.specs.Height.{rowVs}
+use Rattle.survival.specs.Survival.{factorOf, scaledOf, roundedOf, factorsOf, survivalsOf}
+use Rattle.indices.specs.Index.{addsOf, rowAdds, partials, attainedOf}
+use Rattle.verdicts.specs.Verdict.{reaches, allReach, verdictOf}
+use Rattle.casefile.specs.Record.{Row, Case}
+use Rattle.casefile.specs.Order.{sameGroup, sameLayer}
+use Rattle.rows.specs.Standing.{stands}
+use Rattle.rows.specs.Work.{shareAt, addsAt, sharesFrom, addsFrom}
+use Rattle.index.specs.Answer.{partialsOf, figures, answer}
+
+-- 100 m long, 16 m broad, draughts of 6 and 4 m, with at most three zones, which end here
+abbrev hull : ℕ → ℕ → ℕ → ℕ → Hull
+hull zones x y z =
+    record {
+      length = 10000;
+      breadth = 1600;
+      deepest = 6000;
+      light = 4000;
+      zones = zones;
+      places = 0 ∷ x ∷ y ∷ z ∷ 0 ∷ 0 ∷ 0 ∷ 0 ∷ 0 ∷ 0 ∷ 0 ∷ 0 ∷ 0 ∷ 0 ∷ 0 ∷ 0 ∷ 0 ∷ 0 ∷ 0 ∷ 0 ∷ 0 ∷ [];
+    }
+
+abbrev row : ℕ → ℕ → ℕ → ℕ → ℕ → List Finding → Row
+row kind a n b H results = record { head = record { kind = kind; first = a; count = n; depth = b; height = H }; results = results }
+
+-- survivals that are given, at the three draughts
+abbrev given : ℕ → ℕ → ℕ → List Finding
+given s p l =
+    let at : ℕ → Finding = λ n. record { lever = 0; range = 0; heel = 0; given = n } in
+    at s ∷ at p ∷ at l ∷ []
+
+-- the figures of an answer: those of A, As, Ap, Al
+abbrev figured : ℕ → ℕ → Ends → Ends → Ends → Ends → Answer
+figured verdict rows a s p l =
+    record {
+      number = 0;
+      line = 0;
+      verdict = verdict;
+      rows = rows;
+      attained = a;
+      partials = record { lower = s .lower ∷ p .lower ∷ l .lower ∷ []; upper = s .upper ∷ p .upper ∷ l .upper ∷ [] };
+    }
+
+abbrev ends : ℕ → ℕ → Ends
+ends lower upper = record { lower = lower; upper = upper }
+
+-- ---- one zone
+
+abbrev oneZone : List Row → Case
+oneZone rows = record { hull = hull 1 10000 0 0; rows = rows }
+
+-- two layers, the first cut by a deck at 7.8 m above the deepest draught
+abbrev pub decked : Case
+decked = oneZone (row 3 1 1 400 13800 (given 10000 10000 10000) ∷ row 3 1 1 400 18500 (given 0 0 0) ∷ row 3 1 1 800 18500 (given 5000 5000 5000) ∷ [])
+
+abbrev pub deckedAnswer : Answer
+deckedAnswer = figured 1 3 (ends 735080659 735080663) (ends 713297123 713297126) (ends 737501052 737501055) (ends 773806946 773806949)
+
+-- R is 31/63. One row: "meets" with Al between R/2 and R
+abbrev pub meeting : Case
+meeting = oneZone (row 3 1 1 800 18500 (given 10000 10000 3000) ∷ [])
+
+abbrev pub meetingAnswer : Answer
+meetingAnswer = figured 1 1 (ends 860000000 860000000) (ends 1000000000 1000000000) (ends 1000000000 1000000000) (ends 300000000 300000000)
+
+-- "fails" by Al alone
+abbrev pub failingRow : Row
+failingRow = row 3 1 1 800 18500 (given 10000 10000 2000)
+
+abbrev pub failing : Case
+failing = oneZone (failingRow ∷ [])
+
+abbrev pub failingAnswer : Answer
+failingAnswer = figured 2 1 (ends 840000000 840000000) (ends 1000000000 1000000000) (ends 1000000000 1000000000) (ends 200000000 200000000)
+
+-- unsettled: R lies between bottom and top of the survival
+abbrev pub unsettled : Case
+unsettled =
+    let found : Finding = record { lever = 33; range = 341; heel = 0; given = 0 } in
+    oneZone (row 2 1 1 800 18500 (found ∷ found ∷ found ∷ []) ∷ [])
+
+abbrev pub unsettledAnswer : Answer
+unsettledAnswer = let a = ends 492000000 492100000 in figured 3 1 a a a a
+
+pub record Answers : Type 0 where
+  pub of-decked : answer decked ≡ deckedAnswer
+  pub of-meeting : answer meeting ≡ meetingAnswer
+  pub of-failing : answer failing ≡ failingAnswer
+  pub of-unsettled : answer unsettled ≡ unsettledAnswer
+
+pub answers : Answers
+unfolding answer figures partialsOf addsFrom addsAt shareAt stands sameGroup sameLayer
+    rowEnds rowOf lowest highest sumsOf withinEnds added taken QEnds mixed c d PEnds GEnds pEnds partEnds G1Ends G3Ends minus plus rounded.endsOf billionthsOf portionOf halvesOf ceil touch P p G1 G3 _⊹_ _⊛_ _less_over_
+    rowVs rowV vAt v dp survivalsOf factorsOf factorOf s⁴ k ratioOf scaledOf roundedOf rootDown rootUp withDigits addsOf rowAdds partials attainedOf R partialMark reaches allReach verdictOf
+answers = record { of-decked = refl; of-meeting = refl; of-failing = refl; of-unsettled = refl }
+
+-- ---- two zones, whose pair is not listed, and three, of which nothing is listed and the middle one is longer than any damage
+
+abbrev pub unpaired : Case
+unpaired = record { hull = hull 2 1500 10000 0; rows = row 3 1 1 800 18500 (given 0 0 0) ∷ row 3 2 1 800 18500 (given 0 0 0) ∷ [] }
+
+abbrev pub longMiddle : Case
+longMiddle = record { hull = hull 3 3000 7000 10000; rows = [] }

@@ -5,7 +5,7 @@ use mathlib.Core.List.{List, [], _∷_}
 use Rattle.laws.specs.Fraction.{_less_over_, _⊹_, _⊛_}
 use Rattle.laws.specs.Rounding.{ceil}
 use Rattle.numbers.specs.Figures.{billionthsOf, portionOf, halvesOf}
-use Rattle.numbers.specs.Root.{withDigits, rootDown, rootUp}
+use Rattle.roots.specs.Root.{withDigits, rootDown, rootUp}
 use Rattle.records.specs.declared.Answer.{Answer}
 use Rattle.records.specs.declared.Ends.{Ends}
 use Rattle.records.specs.declared.Finding.{Finding}
@@ -22,7 +22,7 @@ use Rattle.penetration.specs.Figures.{plus, minus}
 use Rattle.penetration.specs.Penetration.{G1Ends, G3Ends, partEnds, GEnds, c, d, mixed, QEnds}
 use Rattle.chances.specs.Share.{withinEnds, sumsOf, lowest, highest, rowOf, rowEnds}
 use Rattle.survival.specs.Ratio.{ratioOf}
-use Rattle.survival.specs.Height.{rowVs}
+use Rattle.heights.specs.Height.{rowVs}
 use Rattle.survival.specs.Survival.{factorOf, scaledOf, roundedOf, factorsOf, survivalsOf}
 use Rattle.indices.specs.Index.{addsOf, rowAdds, partials, attainedOf}
 use Rattle.verdicts.specs.Verdict.{reaches, allReach, verdictOf}

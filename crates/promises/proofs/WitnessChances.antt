@@ -13,7 +13,7 @@ use Rattle.solas.specs.Count.{Group}
 use Rattle.solas.specs.Height.{v, vAt, rowV}
 use Rattle.solas.specs.Index.{dp}
 use Rattle.spans.specs.Hull.{shipOf}
-use Rattle.survival.specs.Height.{rowVs}
+use Rattle.heights.specs.Height.{rowVs}
 use Rattle.casefile.specs.Record.{Row}
 use Rattle.casefile.specs.Order.{sameGroup, sameLayer}
 use Rattle.rows.specs.Standing.{stands}

@@ -7,7 +7,7 @@ use Rattle.solas.specs.Penetration.{C, G1, G3, G, Q}
 use Rattle.solas.specs.Share.{within, share, rowShare}
 use Rattle.solas.specs.Height.{v, vAt, rowV}
 use Rattle.solas.specs.Index.{dp, attained}
-use Rattle.survival.specs.Height.{rowVs}
+use Rattle.heights.specs.Height.{rowVs}
 use Rattle.survival.specs.Survival.{factorOf, factorsOf}
 use Rattle.indices.specs.Exact.{Thrice}
 use Rattle.casefile.specs.Order.{sameGroup, sameLayer}

@@ -11,7 +11,7 @@ use Rattle.solas.specs.Penetration.{C, G1, G3, G, Q}
 use Rattle.solas.specs.Share.{within, share, rowShare}
 use Rattle.solas.specs.Height.{v, vAt, rowV}
 use Rattle.solas.specs.Index.{dp, R, partialMark}
-use Rattle.survival.specs.Height.{rowVs}
+use Rattle.heights.specs.Height.{rowVs}
 use Rattle.survival.specs.Survival.{tenThousandths, factorOf, factorsOf}
 use Rattle.indices.specs.Exact.{RowAt, NoneAbove, weight, weightedSum, Thrice, rowAt}
 use Rattle.verdicts.specs.Promises.{atLight}

@@ -16,6 +16,7 @@ use Rattle.casefile.specs.Limits.{between, sizesFit, risingTo, zonesFit,
 use Rattle.casefile.specs.Order.{atTop, closesGroup, sameGroup, sameLayer, earlierGroup, outOfOrder, leavesOpen, endsOpen}
 use Rattle.casefile.specs.Table.{firstHolds, wrongHullFrame, wrongFrame, wrongZones, hullChecks, rowChecks, endChecks, lineChecks}
 use Rattle.casefile.specs.Reading.{Reading, refused, accepted, start, readFrom, reading}
+use Rattle.casefile.specs.Answer.{judgementOf}
 use Rattle.casefile.specs.Encode.{rowLines, encode}
 
 -- 0126ac064017700fa00205dc
@@ -76,9 +77,13 @@ printedHull = hull 9900 6000 4000 1500
 abbrev printedRows : List Row
 printedRows = row 2 1 1 800 18500 (found 30 400 0) ∷ row 3 1 2 800 18500 (survival 0) ∷ row 3 2 1 800 18500 (survival 10000) ∷ []
 
-printed-accepted : reading printed ≡ accepted (case printedHull printedRows)
+pub printed-accepted : reading printed ≡ accepted (case printedHull printedRows)
 unfolding read
 printed-accepted = refl
+
+rows-counted : judgementOf (reading printed) .rows ≡ 3
+unfolding read
+rows-counted = refl
 
 printed-encoded : encode (case printedHull printedRows) ≡ printed
 unfolding read

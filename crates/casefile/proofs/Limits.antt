@@ -16,6 +16,8 @@ use Rattle.records.specs.declared.RowHead.{RowHead}
 use Rattle.casefile.specs.Record.{Row}
 use Rattle.casefile.specs.Limits.{between, sizesFit, risingTo, zonesFit, headFits, findingFits, findingsFit, rowFits}
 use Rattle.casefile.specs.Valid.{Every}
+-- checked first, so that a definition that reads a worked file otherwise is refused there
+use Rattle.casefile.proofs.Examples.{printed-accepted}
 
 pub between-is : (low high x : ℕ) → between low high x ≡ true → (low ≤ x) × (x ≤ high)
 unfolding between

@@ -12,6 +12,8 @@ use Rattle.records.specs.declared.Hull.{Hull}
 use Rattle.records.specs.declared.RowHead.{RowHead}
 use Rattle.casefile.specs.Order.{atTop, closesGroup, isSome, sameGroup, sameLayer, earlierGroup, outOfOrder, leavesOpen, endsOpen}
 use Rattle.casefile.specs.Valid.{SameGroup, LaterGroup, AtTop, BelowTop, ClosesGroup, Follows, higher, deeper, later}
+-- checked first, so that a definition that reads a worked file otherwise is refused there
+use Rattle.casefile.proofs.Examples.{printed-accepted}
 
 -- ---- the top and the last layer
 

@@ -20,6 +20,8 @@ use Rattle.indices.specs.Exact.{Each, RowAt, Sound, weight, rowEnds, par
 use Rattle.indices.specs.Promises.{NoMoreThanUpper, NoLessThanLower, AttainedNoMore, AttainedNoLess}
 use Rattle.survival.proofs.Compare.{ratio-positive, is-ratio}
 use Rattle.survival.proofs.Bounds.{not-above-top, not-below-bottom}
+-- checked first, so that a definition that gives another number is refused there
+use Rattle.indices.proofs.Values.{one-file}
 
 -- ---- over numbers: a share (a - b)/d, a v, a survival n/e
 upper-crossed : (a b d hi v n e top u : ℕ) → a * 10 ^ 9 ≤ hi * d + b * 10 ^ 9 → n * 10 ^ 4 ≤ top * e → hi * v * top ≤ u * scale →

@@ -129,6 +129,9 @@ few-none = record { added-order = omega arith; added-few = omega arith; taken-or
 pub sums-at-none : (L B : ℕ) (k : Bulkheads) (b n : ℕ) → b ≡ 0 → (nothing ≡ sumsAcross L B k b n) × Few nothing
 sums-at-none L B k b n z = (rw z (sums-none L B k n), few-none)
 
+pub sums-by-bulkheads : (h : Hull) (b a n : ℕ) {k : Bulkheads} {q : Sums} → 1 ≤ n → k ≡ bulkheadsOf h a n → q ≡ sumsAcross (h .length) (h .breadth) k b n → q ≡ sumsOf (shipOf h) b a n
+sums-by-bulkheads h b a n o i e = e ∙ rw i (hull-sums h b a n o)
+
 pub row-between : (h : Hull) (a n b′ b : ℕ) {k : Bulkheads} {before at : Sums} {r : Ends} → 1 ≤ n → k ≡ bulkheadsOf h a n →
     before ≡ sumsAcross (h .length) (h .breadth) k b′ n → at ≡ sumsAcross (h .length) (h .breadth) k b n → r ≡ rowOf before at → r ≡ rowEnds (shipOf h) a n b′ b
 unfolding rowEnds

@@ -17,8 +17,8 @@ ghost use Rattle.spans.specs.Hull.{shipOf, Hulled};
 ghost use Rattle.spans.specs.Table.{tableOf};
 ghost use Rattle.spans.specs.Span.{PEnds};
 ghost use Rattle.penetration.specs.Layer.{Reached};
-ghost use Rattle.chances.specs.Lent.{Lent, Layered, across, sumsAcross};
-ghost use Rattle.chances.specs.Share.{Few, rowOf, rowEnds};
+ghost use Rattle.chances.specs.Lent.{Lent, Layered, bulkheadsOf, across, sumsAcross};
+ghost use Rattle.chances.specs.Share.{sumsOf, Few, rowOf, rowEnds};
 
 // What a group adds and what it takes away, at one b.
 pub struct Sums {
@@ -131,22 +131,39 @@ pub fn row_ends(before: Sums, at: Sums) -> Ends
     }
 }
 
-// The share of the row of n zones from zone a, in the layer from b1 to b2.
-pub fn share_ends(t: &[u64], h: Hull, a: usize, n: usize, b1: u64, b2: u64) -> Ends
-    requires { ⌜ Hulled h × (now t ≡ tableOf h) × Group (shipOf h) a n × (2 * b1 ≤ h .breadth) × (2 * b2 ≤ h .breadth) ⌝ }
-    ensures { λ r. ⌜ r ≡ rowEnds (shipOf h) a n b1 b2 ⌝ }
+// The bulkheads of the group of n zones from zone a.
+fn group_at(h: Hull, a: usize, n: usize) -> Bulkheads
+    requires { ⌜ Hulled h × Group (shipOf h) a n ⌝ }
+    ensures { λ r. ⌜ r ≡ bulkheadsOf h a n ⌝ }
 {
     let end = a + n - 1;
     let aft = h.places[a - 1];
     let first = h.places[a];
     let last = h.places[end - 1];
     let fwd = h.places[end];
-    let k = Bulkheads {
+    Bulkheads {
         aft,
         first,
         last,
         fwd,
-    };
+    }
+}
+
+// What the group of n zones from zone a comes to down to a penetration.
+pub fn sums_at(t: &[u64], h: Hull, a: usize, n: usize, b: u64) -> Sums
+    requires { ⌜ Hulled h × (now t ≡ tableOf h) × Group (shipOf h) a n × (2 * b ≤ h .breadth) ⌝ }
+    ensures { λ r. ⌜ (r ≡ sumsOf (shipOf h) b a n) × Few r ⌝ }
+{
+    let k = group_at(h, a, n);
+    sums_to(t, h.length, h.breadth, k, a, n, b)
+}
+
+// The share of the row of n zones from zone a, in the layer from b1 to b2.
+pub fn share_ends(t: &[u64], h: Hull, a: usize, n: usize, b1: u64, b2: u64) -> Ends
+    requires { ⌜ Hulled h × (now t ≡ tableOf h) × Group (shipOf h) a n × (2 * b1 ≤ h .breadth) × (2 * b2 ≤ h .breadth) ⌝ }
+    ensures { λ r. ⌜ r ≡ rowEnds (shipOf h) a n b1 b2 ⌝ }
+{
+    let k = group_at(h, a, n);
     let before = sums_to(t, h.length, h.breadth, k, a, n, b1);
     let at = sums_to(t, h.length, h.breadth, k, a, n, b2);
     row_ends(before, at)

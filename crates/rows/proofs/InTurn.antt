@@ -11,7 +11,7 @@ use Rattle.records.specs.declared.Hull.{Hull}
 use Rattle.records.specs.declared.Trio.{Trio}
 use Rattle.solas.specs.Count.{added, taken}
 use Rattle.solas.specs.Index.{draughts}
-use Rattle.chances.specs.Share.{withinEnds, sumsOf, lowest, highest, rowOf, rowEnds}
+use Rattle.chances.specs.Share.{withinEnds, sumsOf, Few, lowest, highest, rowOf, rowEnds}
 use Rattle.indices.specs.Index.{partials, plus, Share, Given, Within}
 use Rattle.indices.proofs.Rows.{row-weights}
 use Rattle.indices.proofs.Sums.{partials-snoc, row-within, plus-within, none-within, within-wider}
@@ -22,8 +22,8 @@ use Rattle.casefile.specs.Walk.{rowsFrom}
 use Rattle.rows.specs.declared.Standing.{Standing}
 use Rattle.rows.specs.declared.Running.{Running}
 use Rattle.rows.specs.Standing.{nowhere, stands}
-use Rattle.rows.specs.Work.{shareAt, addsAt, sharesFrom, addsFrom}
-use Rattle.rows.specs.Running.{begun, entered, Stood, Follow, Ready}
+use Rattle.rows.specs.Work.{shareAt, sumsAt, partAt, addsAt, sharesFrom, addsFrom}
+use Rattle.rows.specs.Running.{nothing, begun, entered, Stood, Follow, Ready}
 use Rattle.rows.specs.Work.{numbers}
 
 -- ---- how many there are
@@ -38,10 +38,13 @@ unfolding sharesFrom
 length-numbers h y [] = refl
 length-numbers h y (r ∷ rs) = omega (arith, length-numbers h (stands y (r .head)) rs)
 
--- before the first row there is no share
-no-share : (h : Hull) → record { lower = 0; upper = 0 } ≡ shareAt h nowhere
-unfolding shareAt rowEnds rowOf lowest highest sumsOf added taken withinEnds
-no-share h = refl
+-- before the first row there is no part
+no-part : (h : Hull) → record { group = nothing; share = record { lower = 0; upper = 0 } } ≡ partAt h nowhere
+unfolding sumsAt shareAt rowEnds rowOf lowest highest sumsOf added taken withinEnds
+no-part h = refl
+
+few-nothing : Few nothing
+few-nothing = record { added-order = omega arith; added-few = omega arith; taken-order = omega arith; taken-few = omega arith }
 
 -- ---- what is known of some rows, with what is left, comes to what all of them come to
 
@@ -56,7 +59,8 @@ module _ (h : Hull) (f : List ℕ) (from rows : ℕ) (first : List ℕ) where
     pub within : i ≤ rows
     pub long : length sheet ≡ length first
     pub follow : Follow h (s .standing) (left i at)
-    pub share : s .share ≡ shareAt h (s .standing)
+    pub part : s .part ≡ partAt h (s .standing)
+    pub few : Few (s .part .group)
     pub small : Within (i * 10 ^ 9) (s .sums)
     pub done : List Trio
     pub sums : s .sums ≡ partials done
@@ -75,7 +79,8 @@ module _ (h : Hull) (f : List ℕ) (from rows : ℕ) (first : List ℕ) where
         within = omega arith;
         long = refl;
         follow = rw whole w;
-        share = no-share h;
+        part = no-part h;
+        few = few-nothing;
         small = rw none none-within;
         done = [];
         sums = refl;
@@ -103,12 +108,12 @@ module _ (h : Hull) (f : List ℕ) (from rows : ℕ) (first : List ℕ) where
     may-stand = subst (Follow h (s .standing)) next-is (g .follow)
 
     pub may-enter : {t ds : List ℕ} {p : RowPlace} → Ready h t → ds ≡ draughts (h .deepest) (h .light) → p ≡ rowAt f at → rows ≤ 500 →
-        Ready h t × (ds ≡ draughts (h .deepest) (h .light)) × Stood h (stands (s .standing) (p .head)) × Given (p .results) × (s .share ≡ shareAt h (s .standing)) × Within (2 ^ 61) (s .sums)
+        Ready h t × (ds ≡ draughts (h .deepest) (h .light)) × Stood h (stands (s .standing) (p .head)) × Given (p .results) × (s .part ≡ partAt h (s .standing)) × Few (s .part .group) × Within (2 ^ 61) (s .sums)
     may-enter r d e few =
-        (r, d, rw e (may-stand .0), rw e (may-stand .1), g .share, within-wider (omega arith) (g .small))
+        (r, d, rw e (may-stand .0), rw e (may-stand .1), g .part, g .few, within-wider (omega arith) (g .small))
 
     module _ (ready : (y : Standing) → Stood h y → Share (shareAt h y)) {p : RowPlace} {t : Running} {now : List ℕ}
-        (found : p ≡ rowAt f at) (step : t ≡ entered h s (p .head) (p .results)) (put : now ≡ set (set sheet (2 * i) (t .share .lower)) (2 * i + 1) (t .share .upper)) where
+        (found : p ≡ rowAt f at) (step : t ≡ entered h s (p .head) (p .results)) (still : Few (t .part .group)) (put : now ≡ set (set sheet (2 * i) (t .part .share .lower)) (2 * i + 1) (t .part .share .upper)) where
       abbrev adds : Trio
       adds = addsAt h there (rowAt f at .results)
 
@@ -119,9 +124,9 @@ module _ (h : Hull) (f : List ℕ) (from rows : ℕ) (first : List ℕ) where
       unfolding entered
       stands-there = ap (λ u. u .standing) after
 
-      share-there : t .share ≡ shareAt h there
+      part-there : t .part ≡ partAt h there
       unfolding entered
-      share-there = ap (λ u. u .share) after
+      part-there = ap (λ u. u .part) after
 
       sums-there : t .sums ≡ plus (s .sums) adds
       unfolding entered
@@ -137,13 +142,14 @@ module _ (h : Hull) (f : List ℕ) (from rows : ℕ) (first : List ℕ) where
           let place : 2 * (i + 1) ≡ suc (suc (2 * i)) = omega arith in
           let adding : addsFrom h (s .standing) (left i at) ≡ adds ∷ addsFrom h there others = rw next-is refl in
           let shared : sharesFrom h (s .standing) (left i at) ≡ shareAt h there ∷ sharesFrom h there others = rw next-is refl in
-          let put′ : now ≡ set (set sheet (2 * i) (shareAt h there .lower)) (suc (2 * i)) (shareAt h there .upper) = put ∙ rw (add-one, share-there) refl in
+          let put′ : now ≡ set (set sheet (2 * i) (shareAt h there .lower)) (suc (2 * i)) (shareAt h there .upper) = put ∙ rw (add-one, part-there) refl in
           let far : (i + 1) * 10 ^ 9 ≡ i * 10 ^ 9 + 10 ^ 9 = omega arith in
           record {
             within = omega arith;
-            long = ap length put ∙ length-set (set sheet (2 * i) (t .share .lower)) (2 * i + 1) (t .share .upper) ∙ length-set sheet (2 * i) (t .share .lower) ∙ g .long;
+            long = ap length put ∙ length-set (set sheet (2 * i) (t .part .share .lower)) (2 * i + 1) (t .part .share .upper) ∙ length-set sheet (2 * i) (t .part .share .lower) ∙ g .long;
             follow = rw (stands-there, found) (may-stand .2);
-            share = share-there ∙ ap (shareAt h) (sym stands-there);
+            part = part-there ∙ ap (partAt h) (sym stands-there);
+            few = still;
             small = rw (far, sums-there) (plus-within (g .small) adds-small);
             done = g .done ++ adds ∷ [];
             sums = sums-there ∙ ap (λ u. plus u adds) (g .sums) ∙ sym (partials-snoc (g .done) adds);

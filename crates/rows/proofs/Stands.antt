@@ -1,16 +1,12 @@
--- Where a row stands after another: in its layer, in a later layer of its group, or in another group; and rows of one layer have one share. Assumes nothing.
-use mathlib.Core.Path.{_≡_, refl, sym, _∙_, ap}
+-- Where a row stands after another: in its layer, in a later layer of its group, or in another group. Assumes nothing.
+use mathlib.Core.Path.{_≡_, refl}
 use mathlib.Core.Bool.{Bool, true, false, cond, _&&_}
 use lib.Dec.{eqb}
-use borrow.Author.Tests.{eqb-true, eq-eqb, ne-eqb}
-use Rattle.laws.proofs.Tests.{both}
-use Rattle.records.specs.declared.Hull.{Hull}
-use Rattle.records.specs.declared.Ends.{Ends}
+use borrow.Author.Tests.{eq-eqb, ne-eqb}
 use Rattle.records.specs.declared.RowHead.{RowHead}
 use Rattle.casefile.specs.Order.{sameGroup, sameLayer}
 use Rattle.rows.specs.declared.Standing.{Standing}
 use Rattle.rows.specs.Standing.{stands}
-use Rattle.rows.specs.Work.{shareAt}
 
 -- ---- the three ways to stand
 
@@ -39,17 +35,3 @@ module _ (y : Standing) (r : RowHead) where
       by true t = refl
       by false true = refl
       by false false = refl
-
--- ---- a layer has one share
-
-pub one-share : (h : Hull) (y z : Standing) (share : Ends) → share ≡ shareAt h y → z ≡ stands y (z .head) →
-    (eqb (z .head .first) (y .head .first) && eqb (z .head .count) (y .head .count) && eqb (z .head .depth) (y .head .depth)) ≡ true → share ≡ shareAt h z
-unfolding shareAt
-one-share h y z share e s t =
-    let (g, d) = both (inGroup y (z .head)) (eqb (z .head .depth) (y .head .depth)) t in
-    let (a, n) = both (eqb (z .head .first) (y .head .first)) (eqb (z .head .count) (y .head .count)) g in
-    let first : z .head .first ≡ y .head .first = eqb-true (z .head .first) (y .head .first) a in
-    let count : z .head .count ≡ y .head .count = eqb-true (z .head .count) (y .head .count) n in
-    let depth : z .head .depth ≡ y .head .depth = eqb-true (z .head .depth) (y .head .depth) d in
-    let before : z .before ≡ y .before = ap (λ x. x .before) (s ∙ sym (in-layer y (z .head) g depth)) in
-    e ∙ rw (first, count, depth, before) refl

@@ -4,27 +4,35 @@ use mathlib.Core.Path.{_≡_}
 use mathlib.Core.List.{List, [], _∷_}
 use Rattle.records.specs.declared.Hull.{Hull}
 use Rattle.records.specs.declared.RowHead.{RowHead}
+use Rattle.records.specs.declared.Ends.{Ends}
 use Rattle.records.specs.declared.Finding.{Finding}
 use Rattle.solas.specs.Count.{Group}
 use Rattle.spans.specs.Hull.{shipOf, Hulled}
 use Rattle.spans.specs.Table.{tableOf}
+use Rattle.chances.specs.declared.Sums.{Sums}
 use Rattle.indices.specs.Index.{plus, partials, Share, Given}
 use Rattle.casefile.specs.Record.{Row}
 use Rattle.rows.specs.declared.Standing.{Standing}
 use Rattle.rows.specs.declared.Running.{Running}
 use Rattle.rows.specs.Standing.{nowhere, stands}
-use Rattle.rows.specs.Work.{shareAt, addsAt}
+use Rattle.rows.specs.Work.{shareAt, partAt, addsAt}
 
--- ---- what is known: where the last row stood, its share, and the sums of what the rows added
+-- ---- what is known: where the last row stood, its part, and the sums of what the rows added
+
+abbrev none : Ends
+none = record { lower = 0; upper = 0 }
+
+abbrev pub nothing : Sums
+nothing = record { added = none; taken = none }
 
 unfoldable pub begun : Running
-begun = record { standing = nowhere; share = record { lower = 0; upper = 0 }; sums = partials [] }
+begun = record { standing = nowhere; part = record { group = nothing; share = none }; sums = partials [] }
 
 -- after one row more
 unfoldable pub entered : Hull → Running → RowHead → List Finding → Running
 entered h s head results =
     let z = stands (s .standing) head in
-    record { standing = z; share = shareAt h z; sums = plus (s .sums) (addsAt h z results) }
+    record { standing = z; part = partAt h z; sums = plus (s .sums) (addsAt h z results) }
 
 -- ---- what is asked
 

@@ -7,17 +7,26 @@ use Rattle.records.specs.declared.Finding.{Finding}
 use Rattle.records.specs.declared.Trio.{Trio}
 use Rattle.solas.specs.Index.{draughts}
 use Rattle.spans.specs.Hull.{shipOf}
-use Rattle.chances.specs.Share.{rowEnds}
+use Rattle.chances.specs.declared.Sums.{Sums}
+use Rattle.chances.specs.Share.{sumsOf, rowEnds}
 use Rattle.heights.specs.Height.{rowVs}
 use Rattle.survival.specs.Survival.{survivalsOf}
 use Rattle.indices.specs.Index.{rowAdds}
 use Rattle.casefile.specs.Record.{Row}
 use Rattle.rows.specs.declared.Standing.{Standing}
+use Rattle.rows.specs.declared.Part.{Part}
 use Rattle.rows.specs.Standing.{stands}
 
 -- the share of the layer in which a row stands
 unfoldable pub shareAt : Hull → Standing → Ends
 shareAt h y = rowEnds (shipOf h) (y .head .first) (y .head .count) (y .before) (y .head .depth)
+
+-- what the row's group comes to, down to that layer
+unfoldable pub sumsAt : Hull → Standing → Sums
+sumsAt h y = sumsOf (shipOf h) (y .head .depth) (y .head .first) (y .head .count)
+
+abbrev pub partAt : Hull → Standing → Part
+partAt h y = record { group = sumsAt h y; share = shareAt h y }
 
 -- what the row there adds, with its results
 unfoldable pub addsAt : Hull → Standing → List Finding → Trio

@@ -1,4 +1,5 @@
 // The rows of a file in turn: where each stands, its share on the sheet, and the sums of what they add.
+use chances::Sums;
 use records::Ends;
 use records::RowHead;
 use records::Trio;
@@ -14,9 +15,15 @@ pub struct Standing {
     pub below: u64,
 }
 
-// What is known after some rows: where the last of them stood, its share, and what they added together at the three draughts.
+// What a row's group comes to down to its layer, and the row's share.
+pub struct Part {
+    pub group: Sums,
+    pub share: Ends,
+}
+
+// What is known after some rows: where the last of them stood, its part, and what they added together at the three draughts.
 pub struct Running {
     pub standing: Standing,
-    pub share: Ends,
+    pub part: Part,
     pub sums: Trio,
 }

@@ -6,11 +6,17 @@ ghost use Rattle.spans.specs.Hull.{Hulled};
 ghost use Rattle.spans.specs.Table.{tableOf};
 ghost use Rattle.indices.specs.Index.{Given, Within};
 ghost use Rattle.rows.specs.Standing.{stands};
-ghost use Rattle.rows.specs.Work.{shareAt};
+ghost use Rattle.casefile.specs.Order.{sameLayer};
+ghost use Rattle.chances.specs.Share.{Few};
+ghost use Rattle.rows.specs.Work.{sumsAt, partAt};
+ghost use mathlib.Core.Bool.{false};
 ghost use Rattle.rows.specs.Running.{Stood, Ready, entered};
+use super::Part;
 use super::Running;
 use super::Standing;
-use chances::share_ends;
+use chances::Sums;
+use chances::row_ends;
+use chances::sums_at;
 use records::Ends;
 use records::Finding;
 use records::Hull;
@@ -42,33 +48,41 @@ fn next(y: Standing, r: RowHead) -> Standing
     }
 }
 
-// The share of the layer in which a row stands, by the hull's span table.
-fn share_at(t: &[u64], h: Hull, y: Standing) -> Ends
-    requires { ⌜ Hulled h × (now t ≡ tableOf h) × Stood h y ⌝ }
-    ensures { λ r. ⌜ r ≡ shareAt h y ⌝ }
+// The part of a row that stands at z in another layer than the one before it, which stood at y: what the group came to down to the layer before is
+// known, or nothing where there is none.
+fn next_part(t: &[u64], h: Hull, y: Standing, group: Sums, z: Standing) -> Part
+    requires { ⌜ Hulled h × (now t ≡ tableOf h) × Stood h z × (group ≡ sumsAt h y) × Few group × (z ≡ stands y (z .head)) × (sameLayer (y .head) (z .head) ≡ false) ⌝ }
+    ensures { λ r. ⌜ (r ≡ partAt h z) × Few (r .group) ⌝ }
 {
-    let row = y.head;
-    share_ends(
-        t,
-        h,
-        row.first as usize,
-        row.count as usize,
-        y.before,
-        row.depth,
-    )
+    let row = z.head;
+    let now = sums_at(t, h, row.first as usize, row.count as usize, row.depth);
+    if z.before == 0 {
+        let added = Ends { lower: 0, upper: 0 };
+        let taken = Ends { lower: 0, upper: 0 };
+        let none = Sums { added, taken };
+        return Part {
+            group: now,
+            share: row_ends(none, now),
+        };
+    }
+    Part {
+        group: now,
+        share: row_ends(group, now),
+    }
 }
 
-// The share of the row that stands at z: that of the row before it where both are in one layer.
-fn share_after(t: &[u64], h: Hull, y: Standing, share: Ends, z: Standing) -> Ends
-    requires { ⌜ Hulled h × (now t ≡ tableOf h) × Stood h z × (share ≡ shareAt h y) × (z ≡ stands y (z .head)) ⌝ }
-    ensures { λ r. ⌜ r ≡ shareAt h z ⌝ }
+// The part of the row that stands at z: that of the row before it where both are in one layer.
+fn part_after(t: &[u64], h: Hull, y: Standing, part: Part, z: Standing) -> Part
+    requires { ⌜ Hulled h × (now t ≡ tableOf h) × Stood h z × (part ≡ partAt h y) × Few (part .group) × (z ≡ stands y (z .head)) ⌝ }
+    ensures { λ r. ⌜ (r ≡ partAt h z) × Few (r .group) ⌝ }
 {
     let last = y.head;
     let row = z.head;
     if (row.first == last.first) & (row.count == last.count) & (row.depth == last.depth) {
-        return share;
+        return part;
     }
-    share_at(t, h, z)
+    let group = part.group;
+    next_part(t, h, y, group, z)
 }
 
 // One row more.
@@ -80,19 +94,20 @@ pub fn enter(
     head: RowHead,
     results: [Finding; 3],
 ) -> Running
-    requires { ⌜ Ready h (now t) × (at ≡ draughts (h .deepest) (h .light)) × Stood h (stands (s .standing) head) × Given results × (s .share ≡ shareAt h (s .standing)) × Within (2 ^ 61) (s .sums) ⌝ }
-    ensures { λ r. ⌜ r ≡ entered h s head results ⌝ }
+    requires { ⌜ Ready h (now t) × (at ≡ draughts (h .deepest) (h .light)) × Stood h (stands (s .standing) head) × Given results × (s .part ≡ partAt h (s .standing)) × Few (s .part .group) × Within (2 ^ 61) (s .sums) ⌝ }
+    ensures { λ r. ⌜ (r ≡ entered h s head results) × Few (r .part .group) ⌝ }
 {
     let y = s.standing;
-    let last = s.share;
+    let last = s.part;
     let so_far = s.sums;
     let z = next(y, head);
-    let share = share_after(t, h, y, last, z);
+    let part = part_after(t, h, y, last, z);
+    let share = part.share;
     let adds = indices::row(share, z.below, head.height, at, head.kind, results);
     let sums = indices::sum(so_far, adds);
     Running {
         standing: z,
-        share,
+        part,
         sums,
     }
 }

@@ -8,9 +8,11 @@ ghost use Rattle.casefile.specs.Walk.{rowsFrom};
 ghost use Rattle.rows.specs.Standing.{nowhere};
 ghost use Rattle.rows.specs.Work.{sharesFrom, addsFrom, numbers};
 ghost use Rattle.rows.specs.Running.{begun, Follow, Ready};
+use super::Part;
 use super::Running;
 use super::Standing;
 use super::row::enter;
+use chances::Sums;
 use records::Ends;
 use records::Hull;
 use records::RowHead;
@@ -32,14 +34,18 @@ fn begin() -> Running
         before: 0,
         below: 0,
     };
+    let added = Ends { lower: 0, upper: 0 };
+    let taken = Ends { lower: 0, upper: 0 };
+    let group = Sums { added, taken };
     let share = Ends { lower: 0, upper: 0 };
+    let part = Part { group, share };
     let sums = Trio {
         lower: [0, 0, 0],
         upper: [0, 0, 0],
     };
     Running {
         standing,
-        share,
+        part,
         sums,
     }
 }
@@ -58,7 +64,8 @@ pub fn fill(input: &[u8], from: usize, rows: usize, h: Hull, t: &[u64], sheet: &
         let head = p.head;
         let results = p.results;
         s = enter(t, h, at, s, head, results);
-        let share = s.share;
+        let part = s.part;
+        let share = part.share;
         let k = 2 * i;
         sheet[k] = share.lower;
         sheet[k + 1] = share.upper;

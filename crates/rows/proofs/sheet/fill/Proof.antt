@@ -34,34 +34,34 @@ enter-requires c κs =
     may-enter (r .args .h) (r .args .input .now) (r .args .from) (r .args .rows) (r .args .sheet .now) (l .loop .sheet) (l .loop .s) (l .loop .place) (l .loop .i) (l .loop .inv) (c .before .before .before .loop-test .taken) (r .pre .0) (l .before .before .three-draughts .ensures) (c .before .before .row-at .ensures) (r .pre .2)
 
 mul-k : tie.Need-mul-k Inv-loop μ-loop
-mul-k c = omega (arith, c .before .before .before .before .before .loop-test .taken, c .before .before .before .before .before .before .before .before .before .before .before .before .pre .2)
+mul-k c = omega (arith, c .before .before .before .before .before .before .loop-test .taken, c .before .before .before .before .before .before .before .before .before .before .before .before .before .pre .2)
 
 mul-sheet : tie.Need-mul-sheet Inv-loop μ-loop
-mul-sheet c = omega (arith, c .before .before .before .before .before .loop-test .taken, c .before .before .before .before .before .before .before .before .before .before .before .before .pre .2)
+mul-sheet c = omega (arith, c .before .before .before .before .before .before .loop-test .taken, c .before .before .before .before .before .before .before .before .before .before .before .before .before .pre .2)
 
 slice-write-sheet : tie.Need-slice-write-sheet Inv-loop μ-loop
-slice-write-sheet c = omega (arith, c .before .before .before .before .before .loop-test .taken, c .before .before .before .before .before .before .before .before .before .before .before .before .pre .3, c .before .before .before .before .before .before .loop .inv .long)
+slice-write-sheet c = omega (arith, c .before .before .before .before .before .before .loop-test .taken, c .before .before .before .before .before .before .before .before .before .before .before .before .before .pre .3, c .before .before .before .before .before .before .before .loop .inv .long)
 
 add-sheet : tie.Need-add-sheet Inv-loop μ-loop
-add-sheet c = omega (arith, c .before .before .before .before .before .loop-test .taken, c .before .before .before .before .before .before .before .before .before .before .before .before .pre .2)
+add-sheet c = omega (arith, c .before .before .before .before .before .before .loop-test .taken, c .before .before .before .before .before .before .before .before .before .before .before .before .before .pre .2)
 
 mul-sheet-2 : tie.Need-mul-sheet-2 Inv-loop μ-loop
-mul-sheet-2 c = omega (arith, c .before .before .before .before .before .loop-test .taken, c .before .before .before .before .before .before .before .before .before .before .before .before .pre .2)
+mul-sheet-2 c = omega (arith, c .before .before .before .before .before .before .loop-test .taken, c .before .before .before .before .before .before .before .before .before .before .before .before .before .pre .2)
 
 slice-write-sheet-2 : tie.Need-slice-write-sheet-2 Inv-loop μ-loop
-slice-write-sheet-2 c = lt-length-set (c .before .before .before .before .before .before .loop .sheet) _ _ (omega (arith, c .before .before .before .before .before .loop-test .taken, c .before .before .before .before .before .before .before .before .before .before .before .before .pre .3, c .before .before .before .before .before .before .loop .inv .long))
+slice-write-sheet-2 c = lt-length-set (c .before .before .before .before .before .before .before .loop .sheet) _ _ (omega (arith, c .before .before .before .before .before .before .loop-test .taken, c .before .before .before .before .before .before .before .before .before .before .before .before .before .pre .3, c .before .before .before .before .before .before .before .loop .inv .long))
 
 add-i : tie.Need-add-i Inv-loop μ-loop
-add-i c = omega (arith, c .before .before .before .before .before .loop-test .taken, c .before .before .before .before .before .before .before .before .before .before .before .before .pre .2)
+add-i c = omega (arith, c .before .before .before .before .before .before .loop-test .taken, c .before .before .before .before .before .before .before .before .before .before .before .before .before .pre .2)
 
 loop-less : tie.Need-loop-less Inv-loop μ-loop
-loop-less c = omega (arith, c .before .before .before .before .before .loop-test .taken)
+loop-less c = omega (arith, c .before .before .before .before .before .before .loop-test .taken)
 
 loop-again : tie.Need-loop-again Inv-loop μ-loop
 loop-again c =
-    let r = c .before .before .before .before .before .before .before .before .before .before .before .before in
-    let l = c .before .before .before .before .before .before in
-    goes-on (r .args .h) (r .args .input .now) (r .args .from) (r .args .rows) (r .args .sheet .now) (l .loop .sheet) (l .loop .s) (l .loop .place) (l .loop .i) (l .loop .inv) (c .before .before .before .before .before .loop-test .taken) (r .pre .0 .shares) (c .before .before .before .before .row-at .ensures) (c .before .enter .ensures) refl
+    let r = c .before .before .before .before .before .before .before .before .before .before .before .before .before in
+    let l = c .before .before .before .before .before .before .before in
+    goes-on (r .args .h) (r .args .input .now) (r .args .from) (r .args .rows) (r .args .sheet .now) (l .loop .sheet) (l .loop .s) (l .loop .place) (l .loop .i) (l .loop .inv) (c .before .before .before .before .before .before .loop-test .taken) (r .pre .0 .shares) (c .before .before .before .before .before .row-at .ensures) (c .before .before .enter .ensures .0) (c .before .before .enter .ensures .1) refl
 
 same-length : tie.Need-same-length Inv-loop μ-loop
 same-length c = c .before .before .loop .inv .long

@@ -1,18 +1,15 @@
--- A byte by its value as a digit, 16 where it is none, and a pair by the values of its two. Assumes nothing.
-use Prim.Native.Nat.{ℕ, _+_, _-_, _*_, _%_, _≤_, _<_}
+-- A byte by its value as a digit, 16 where it is none. Assumes nothing.
+use Prim.Native.Nat.{ℕ, _-_, _%_, _≤_, _<_}
 use mathlib.Core.Path.{_≡_, refl}
 use mathlib.Core.Bool.{Bool, true, false, cond, not, _&&_}
-use mathlib.Core.Logic.{_⊎_, inl, inr}
 use native.Mathlib.Omega.{arith}
-use lib.Dec.{leb, ltb, eqb}
-use borrow.Author.Tests.{leb-true, ltb-true, ltb-false, le-leb, lt-leb, ne-eqb}
-use Rattle.laws.proofs.Tests.{both, one-fails}
+use lib.Dec.{leb, eqb}
+use borrow.Author.Tests.{leb-true, le-leb, lt-leb, ne-eqb}
+use Rattle.laws.proofs.Tests.{both}
 use Rattle.frames.specs.declared.Digit.{Digit}
 use Rattle.frames.specs.declared.Digit.the-variants.{Value, Bad}
-use Rattle.frames.specs.Hex.{digitOf, refusalOf, valueOf, markOf, joined, pairOf}
+use Rattle.frames.specs.Hex.{digitOf, refusalOf, valueOf, markOf}
 use Rattle.frames.proofs.Hex.{digit-below}
-
--- ---- a byte by its value as a digit
 
 -- a byte that a range has, or lies below or above
 module _ (low high b v : ℕ) where
@@ -58,33 +55,3 @@ module _ (b m : ℕ) (e : m ≡ markOf (digitOf b)) where
 
   pub mark-counts : m % 16 ≡ valueOf (digitOf b)
   mark-counts = by-digit (digitOf b) (digit-below b) e .1
-
--- ---- a pair by its digits' values
-
-marked-pair : (d e : Digit) → markOf d < 16 → markOf e < 16 → Value (markOf d * 16 + markOf e) ≡ joined d e
-marked-pair (Value h) (Value l) p q = refl
-marked-pair (Value h) Bad p q = absurd (omega (arith, q))
-marked-pair Bad e p q = absurd (omega (arith, p))
-
-marked-none : (d e : Digit) → ((v : ℕ) → d ≡ Value v → v < 16) → ((v : ℕ) → e ≡ Value v → v < 16) → (ltb (markOf d) 16 && ltb (markOf e) 16) ≡ false → Bad ≡ joined d e
-marked-none (Value h) (Value l) p q t = absurd (one-way (one-fails (ltb h 16) (ltb l 16) t))
-  where
-    one-way : ((ltb h 16 ≡ false) ⊎ (ltb l 16 ≡ false)) → ⊥
-    one-way (inl f) = omega (arith, ltb-false h 16 f, p h refl)
-    one-way (inr f) = omega (arith, ltb-false l 16 f, q l refl)
-marked-none (Value h) Bad p q t = refl
-marked-none Bad e p q t = refl
-
-module _ (a b h l : ℕ) (e : h ≡ markOf (digitOf a)) (f : l ≡ markOf (digitOf b)) where
-  pub pair-value : (ltb h 16 && ltb l 16) ≡ true → Value (h * 16 + l) ≡ pairOf a b
-  unfolding pairOf
-  pair-value t =
-      let (p, q) = both (ltb h 16) (ltb l 16) t in
-      rw (e, f) (marked-pair (digitOf a) (digitOf b) (rw e at (ltb-true h 16 p)) (rw f at (ltb-true l 16 q)))
-
-  pub pair-none : (ltb h 16 && ltb l 16) ≡ false → Bad ≡ pairOf a b
-  unfolding pairOf
-  pair-none t = marked-none (digitOf a) (digitOf b) (digit-below a) (digit-below b) (rw (e, f) at t)
-
-pub both-small : (h l : ℕ) → (ltb h 16 && ltb l 16) ≡ true → (h < 16) × (l < 16)
-both-small h l t = let (p, q) = both (ltb h 16) (ltb l 16) t in (ltb-true h 16 p, ltb-true l 16 q)

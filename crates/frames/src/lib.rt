@@ -5,7 +5,7 @@ ghost use Prim.Native.Nat.{_-_, _*_, _≤_, _<_, min};
 ghost use lib.Dec.{leb};
 ghost use lib.ListN.{length, take, drop};
 ghost use lib.Seq.{sets};
-ghost use Rattle.frames.specs.Hex.{digitOf, markOf, pairOf, digitsOnly, bytesOf};
+ghost use Rattle.frames.specs.Hex.{digitOf, markOf, digitsOnly, bytesOf};
 ghost use Rattle.frames.specs.Decoding.{writtenOf};
 ghost use Rattle.frames.specs.Fields.{byteAt, wordAt};
 
@@ -48,18 +48,6 @@ fn value_of(b: u8) -> u8
     let decimal = decimal_of(b);
     let letter = letter_of(b);
     if decimal < 16 { decimal } else { letter }
-}
-
-// The byte that two digits write, the high one first.
-pub fn pair_of(high: u8, low: u8) -> Digit
-    ensures { λ r. ⌜ r ≡ pairOf high low ⌝ }
-{
-    let h = value_of(high);
-    let l = value_of(low);
-    if (h < 16) & (l < 16) {
-        return Digit::Value(h * 16 + l);
-    }
-    Digit::Bad
 }
 
 // Writes the bytes of the first m pairs to the front of the buffer, and says whether one of their digits is none. Each turn does the same

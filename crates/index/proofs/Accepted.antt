@@ -42,6 +42,8 @@ use Rattle.rows.specs.Running.{Stood, Follow, Ready}
 use Rattle.rows.proofs.InTurn.{length-rows}
 use Rattle.index.specs.Answer.{partialsOf, figures, answer, shares, caseIn, refusal, answered, sheetAfter}
 use Rattle.index.proofs.ValidCase.{hulled, rows-follow}
+-- checked first, so that a definition that gives another number is refused there
+use Rattle.index.proofs.Values.{figures-are}
 
 -- ---- a hull's rows have shares of at most one
 

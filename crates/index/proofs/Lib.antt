@@ -1,3 +1,4 @@
+pub mod Values
 pub mod ValidCase
 pub mod Accepted
 pub mod Reported

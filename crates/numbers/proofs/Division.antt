@@ -45,17 +45,28 @@ module _ {n d : ℕ} {q : Quotient} where
       let above = above-ceil n d (q .whole) hd .1 (omega (arith, p .number)) in
       omega arith
 
--- the next step fits where `by` times d and `by` times one more than the steps so far do
+-- the next step fits where `by` times d and `by` times one more than the most of the quotient do
+pub ready-below : (m : ℕ) (q : Quotient) {d by : ℕ}
+    → (dividend q d ≤ m * d) × (q .rest < d) × (by * d < 2 ^ 64) × (by * (m + 1) < 2 ^ 64)
+    → Carries q d by
+ready-below m q {d} {by} h =
+    let top : q .whole ≤ m = le-of-mul-le-mul-right {k = d} (omega (arith, h .0)) (omega (arith, h .1)) in
+    record {
+      small = h .1;
+      rest-fits = omega (arith, mul-le-mul-left by (le-of-lt (h .1)));
+      whole-fits = omega (arith, mul-le-mul-left by top);
+    }
+
+-- after steps that make s, of a fraction that is at most one
 pub ready : (s n : ℕ) (q : Quotient) {d by : ℕ}
     → (n ≤ d) × (dividend q d ≡ s * n) × (q .rest < d) × (by * d < 2 ^ 64) × (by * (s + 1) < 2 ^ 64)
     → Carries q d by
-ready s n q {d} {by} h =
-    let top : q .whole ≤ s = at-most s (h .0) (record { number = h .1; small = h .2 }) in
-    record {
-      small = h .2;
-      rest-fits = omega (arith, mul-le-mul-left by (le-of-lt (h .2)));
-      whole-fits = omega (arith, mul-le-mul-left by top);
-    }
+ready s n q h = ready-below s q (omega (arith, mul-le-mul-left s (h .0), h .1), h .2, h .3, h .4)
+
+-- by so many hundreds: the same quotient, and a rest of hundreds
+pub hundreds : (n : ℕ) {d e : ℕ} (q : Quotient) → d ≡ 100 * e → Division (10 ^ 7 * n) e q
+    → Division (10 ^ 9 * n) d (record { whole = q .whole; rest = 100 * q .rest })
+hundreds n q i p = record { number = rw i (omega (arith, p .number)); small = rw i (omega (arith, p .small)) }
 
 -- the machine's quotient, and one more where it leaves a rest
 pub up-by-rest : (n d : ℕ) {u : ℕ} → 0 < d → u ≡ cond (leb (n % d) 0) 0 1 → (n / d + u ≡ ceil n d) × (n / d + u ≤ n)

@@ -2,7 +2,7 @@
 use records::Ends;
 ghost use mathlib.Core.Path.{_≡_};
 ghost use mathlib.Core.Bool.{cond};
-ghost use Prim.Native.Nat.{_+_, _-_, _*_, _^_, _≤_, _<_};
+ghost use Prim.Native.Nat.{_+_, _-_, _*_, _%_, _^_, _≤_, _<_};
 ghost use lib.Dec.{leb};
 ghost use Rattle.laws.specs.Rounding.{ceil};
 ghost use Rattle.numbers.specs.Division.{Division, Carries, dividend};
@@ -116,6 +116,21 @@ fn in_six_steps(n: u64, d: u64) -> Quotient
     carried(five, d, 25)
 }
 
+// 10⁹ over so many hundreds, as the divisors of the middle band are, is 10⁷ over as many ones: steps of 4,000 and 2,500.
+fn by_hundreds(n: u64, d: u64) -> Quotient
+    requires { ⌜ Proper n d × (d % 100 ≡ 0) ⌝ }
+    ensures { λ r. ⌜ Division (10 ^ 9 * n) d r ⌝ }
+{
+    let e = d / 100;
+    let one = divided(n, e);
+    let two = carried(one, e, 4_000);
+    let three = carried(two, e, 2_500);
+    Quotient {
+        whole: three.whole,
+        rest: 100 * three.rest,
+    }
+}
+
 // The narrower the divisor, the fewer steps.
 fn billionfold(n: u64, d: u64) -> Quotient
     requires { ⌜ Proper n d ⌝ }
@@ -129,6 +144,9 @@ fn billionfold(n: u64, d: u64) -> Quotient
     }
     if d <= THREE_STEPS {
         return carried(carried(divided(1_000 * n, d), d, 1_000), d, 1_000);
+    }
+    if d % 100 == 0 {
+        return by_hundreds(n, d);
     }
     in_six_steps(n, d)
 }

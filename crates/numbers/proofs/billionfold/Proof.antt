@@ -41,11 +41,17 @@ carried-requires-3 c κs = ready 1000000 (c .before .before .before .before .bef
 returns-3 : tie.Need-returns-3
 returns-3 c = search needs
 
-in-six-steps-requires : tie.Need-in-six-steps-requires
-in-six-steps-requires c κs = search needs
+by-hundreds-requires : tie.Need-by-hundreds-requires
+by-hundreds-requires c κs = search needs
 
 returns-4 : tie.Need-returns-4
 returns-4 c = search needs
+
+in-six-steps-requires : tie.Need-in-six-steps-requires
+in-six-steps-requires c κs = search needs
+
+returns-5 : tie.Need-returns-5
+returns-5 c = search needs
 
 pub billionfold-spec : {M : Type 1} → statement M
 billionfold-spec =
@@ -63,5 +69,7 @@ billionfold-spec =
     carried-requires-2
     carried-requires-3
     returns-3
+    by-hundreds-requires
+    returns-4
     in-six-steps-requires
-    returns-4)
+    returns-5)

@@ -2,12 +2,13 @@
 use mathlib.Core.Path.{_≡_, refl}
 use mathlib.Core.List.{List, [], _∷_}
 use mathlib.Core.Logic.{_⊎_, inl, inr, ⊎-elim}
+use Rattle.laws.specs.Lists.{Every}
 use Rattle.laws.specs.Sums.{last, Linked}
 use Rattle.records.specs.declared.Hull.{Hull}
 use Rattle.records.specs.declared.RowHead.{RowHead}
 use Rattle.casefile.specs.Record.{Row}
 use Rattle.casefile.specs.Reading.{start}
-use Rattle.casefile.specs.Valid.{Every, ClosesGroup, Follows, Ordered}
+use Rattle.casefile.specs.Valid.{ClosesGroup, Follows, Ordered}
 
 -- each row may follow the one before it, of which there may be none, and the last closes its group
 abbrev pub OrderedFrom : Hull → RowHead → List Row → Type 0

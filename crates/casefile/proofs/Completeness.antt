@@ -8,6 +8,7 @@ use native.Mathlib.Nat.{add-zero, zero-add}
 use native.Mathlib.Omega.{arith}
 use lib.ListN.{length}
 use borrow.Author.Tests.{eq-eqb, le-ltb}
+use Rattle.laws.specs.Lists.{Every}
 use Rattle.laws.specs.Bytes.{Octets, bytes}
 use Rattle.laws.proofs.Tests.{holds}
 use Rattle.records.specs.declared.Hull.{Hull}
@@ -23,7 +24,7 @@ use Rattle.casefile.specs.Order.{outOfOrder, leavesOpen, endsOpen}
 use Rattle.casefile.specs.Table.{firstHolds, wrongHullFrame, wrongFrame, wrongZones, hullChecks, lineChecks}
 use Rattle.casefile.specs.Reading.{accepted, begin, inside, start, withRow, before, readFrom, reading}
 use Rattle.casefile.specs.Encode.{rowLines, encode}
-use Rattle.casefile.specs.Valid.{Every, ClosesGroup, Follows, ValidHull, ValidRow, Valid}
+use Rattle.casefile.specs.Valid.{ClosesGroup, Follows, ValidHull, ValidRow, Valid}
 use Rattle.casefile.proofs.Checks.{hull-passed, row-line-passes, end-line-passes}
 use Rattle.casefile.proofs.Steps.{not-too-long, line-passes, row-passes-on, end-passes-on}
 use Rattle.casefile.proofs.Limits.{Sizes, Zones, sizes-are, zones-are}

@@ -8,7 +8,7 @@ use native.Mathlib.Omega.{arith}
 use lib.Dec.{eqb, lit<}
 use lib.ListN.{length, getD}
 use borrow.Author.Tests.{eqb-true}
-use Rattle.laws.specs.Lists.{tabulate}
+use Rattle.laws.specs.Lists.{Every, tabulate}
 use Rattle.laws.specs.Bytes.{Octets, bytes}
 use Rattle.laws.proofs.Lists.{tabulate-places}
 use Rattle.laws.proofs.Bytes.{octets-cons, octets-append, two-bytes, bytes-octets}
@@ -19,7 +19,7 @@ use Rattle.records.specs.declared.Hull.{Hull}
 use Rattle.frames.specs.Fields.{wordAt}
 use Rattle.casefile.specs.Record.{Row}
 use Rattle.casefile.specs.Limits.{rowFits}
-use Rattle.casefile.specs.Valid.{Every, Formed, found, given, ValidRow}
+use Rattle.casefile.specs.Valid.{Formed, found, given, ValidRow}
 use Rattle.casefile.proofs.Words.{words-octets}
 use Rattle.casefile.proofs.Limits.{Sizes, Zones, Head, Found, row-is}
 use Rattle.casefile.specs.Layout.{kindOf, fieldsOf, isRow, isEnd, frameLength, headOf, findingOf, resultsOf, rowOf, countOf, words, findingBytes, resultsBytes, rowBytes, endBytes}

@@ -9,6 +9,7 @@ use native.Mathlib.Omega.{arith}
 use lib.Dec.{ltb, eqb}
 use lib.ListN.{length}
 use borrow.Author.Tests.{eqb-true, eqb-false, ltb-true, ltb-false}
+use Rattle.laws.specs.Lists.{Every}
 use Rattle.records.specs.declared.Hull.{Hull}
 use Rattle.lines.specs.Lines.{Line, lines}
 use Rattle.lines.proofs.Lines.{written, together, together-lines}
@@ -21,7 +22,7 @@ use Rattle.casefile.specs.Order.{outOfOrder, leavesOpen, endsOpen}
 use Rattle.casefile.specs.Table.{firstHolds, lineChecks}
 use Rattle.casefile.specs.Reading.{Reading, refused, accepted, Stage, begin, inside, start, withRow, withEnd, checks, next, before, gathered, readFrom, reading}
 use Rattle.casefile.specs.Encode.{rowLines, encode}
-use Rattle.casefile.specs.Valid.{Every, ClosesGroup, Follows, ValidRow, Valid}
+use Rattle.casefile.specs.Valid.{ClosesGroup, Follows, ValidRow, Valid}
 use Rattle.casefile.proofs.Checks.{LinePasses, HullPasses, RowPasses, EndPasses, hull-passes, passes-first, line-of-row, line-of-end}
 use Rattle.casefile.proofs.Steps.{not-too-long, too-long, line-passes, line-refused}
 use Rattle.casefile.proofs.Order.{follows, end-closes}

@@ -3,11 +3,12 @@ use Prim.Native.Nat.{_/_, _<_}
 use mathlib.Core.Path.{_≡_}
 use mathlib.Core.List.{List, [], _∷_, _++_}
 use mathlib.Core.Logic.{_↔_}
+use Rattle.laws.specs.Lists.{Every}
 use Rattle.laws.specs.Sums.{last, Linked}
 use Rattle.records.specs.declared.Hull.{Hull}
 use Rattle.records.specs.declared.RowHead.{RowHead}
 use Rattle.casefile.specs.Record.{Row}
-use Rattle.casefile.specs.Valid.{Every, SameGroup, LaterGroup, AtTop, BelowTop, Ordered}
+use Rattle.casefile.specs.Valid.{SameGroup, LaterGroup, AtTop, BelowTop, Ordered}
 
 -- rows of one group at one b, from the lowest up
 pub record Layer : Type 0 where

@@ -5,6 +5,7 @@ use mathlib.Core.Logic.{_⊎_}
 use mathlib.Core.List.{List, [], _∷_}
 use lib.ListN.{length, getD}
 use lib.Dec.{T}
+use Rattle.laws.specs.Lists.{Every}
 use Rattle.laws.specs.Sums.{last, Linked}
 use Rattle.records.specs.declared.Hull.{Hull}
 use Rattle.records.specs.declared.Finding.{Finding}
@@ -13,10 +14,6 @@ use Rattle.casefile.specs.Record.{Row, Case}
 use Rattle.casefile.specs.Layout.{placesOf}
 use Rattle.casefile.specs.Limits.{mostRows, sizesFit, zonesFit, rowFits}
 use Rattle.casefile.specs.Order.{top}
-
-abbrev pub Every : {A : Type 0} → (A → Type 0) → List A → Type 0
-Every P [] = Unit {0}
-Every P (x ∷ xs) = P x × Every P xs
 
 -- ---- the hull
 

@@ -4,6 +4,7 @@ use Prim.Native.Nat.{ℕ, zero, suc, _*_, _^_, _≤_, _<_}
 use native.Mathlib.Omega.{arith}
 use Rattle.records.specs.declared.Ends.{Ends}
 use Rattle.solas.specs.Ship.{Ship}
+use Rattle.penetration.proofs.Reached.{depths}
 use Rattle.penetration.specs.declared.Layer.{Layer}
 use Rattle.spans.specs.declared.SpanEnds.{SpanEnds}
 use Rattle.spans.specs.Rounded.{Probable}
@@ -43,9 +44,6 @@ at-none s b a e z = (none-is s b a e z, record { ordered = omega arith; at-most-
 -- ---- from P, G and C
 
 module _ {L B aft fwd : ℕ} {s : SpanEnds} {y : Layer} (r : Reached L B aft fwd (s .inner) y) (p : s .chance ≡ PEnds L aft fwd) where
-  depths : (1 ≤ B) × (B ≤ 6000) × (2 * y .depth ≤ B)
-  depths = (r .broad, r .narrow, r .deep)
-
   c-is : y .c ≡ c B (y .depth)
   unfolding layerOf
   c-is = ap (λ z. z .c) (r .layer)
@@ -57,8 +55,8 @@ module _ {L B aft fwd : ℕ} {s : SpanEnds} {y : Layer} (r : Reached L B aft fwd
   weights : (0 < y .d) × (y .c ≤ y .d) × (y .d ≤ 10 ^ 9)
   unfolding d
   weights =
-      let q = C-at-most-one B (y .depth) depths in
-      let n = products B (y .depth) depths in
+      let q = C-at-most-one B (y .depth) (depths r) in
+      let n = products B (y .depth) (depths r) in
       rw (c-is, d-is) (q .0, q .1, rw (pow-two B) (omega arith))
 
   chance-fits : Probable (s .chance)
@@ -66,7 +64,7 @@ module _ {L B aft fwd : ℕ} {s : SpanEnds} {y : Layer} (r : Reached L B aft fwd
 
   module _ {g : Ends} (e : g ≡ GEnds L B aft fwd (y .depth)) where
     g-fits : Probable g
-    g-fits = rw e (G-probable L aft fwd (r .long) (r .short) (r .within) B (y .depth) depths)
+    g-fits = rw e (G-probable L aft fwd (r .long) (r .short) (r .within) B (y .depth) (depths r))
 
     pub mixes : (0 < y .d) × (y .c ≤ y .d) × (y .d ≤ 10 ^ 9) × Probable (s .chance) × Probable g
     mixes = let w = weights in (w .0, w .1, w .2, chance-fits, g-fits)
@@ -79,5 +77,5 @@ module _ {L B aft fwd : ℕ} {s : SpanEnds} {y : Layer} (r : Reached L B aft fwd
         (q ≡ across L B (y .depth) aft fwd) × Probable q
     at-some n f = (
       rw (f, q-is) (some-is (alone L B aft fwd) (y .depth) 1 1 n),
-      rw (f, q-is) (Q-probable L aft fwd (r .long) (r .short) (r .within) B (y .depth) depths),
+      rw (f, q-is) (Q-probable L aft fwd (r .long) (r .short) (r .within) B (y .depth) (depths r)),
     )

@@ -9,6 +9,7 @@ use native.Mathlib.Omega.{arith}
 use lib.Dec.{eqb}
 use lib.ListN.{getD}
 use borrow.Author.Tests.{eqb-true, eqb-false}
+use Rattle.laws.specs.Lists.{Every}
 use Rattle.laws.specs.Sums.{Linked}
 use Rattle.laws.proofs.Tests.{both, holds}
 use Rattle.records.specs.declared.Hull.{Hull}
@@ -18,7 +19,7 @@ use Rattle.spans.specs.Hull.{Hulled}
 use Rattle.survival.specs.Survival.{nothing}
 use Rattle.casefile.specs.Record.{Row, Case}
 use Rattle.casefile.specs.Limits.{sizesFit, zonesFit, rowFits}
-use Rattle.casefile.specs.Valid.{Every, ValidHull, ValidRow, Ordered, Valid, Follows, higher, deeper, later}
+use Rattle.casefile.specs.Valid.{ValidHull, ValidRow, Ordered, Valid, Follows, higher, deeper, later}
 use Rattle.casefile.proofs.Limits.{sizes-are, zones-are, rising-step, Head, Found, row-is}
 use Rattle.rows.specs.declared.Standing.{Standing}
 use Rattle.rows.specs.Standing.{nowhere, stands}

@@ -5,6 +5,7 @@ use native.Mathlib.Nat.{le-trans, div-mul-le-self, le-of-mul-le-mul-right, mul-l
 use native.Mathlib.Omega.{arith}
 use lib.Dec.{lit<}
 use lib.ListN.{length}
+use Rattle.laws.specs.Lists.{Every}
 use Rattle.laws.specs.Sums.{sumOf}
 use Rattle.laws.proofs.Rounding.{floor-upper, ceil-upper, ends-apart}
 use Rattle.records.specs.declared.Ends.{Ends}
@@ -12,7 +13,7 @@ use Rattle.records.specs.declared.Survival.{Survival}
 use Rattle.records.specs.declared.Trio.{Trio}
 use Rattle.survival.specs.Survival.{ends}
 use Rattle.indices.specs.Index.{scale, at, addsOf, attainedOf}
-use Rattle.indices.specs.Exact.{RowAt, Close, Every, rowEnds, partialEnds, partialsOf}
+use Rattle.indices.specs.Exact.{RowAt, Close, rowEnds, partialEnds, partialsOf}
 use Rattle.indices.specs.Promises.{AtMostOne, PartialWidth, PartialAtMost, AttainedWidth}
 use Rattle.survival.proofs.Bounds.{ends-near, ends-ordered, ends-at-most}
 

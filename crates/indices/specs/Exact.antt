@@ -28,10 +28,6 @@ pub record Close (w : ℕ) (r : RowAt) : Type 0 where
   pub height : r .v ≤ 916500
   pub factor : Sensible (r .factor)
 
-abbrev pub Every : {A : Type 0} → (A → Type 0) → List A → Type 0
-Every P [] = Unit {0}
-Every P (x ∷ xs) = P x × Every P xs
-
 -- one for each, in turn
 abbrev pub Each : {A B : Type 0} → (A → B → Type 0) → List A → List B → Type 0
 Each P [] [] = Unit {0}

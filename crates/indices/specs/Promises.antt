@@ -3,11 +3,12 @@ use Prim.Native.Nat.{ℕ, _+_, _*_, _^_, _≤_}
 use mathlib.Core.Path.{_≡_}
 use mathlib.Core.List.{List, map}
 use lib.ListN.{length}
+use Rattle.laws.specs.Lists.{Every}
 use Rattle.laws.specs.Fraction.{Fraction, _≼_}
 use Rattle.laws.specs.Sums.{sumOf}
 use Rattle.numbers.specs.Figures.{billionths}
 use Rattle.indices.specs.Index.{partials, attainedOf}
-use Rattle.indices.specs.Exact.{RowAt, Sound, Close, Every, NoneAbove, NoneBelow, weightedSum, partialEnds, Thrice, AtAll, AtEach, partialsOf, exactA, Row, rowsAt, rowTrio}
+use Rattle.indices.specs.Exact.{RowAt, Sound, Close, NoneAbove, NoneBelow, weightedSum, partialEnds, Thrice, AtAll, AtEach, partialsOf, exactA, Row, rowsAt, rowTrio}
 
 -- ---- the ends enclose: "where no fourth power is above its row's s⁴, the fractions weighted by exact share and v sum to no more than the upper end"
 abbrev pub NoMoreThanUpper : Type 0

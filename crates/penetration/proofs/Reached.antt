@@ -16,7 +16,7 @@ use Rattle.spans.proofs.Enclosure.{p-probable}
 use Rattle.penetration.proofs.Enclosure.{G1-probable, part-probable}
 
 module _ {L B aft fwd : ℕ} {p : Ends} {y : Layer} (r : Reached L B aft fwd p y) where
-  depths : (1 ≤ B) × (B ≤ 6000) × (2 * y .depth ≤ B)
+  pub depths : (1 ≤ B) × (B ≤ 6000) × (2 * y .depth ≤ B)
   depths = (r .broad, r .narrow, r .deep)
 
   span : fwd - aft ≤ L

@@ -4,6 +4,7 @@ use mathlib.Core.Path.{_≡_, refl, ap, _∙_}
 use mathlib.Core.List.{List, [], _∷_, map}
 use native.Mathlib.Omega.{arith}
 use lib.ListN.{length, getD}
+use Rattle.laws.specs.Lists.{Every}
 use Rattle.records.specs.declared.Finding.{Finding}
 use Rattle.records.specs.declared.Hull.{Hull}
 use Rattle.solas.specs.Index.{draughts}
@@ -16,7 +17,7 @@ use Rattle.heights.specs.Height.{rowVs}
 use Rattle.survival.specs.Survival.{Sensible, given, factorsOf, survivalsOf}
 use Rattle.indices.specs.Index.{Given, partials}
 use Rattle.indices.specs.Exact as exact
-use Rattle.indices.specs.Exact.{Sound, Close, Every, AtAll, rowAt, rowTrio}
+use Rattle.indices.specs.Exact.{Sound, Close, AtAll, rowAt, rowTrio}
 use Rattle.survival.proofs.Factors.{found-sensible}
 use Rattle.indices.proofs.Sums.{sums-are-these}
 use Rattle.casefile.specs.Record.{Row, Case}

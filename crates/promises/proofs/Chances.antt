@@ -7,6 +7,7 @@ use native.Mathlib.Nat.{mul-pos, le-of-eq, le-refl}
 use native.Mathlib.Omega.{arith}
 use lib.Dec.{lit<}
 use lib.ListN.{getD}
+use Rattle.laws.specs.Lists.{Every}
 use Rattle.laws.specs.Fraction.{whole, Is, _≈_, _≼_, total}
 use Rattle.laws.specs.Sums.{sumOf}
 use Rattle.laws.proofs.Choice.{split}
@@ -25,7 +26,7 @@ use Rattle.heights.specs.Height.{rowVs}
 use Rattle.indices.specs.Exact.{weight, rowAt, AtAll}
 use Rattle.casefile.specs.Record.{Row, Case}
 use Rattle.casefile.specs.Limits.{sizesFit}
-use Rattle.casefile.specs.Valid.{Every, Valid}
+use Rattle.casefile.specs.Valid.{Valid}
 use Rattle.casefile.proofs.Limits.{Sizes, sizes-are}
 use Rattle.rows.specs.declared.Standing.{Standing}
 use Rattle.rows.specs.Standing.{nowhere, stands}

@@ -8,6 +8,7 @@ use native.Mathlib.Omega.{arith}
 use lib.Dec.{ltb, ltb→lt}
 use lib.ListN.{length}
 use borrow.Author.Tests.{le-ltb}
+use Rattle.laws.specs.Lists.{Every}
 use Rattle.laws.specs.Fraction.{whole, _≼_}
 use Rattle.laws.proofs.Table.{member-passes}
 use Rattle.records.specs.declared.Ends.{Ends}
@@ -15,7 +16,7 @@ use Rattle.records.specs.declared.Hull.{Hull}
 use Rattle.lines.proofs.Lines.{lines-few}
 use Rattle.indices.specs.Index.{at, attainedOf, weighed, Share}
 use Rattle.indices.specs.Exact as exact
-use Rattle.indices.specs.Exact.{RowAt, Every, Close, partialEnds}
+use Rattle.indices.specs.Exact.{RowAt, Close, partialEnds}
 use Rattle.indices.proofs.Width.{partial-at-most}
 use Rattle.casefile.specs.Record.{Row, Case}
 use Rattle.casefile.specs.Valid.{Valid}

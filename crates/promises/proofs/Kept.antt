@@ -7,6 +7,7 @@ use mathlib.Core.Logic.{_⊎_, inl, inr}
 use native.Mathlib.Omega.{arith}
 use lib.Dec.{ltb}
 use lib.ListN.{length}
+use Rattle.laws.specs.Lists.{Every}
 use Rattle.laws.specs.Fraction.{Fraction}
 use Rattle.laws.specs.Rounding.{ceil}
 use Rattle.records.specs.declared.Answer.{Answer}
@@ -18,7 +19,7 @@ use Rattle.survival.specs.Ratio.{ratioOf}
 use Rattle.indices.specs.Index.{attainedOf}
 use Rattle.verdicts.specs.Verdict.{allReach, verdictOf}
 use Rattle.indices.specs.Exact as exact
-use Rattle.indices.specs.Exact.{RowAt, Close, Every, Thrice, AtAll, partialEnds}
+use Rattle.indices.specs.Exact.{RowAt, Close, Thrice, AtAll, partialEnds}
 use Rattle.indices.specs.Promises.{AtMostOne}
 use Rattle.indices.proofs.Enclosure.{no-more-than-upper, no-less-than-lower, attained-no-more, attained-no-less}
 use Rattle.indices.proofs.Width.{partial-width, attained-width}

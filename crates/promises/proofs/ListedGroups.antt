@@ -8,6 +8,7 @@ use mathlib.Core.Logic.{_↔_}
 use native.Mathlib.Omega.{arith}
 use lib.Dec.{eqb}
 use borrow.Author.Tests.{eqb-true}
+use Rattle.laws.specs.Lists.{Every}
 use Rattle.laws.specs.Sums.{sumOf, Rising}
 use Rattle.laws.proofs.Listed.{listed-not-above, listed-equal}
 use Rattle.laws.proofs.Tests.{both, holds}
@@ -19,7 +20,7 @@ use Rattle.spans.specs.Hull.{shipOf}
 use Rattle.casefile.specs.Record.{Row}
 use Rattle.casefile.specs.Limits.{rowFits}
 use Rattle.casefile.specs.Order.{sameGroup}
-use Rattle.casefile.specs.Valid.{Every, SameGroup, Follows, higher, deeper, later, ValidRow, Ordered}
+use Rattle.casefile.specs.Valid.{SameGroup, Follows, higher, deeper, later, ValidRow, Ordered}
 use Rattle.casefile.proofs.Limits.{row-is}
 use Rattle.casefile.proofs.Groups.{After, after-linked}
 use Rattle.promises.proofs.Numbered.{place, place-below, place-rises, place-tells, byPlace, all-places, at-place, has-place}

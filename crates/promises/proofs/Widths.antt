@@ -4,6 +4,7 @@ use mathlib.Core.List.{List, [], _∷_}
 use native.Mathlib.Nat.{le-of-mul-le-mul-right, div-mul-le-self, mul-le-mul, mul-le-mul-right}
 use native.Mathlib.Omega.{arith}
 use lib.Dec.{lit<}
+use Rattle.laws.specs.Lists.{Every}
 use Rattle.laws.specs.Fraction.{Fraction, _over_, whole, _≈_, _≼_, _⊛_, total}
 use Rattle.laws.specs.Rounding.{ceil}
 use Rattle.laws.specs.Sums.{sumOf}
@@ -14,7 +15,7 @@ use Rattle.numbers.specs.Figures.{billionths, Between}
 use Rattle.records.specs.declared.Ends.{Ends}
 use Rattle.survival.specs.Survival.{ends}
 use Rattle.indices.specs.Index.{scale, addsOf, attainedOf, weighed}
-use Rattle.indices.specs.Exact.{RowAt, Sound, Every, weight, rowEnds, partialEnds, Thrice, AtAll, partialsOf}
+use Rattle.indices.specs.Exact.{RowAt, Sound, weight, rowEnds, partialEnds, Thrice, AtAll, partialsOf}
 use Rattle.indices.specs.Promises.{AtMostOne}
 use Rattle.survival.proofs.Bounds.{ends-ordered}
 use Rattle.promises.specs.Rows.{chances}

@@ -3,13 +3,14 @@ use Prim.Native.Nat.{ℕ}
 use mathlib.Core.Path.{_≡_}
 use mathlib.Core.List.{List}
 use mathlib.Core.Logic.{_↔_}
+use Rattle.laws.specs.Lists.{Every}
 use Rattle.laws.specs.Fraction.{Fraction, whole, _≼_, _≺_}
 use Rattle.numbers.specs.Figures.{billionths}
 use Rattle.records.specs.declared.Ends.{Ends}
 use Rattle.records.specs.declared.Trio.{Trio}
 use Rattle.survival.specs.Ratio.{ratioOf}
 use Rattle.indices.specs.Index.{at, attainedOf}
-use Rattle.indices.specs.Exact.{RowAt, Sound, Every, NoneAbove, NoneBelow, weightedSum, Thrice, AtAll, AtEach, partialsOf, exactA}
+use Rattle.indices.specs.Exact.{RowAt, Sound, NoneAbove, NoneBelow, weightedSum, Thrice, AtAll, AtEach, partialsOf, exactA}
 use Rattle.verdicts.specs.Verdict.{verdictOf}
 
 -- ---- the four figures: A and the three partial indices

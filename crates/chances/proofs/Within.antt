@@ -4,7 +4,6 @@ use Prim.Native.Nat.{ℕ, zero, suc, _*_, _^_, _≤_, _<_}
 use native.Mathlib.Omega.{arith}
 use Rattle.records.specs.declared.Ends.{Ends}
 use Rattle.solas.specs.Ship.{Ship}
-use Rattle.penetration.proofs.Reached.{depths}
 use Rattle.penetration.specs.declared.Layer.{Layer}
 use Rattle.spans.specs.declared.SpanEnds.{SpanEnds}
 use Rattle.spans.specs.Rounded.{Probable}
@@ -16,6 +15,7 @@ use Rattle.chances.specs.Share.{withinEnds}
 use Rattle.laws.proofs.Polynomial.{pow-two}
 use Rattle.penetration.proofs.Depth.{products, C-at-most-one}
 use Rattle.spans.proofs.Enclosure.{P-probable}
+use Rattle.penetration.proofs.Reached.{depths}
 use Rattle.penetration.proofs.Enclosure.{G-probable, Q-probable}
 
 -- ---- where b is 0, and where it is not

@@ -1,4 +1,4 @@
 pub mod Depth
 pub mod Enclosure
 mod Figures
-mod Reached
+pub mod Reached

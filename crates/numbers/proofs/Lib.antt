@@ -1,3 +1,3 @@
-mod Division
+pub mod Quotients
 pub mod Figures
 pub mod Values

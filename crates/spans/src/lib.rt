@@ -1,7 +1,7 @@
 // The chance of damage within a span, p and P in billionths rounded both ways, and the table of all spans of a hull's zones.
 use bands::Ratio;
 use bands::inner;
-use numbers::billionths;
+use division::billionths;
 use records::Ends;
 use records::Hull;
 ghost use mathlib.Core.Path.{_≡_};

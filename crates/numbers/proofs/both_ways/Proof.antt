@@ -3,7 +3,7 @@ use borrow.Author.Needs.{needs}
 use mathlib.Core.Path.{refl}
 use native.Mathlib.Omega.{arith}
 use Rattle.numbers.specs.Figures.{bothWays}
-use Rattle.numbers.proofs.Division.{up-by-rest}
+use Rattle.numbers.proofs.Quotients.{up-by-rest}
 use Rattle.numbers.proofs.Figures.{both}
 use Rattle.numbers.proofs.both_ways.Statement.{statement}
 use Rattle.numbers.proofs.both_ways.Tie as tie

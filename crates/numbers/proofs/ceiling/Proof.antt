@@ -1,7 +1,8 @@
 -- `numbers::ceiling` meets its contract, by the rest. Assumes nothing.
 use borrow.Author.Needs.{needs}
 use native.Mathlib.Omega.{arith}
-use Rattle.numbers.proofs.Division.{below, by-machine, up-exact, up-more}
+use native.Mathlib.Nat.{div-add-mod', mod-lt}
+use Rattle.numbers.proofs.Quotients.{below, exact-up, more-up}
 use Rattle.numbers.proofs.ceiling.Statement.{statement}
 use Rattle.numbers.proofs.ceiling.Tie as tie
 
@@ -19,10 +20,10 @@ add-result c =
     let a = c .before .args in omega (arith, below (a .n) (a .d) (c .if1 .left) (omega arith))
 
 returns : tie.Need-returns
-returns c = up-exact (c .if1 .taken) (by-machine _ _ (omega arith))
+returns c = exact-up _ (div-add-mod' _ _) (mod-lt _ (omega arith)) (c .if1 .taken)
 
 returns-2 : tie.Need-returns-2
-returns-2 c = up-more (c .if1 .left) (by-machine _ _ (omega arith))
+returns-2 c = more-up _ (div-add-mod' _ _) (mod-lt _ (omega arith)) (c .if1 .left)
 
 pub ceiling-spec : {M : Type 1} → statement M
 ceiling-spec = tie.close (tie.spec rem-if1 div-result div-result-2 add-result returns returns-2)

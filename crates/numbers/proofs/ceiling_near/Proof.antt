@@ -4,7 +4,7 @@ use native.Mathlib.Omega.{arith}
 use Prim.Native.Nat.{_+_, _≤_}
 use mathlib.Core.Path.{_≡_}
 use Rattle.laws.specs.Rounding.{ceil}
-use Rattle.numbers.proofs.Division.{up-near}
+use Rattle.numbers.proofs.Quotients.{up-near}
 use Rattle.numbers.proofs.ceiling_near.Statement.{statement}
 use Rattle.numbers.proofs.ceiling_near.Tie as tie
 

@@ -1,7 +1,7 @@
 -- Division with a rest, as the long division keeps it. Assumes nothing.
 use mathlib.Core.Path.{_≡_}
 use Prim.Native.Nat.{ℕ, _+_, _*_, _^_, _<_}
-use Rattle.numbers.specs.declared.Quotient.{Quotient}
+use Rattle.division.specs.declared.Quotient.{Quotient}
 
 -- the number whose quotient by d is q
 abbrev pub dividend : Quotient → ℕ → ℕ

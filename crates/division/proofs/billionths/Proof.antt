@@ -1,12 +1,12 @@
--- `numbers::billionths` meets its contract, by the rest of the long division. Assumes nothing.
+-- `division::billionths` meets its contract, by the rest of the long division. Assumes nothing.
 use borrow.Author.Needs.{needs}
 use Prim.Native.Nat.{_^_}
 use native.Mathlib.Omega.{arith}
 use Rattle.numbers.specs.Figures.{billionthsOf}
-use Rattle.numbers.proofs.Division.{at-most, down, up-exact, up-more}
+use Rattle.division.proofs.Division.{at-most, down, up-exact, up-more}
 use Rattle.numbers.proofs.Figures.{both}
-use Rattle.numbers.proofs.billionths.Statement.{statement}
-use Rattle.numbers.proofs.billionths.Tie as tie
+use Rattle.division.proofs.billionths.Statement.{statement}
+use Rattle.division.proofs.billionths.Tie as tie
 
 billionfold-requires : tie.Need-billionfold-requires
 billionfold-requires c κs = search needs

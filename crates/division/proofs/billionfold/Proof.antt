@@ -1,9 +1,9 @@
--- `numbers::billionfold` meets its contract, whichever steps the divisor takes. Assumes nothing.
+-- `division::billionfold` meets its contract, whichever steps the divisor takes. Assumes nothing.
 use borrow.Author.Needs.{needs}
 use native.Mathlib.Omega.{arith}
-use Rattle.numbers.proofs.Division.{ready}
-use Rattle.numbers.proofs.billionfold.Statement.{statement}
-use Rattle.numbers.proofs.billionfold.Tie as tie
+use Rattle.division.proofs.Division.{ready}
+use Rattle.division.proofs.billionfold.Statement.{statement}
+use Rattle.division.proofs.billionfold.Tie as tie
 
 mul-divided : tie.Need-mul-divided
 mul-divided c = search needs

@@ -1,9 +1,9 @@
--- `numbers::in_six_steps` meets its contract: after each step the quotient is at most the product of the steps so far. Assumes nothing.
+-- `division::in_six_steps` meets its contract: after each step the quotient is at most the product of the steps so far. Assumes nothing.
 use borrow.Author.Needs.{needs}
 use native.Mathlib.Omega.{arith}
-use Rattle.numbers.proofs.Division.{ready}
-use Rattle.numbers.proofs.in_six_steps.Statement.{statement}
-use Rattle.numbers.proofs.in_six_steps.Tie as tie
+use Rattle.division.proofs.Division.{ready}
+use Rattle.division.proofs.in_six_steps.Statement.{statement}
+use Rattle.division.proofs.in_six_steps.Tie as tie
 
 mul-divided : tie.Need-mul-divided
 mul-divided c = search needs

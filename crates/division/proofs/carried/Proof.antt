@@ -1,9 +1,9 @@
--- `numbers::carried` meets its contract: one step of the long division. Assumes nothing.
+-- `division::carried` meets its contract: one step of the long division. Assumes nothing.
 use borrow.Author.Needs.{needs}
 use native.Mathlib.Omega.{arith}
-use Rattle.numbers.proofs.Division.{carry, step}
-use Rattle.numbers.proofs.carried.Statement.{statement}
-use Rattle.numbers.proofs.carried.Tie as tie
+use Rattle.division.proofs.Division.{carry, step}
+use Rattle.division.proofs.carried.Statement.{statement}
+use Rattle.division.proofs.carried.Tie as tie
 
 mul-next : tie.Need-mul-next
 mul-next c = search needs

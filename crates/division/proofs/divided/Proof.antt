@@ -1,8 +1,8 @@
--- `numbers::divided` meets its contract. Assumes nothing.
+-- `division::divided` meets its contract. Assumes nothing.
 use borrow.Author.Needs.{needs}
-use Rattle.numbers.proofs.Division.{by-machine}
-use Rattle.numbers.proofs.divided.Statement.{statement}
-use Rattle.numbers.proofs.divided.Tie as tie
+use Rattle.division.proofs.Division.{by-machine}
+use Rattle.division.proofs.divided.Statement.{statement}
+use Rattle.division.proofs.divided.Tie as tie
 
 div-t3 : tie.Need-div-t3
 div-t3 c = search needs

@@ -1,9 +1,9 @@
--- `numbers::by_hundreds` meets its contract: after each step the quotient is at most a hundred times the product of the steps so far. Assumes nothing.
+-- `division::by_hundreds` meets its contract: after each step the quotient is at most a hundred times the product of the steps so far. Assumes nothing.
 use borrow.Author.Needs.{needs}
 use native.Mathlib.Omega.{arith}
-use Rattle.numbers.proofs.Division.{ready-below, hundreds}
-use Rattle.numbers.proofs.by_hundreds.Statement.{statement}
-use Rattle.numbers.proofs.by_hundreds.Tie as tie
+use Rattle.division.proofs.Division.{ready-below, hundreds}
+use Rattle.division.proofs.by_hundreds.Statement.{statement}
+use Rattle.division.proofs.by_hundreds.Tie as tie
 
 divided-requires : tie.Need-divided-requires
 divided-requires c κs = search needs

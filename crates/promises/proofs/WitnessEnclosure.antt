@@ -1,4 +1,4 @@
--- What the first two promises say of a ship of one zone with two layers and a deck, worked out as numbers. Assumes nothing.
+-- What the first promise says of a ship of one zone with two layers and a deck, worked out as numbers. Assumes nothing.
 use mathlib.Core.Path.{refl}
 use mathlib.Core.List.{List, [], _∷_}
 use Rattle.laws.specs.Fraction.{Fraction, _over_, whole, _less_over_, _⊹_, _⊝_, _⊛_}

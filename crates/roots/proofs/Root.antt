@@ -37,9 +37,6 @@ below-next {n} {s} p = lt-of-not-le (λ g. omega (arith, p .greatest (s + 1) g))
 pub down-unique : {n s t : ℕ} → RootDown n s → RootDown n t → s ≡ t
 down-unique {n} {s} {t} p q = le-antisymm (q .greatest s (p .within)) (p .greatest t (q .within))
 
-pub down-at-most : {n s : ℕ} (k : ℕ) → n ≤ k ^ 4 → RootDown n s → s ≤ k
-down-at-most k h p = fourth-at-most k h (p .within)
-
 -- ---- rounded up: the root rounded down where that is exact, and else the next number
 
 pub up-exact : {n s : ℕ} → s ^ 4 ≡ n → RootUp n s
@@ -52,9 +49,6 @@ up-next n s p q e =
 
 pub up-unique : {n s t : ℕ} → RootUp n s → RootUp n t → s ≡ t
 up-unique {n} {s} {t} p q = le-antisymm (p .least t (q .reaches)) (q .least s (p .reaches))
-
-pub up-at-most : {n s : ℕ} (k : ℕ) → n ≤ k ^ 4 → RootUp n s → s ≤ k
-up-at-most k h p = p .least k h
 
 -- ---- both
 

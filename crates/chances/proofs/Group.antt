@@ -17,7 +17,7 @@ use Rattle.penetration.specs.Figures.{plus}
 use Rattle.penetration.specs.Layer.{layerOf}
 use Rattle.chances.specs.declared.Bulkheads.{Bulkheads}
 use Rattle.chances.specs.Lent.{Lent, Layered, bulkheadsOf, across, sumsAcross}
-use Rattle.chances.specs.Share.{withinEnds, sumsOf, Few, lowest, highest, rowOf, rowEnds}
+use Rattle.chances.specs.Share.{withinEnds, sumsOf, nothing, Few, lowest, highest, rowOf, rowEnds}
 use Rattle.chances.proofs.Within.{zones-within}
 use Rattle.spans.specs.Hull.{shipOf, Hulled}
 use Rattle.spans.specs.Table.{tableOf}
@@ -113,9 +113,6 @@ pub sums-at : (L B : ℕ) (k : Bulkheads) (b n : ℕ) {y : Layer} {q : Sums} →
 sums-at L B k b n e f = rw (← depth-is B b e) f
 
 -- no penetration
-abbrev nothing : Sums
-nothing = record { added = record { lower = 0; upper = 0 }; taken = record { lower = 0; upper = 0 } }
-
 sums-none : (L B : ℕ) (k : Bulkheads) (n : ℕ) → nothing ≡ sumsAcross L B k 0 n
 unfolding sumsAcross withinEnds plus
 sums-none L B k zero = refl
@@ -123,8 +120,11 @@ sums-none L B k (suc zero) = refl
 sums-none L B k (suc (suc zero)) = refl
 sums-none L B k (suc (suc (suc n))) = refl
 
-few-none : Few nothing
+pub few-none : Few nothing
 few-none = record { added-order = omega arith; added-few = omega arith; taken-order = omega arith; taken-few = omega arith }
+
+pub no-sums : (h : Hull) (a n : ℕ) → 1 ≤ n → nothing ≡ sumsOf (shipOf h) 0 a n
+no-sums h a n o = sums-none (h .length) (h .breadth) (bulkheadsOf h a n) n ∙ hull-sums h 0 a n o
 
 pub sums-at-none : (L B : ℕ) (k : Bulkheads) (b n : ℕ) → b ≡ 0 → (nothing ≡ sumsAcross L B k b n) × Few nothing
 sums-at-none L B k b n z = (rw z (sums-none L B k n), few-none)

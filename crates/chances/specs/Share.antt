@@ -25,6 +25,10 @@ sumsOf s b a n =
       taken = record { lower = taken (low s b) a n; upper = taken (high s b) a n };
     }
 
+-- no chance on either side
+abbrev pub nothing : Sums
+nothing = record { added = record { lower = 0; upper = 0 }; taken = record { lower = 0; upper = 0 } }
+
 -- no more than two chances on either side
 pub record Few (s : Sums) : Type 0 where
   pub added-order : s .added .lower ≤ s .added .upper

@@ -11,7 +11,8 @@ use Rattle.records.specs.declared.Hull.{Hull}
 use Rattle.records.specs.declared.Trio.{Trio}
 use Rattle.solas.specs.Count.{added, taken}
 use Rattle.solas.specs.Index.{draughts}
-use Rattle.chances.specs.Share.{withinEnds, sumsOf, Few, lowest, highest, rowOf, rowEnds}
+use Rattle.chances.specs.Share.{withinEnds, sumsOf, nothing, Few, lowest, highest, rowOf, rowEnds}
+use Rattle.chances.proofs.Group.{few-none}
 use Rattle.indices.specs.Index.{partials, plus, Share, Given, Within}
 use Rattle.indices.proofs.Rows.{row-weights}
 use Rattle.indices.proofs.Sums.{partials-snoc, row-within, plus-within, none-within, within-wider}
@@ -23,7 +24,7 @@ use Rattle.rows.specs.declared.Standing.{Standing}
 use Rattle.rows.specs.declared.Running.{Running}
 use Rattle.rows.specs.Standing.{nowhere, stands}
 use Rattle.rows.specs.Work.{shareAt, sumsAt, partAt, addsAt, sharesFrom, addsFrom}
-use Rattle.rows.specs.Running.{nothing, begun, entered, Stood, Follow, Ready}
+use Rattle.rows.specs.Running.{begun, entered, Stood, Follow, Ready}
 use Rattle.rows.specs.Work.{numbers}
 
 -- ---- how many there are
@@ -42,9 +43,6 @@ length-numbers h y (r ∷ rs) = omega (arith, length-numbers h (stands y (r .hea
 no-part : (h : Hull) → record { group = nothing; share = record { lower = 0; upper = 0 } } ≡ partAt h nowhere
 unfolding sumsAt shareAt rowEnds rowOf lowest highest sumsOf added taken withinEnds
 no-part h = refl
-
-few-nothing : Few nothing
-few-nothing = record { added-order = omega arith; added-few = omega arith; taken-order = omega arith; taken-few = omega arith }
 
 -- ---- what is known of some rows, with what is left, comes to what all of them come to
 
@@ -80,7 +78,7 @@ module _ (h : Hull) (f : List ℕ) (from rows : ℕ) (first : List ℕ) where
         long = refl;
         follow = rw whole w;
         part = no-part h;
-        few = few-nothing;
+        few = few-none;
         small = rw none none-within;
         done = [];
         sums = refl;

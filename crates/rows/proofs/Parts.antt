@@ -1,5 +1,5 @@
 -- The part of a row: what its group comes to down to its layer, and its share; one for all rows of a layer. Assumes nothing.
-use Prim.Native.Nat.{ℕ, zero, suc}
+use Prim.Native.Nat.{ℕ, _≤_}
 use mathlib.Core.Path.{_≡_, refl, sym, _∙_, ap}
 use mathlib.Core.Bool.{Bool, true, false, _&&_}
 use lib.Dec.{eqb}
@@ -7,26 +7,16 @@ use borrow.Author.Tests.{eqb-true, eqb-false}
 use Rattle.laws.proofs.Tests.{both}
 use Rattle.records.specs.declared.Hull.{Hull}
 use Rattle.records.specs.declared.Ends.{Ends}
-use Rattle.solas.specs.Ship.{Ship}
-use Rattle.solas.specs.Count.{added, taken}
 use Rattle.spans.specs.Hull.{shipOf}
 use Rattle.chances.specs.declared.Sums.{Sums}
-use Rattle.chances.specs.Share.{withinEnds, sumsOf, rowOf, rowEnds}
+use Rattle.chances.specs.Share.{sumsOf, nothing, rowOf, rowEnds}
+use Rattle.chances.proofs.Group.{no-sums}
 use Rattle.casefile.specs.Order.{sameGroup, sameLayer}
 use Rattle.rows.specs.declared.Standing.{Standing}
 use Rattle.rows.specs.declared.Part.{Part}
 use Rattle.rows.specs.Standing.{stands}
 use Rattle.rows.specs.Work.{shareAt, sumsAt, partAt}
-use Rattle.rows.specs.Running.{nothing}
 use Rattle.rows.proofs.Stands.{inGroup, in-layer, in-next-layer, in-new-group}
-
--- at no penetration a group comes to nothing
-no-sums : (s : Ship) (a n : ℕ) → nothing ≡ sumsOf s 0 a n
-unfolding sumsOf added taken withinEnds
-no-sums s a zero = refl
-no-sums s a (suc zero) = refl
-no-sums s a (suc (suc zero)) = refl
-no-sums s a (suc (suc (suc n))) = refl
 
 -- as the code tests it
 pub other-layer : (y z : Standing) → (eqb (z .head .first) (y .head .first) && eqb (z .head .count) (y .head .count) && eqb (z .head .depth) (y .head .depth)) ≡ false → sameLayer (y .head) (z .head) ≡ false
@@ -42,8 +32,8 @@ module _ (h : Hull) (z : Standing) where
   by-sums e f g = rw (g, e, f) refl
 
   -- in its group's first layer
-  pub first-part : {now : Sums} {share : Ends} → z .before ≡ 0 → now ≡ downTo (z .head .depth) → share ≡ rowOf nothing now → record { group = now; share = share } ≡ partAt h z
-  first-part e f g = by-sums (rw e (no-sums (shipOf h) (z .head .first) (z .head .count))) f g
+  pub first-part : {now : Sums} {share : Ends} → 1 ≤ z .head .count → z .before ≡ 0 → now ≡ downTo (z .head .depth) → share ≡ rowOf nothing now → record { group = now; share = share } ≡ partAt h z
+  first-part some e f g = by-sums (rw e (no-sums h (z .head .first) (z .head .count) some)) f g
 
   module _ (y : Standing) (after : z ≡ stands y (z .head)) where
     same-group : inGroup y (z .head) ≡ true → (z .head .first ≡ y .head .first) × (z .head .count ≡ y .head .count)

@@ -4,12 +4,11 @@ use mathlib.Core.Path.{_≡_}
 use mathlib.Core.List.{List, [], _∷_}
 use Rattle.records.specs.declared.Hull.{Hull}
 use Rattle.records.specs.declared.RowHead.{RowHead}
-use Rattle.records.specs.declared.Ends.{Ends}
 use Rattle.records.specs.declared.Finding.{Finding}
 use Rattle.solas.specs.Count.{Group}
 use Rattle.spans.specs.Hull.{shipOf, Hulled}
 use Rattle.spans.specs.Table.{tableOf}
-use Rattle.chances.specs.declared.Sums.{Sums}
+use Rattle.chances.specs.Share.{nothing}
 use Rattle.indices.specs.Index.{plus, partials, Share, Given}
 use Rattle.casefile.specs.Record.{Row}
 use Rattle.rows.specs.declared.Standing.{Standing}
@@ -19,14 +18,8 @@ use Rattle.rows.specs.Work.{shareAt, partAt, addsAt}
 
 -- ---- what is known: where the last row stood, its part, and the sums of what the rows added
 
-abbrev none : Ends
-none = record { lower = 0; upper = 0 }
-
-abbrev pub nothing : Sums
-nothing = record { added = none; taken = none }
-
 unfoldable pub begun : Running
-begun = record { standing = nowhere; part = record { group = nothing; share = none }; sums = partials [] }
+begun = record { standing = nowhere; part = record { group = nothing; share = record { lower = 0; upper = 0 } }; sums = partials [] }
 
 -- after one row more
 unfoldable pub entered : Hull → Running → RowHead → List Finding → Running

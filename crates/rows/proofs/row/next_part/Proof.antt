@@ -14,7 +14,7 @@ returns : tie.Need-returns
 returns c =
     let s = c .before .before .before .before .before .before in
     let now = c .before .before .before .sums-at .ensures in
-    (first-part (s .args .h) (s .args .z) (search needs) (now .0) (c .row-ends .ensures), now .1)
+    (first-part (s .args .h) (s .args .z) (s .pre .2 .group .some) (search needs) (now .0) (c .row-ends .ensures), now .1)
 
 row-ends-requires-2 : tie.Need-row-ends-requires-2
 row-ends-requires-2 c κs = search needs

@@ -1,5 +1,6 @@
 -- `chances::sums_at` meets its contract: by the bulkheads of the group. Assumes nothing.
 use borrow.Author.Needs.{needs}
+use native.Mathlib.Omega.{arith}
 use Rattle.chances.proofs.Group.{lent, sums-by-bulkheads}
 use Rattle.chances.proofs.sums_at.Statement.{statement}
 use Rattle.chances.proofs.sums_at.Tie as tie
@@ -8,7 +9,7 @@ group-at-requires : tie.Need-group-at-requires
 group-at-requires c κs = search needs
 
 sums-to-requires : tie.Need-sums-to-requires
-sums-to-requires c κs = let s = c .before .before in (lent (s .pre .0) (s .pre .1) (s .pre .2) (c .group-at .ensures), s .pre .3)
+sums-to-requires c κs = let s = c .before .before in (lent (s .pre .0) (s .pre .1) (s .pre .2) (c .group-at .ensures), omega (arith, s .pre .3))
 
 returns : tie.Need-returns
 returns c =

@@ -11,5 +11,6 @@ pub mod Acceptance
 pub mod Refusal
 pub mod Judging
 pub mod Walk
+pub mod Kept
 pub mod Groups
 pub mod Placing

@@ -1,13 +1,25 @@
--- The rows that are kept: how many, by the bytes before a place alone, and one more. Assumes nothing.
+-- The rows that are kept: how many, by the bytes before a place alone, and one more from its line. Assumes nothing.
 use Prim.Native.Nat.{ℕ, zero, suc, _+_, _*_, _≤_}
 use mathlib.Core.Path.{_≡_, refl, sym, _∙_, ap}
+use mathlib.Core.Bool.{true}
 use mathlib.Core.List.{List, [], _∷_, _++_}
+use mathlib.Core.Logic.{_⊎_, inl, inr}
 use native.Mathlib.Nat.{zero-add, add-zero}
 use native.Mathlib.Omega.{arith}
-use lib.ListN.{length, take, drop}
-use Rattle.laws.proofs.Lists.{part-of-part}
-use Rattle.casefile.specs.Layout.{rowOf}
+use lib.ListN.{length, getD, take, drop}
+use lib.Seq.{sets, sets-eq}
+use Rattle.laws.specs.Lists.{tabulate}
+use Rattle.laws.proofs.Lists.{part-of-part, tabulate-places, length-part}
+use Rattle.lines.specs.Lines.{Line}
+use Rattle.frames.specs.Fields.{wordAt}
+use Rattle.frames.specs.Hex.{pairs, bytesOf, proper}
+use Rattle.frames.proofs.Pairs.{proper-parts}
+use Rattle.frames.proofs.Decode.{bytes-pairs}
+use Rattle.casefile.specs.declared.Progress.{Progress}
+use Rattle.casefile.specs.Layout.{kindOf, isRow, frameLength, headOf, findingOf, resultsOf, rowOf}
 use Rattle.casefile.specs.Kept.{keptRow, keptRows}
+use Rattle.casefile.proofs.Checks.{LinePasses}
+use Rattle.casefile.proofs.Passing.{well-written, fits, of-row-kind}
 
 pub length-kept : (k : ℕ) (kept : List ℕ) (i : ℕ) → length (keptRows k kept i) ≡ k
 unfolding keptRows
@@ -37,3 +49,52 @@ kept-next zero kept i = rw (add-zero i) refl
 kept-next (suc k) kept i =
     let e : i + 1 + k ≡ i + suc k = omega arith in
     rw (kept-next k kept (i + 1), e) refl
+
+-- ---- a row's frame at the front of its place: what stands after it does not count
+
+module _ (x : ℕ → ℕ) (rest : List ℕ) where
+  found-in-front : x 0 ≡ 2 → rowOf (tabulate x 25 ++ rest) ≡ rowOf (tabulate x 25)
+  unfolding tabulate headOf resultsOf findingOf wordAt
+  found-in-front e = rw e refl
+
+  given-in-front : x 0 ≡ 3 → rowOf (tabulate x 13 ++ rest) ≡ rowOf (tabulate x 13)
+  unfolding tabulate headOf resultsOf findingOf wordAt
+  given-in-front e = rw e refl
+
+row-in-front : (bs rest : List ℕ) → isRow (kindOf bs) ≡ true → length bs ≡ frameLength (kindOf bs) → rowOf (bs ++ rest) ≡ rowOf bs
+unfolding frameLength
+row-in-front bs rest k n = by (of-row-kind (kindOf bs) k)
+  where
+    as-table : (m : ℕ) → length bs ≡ m → tabulate (λ i. getD bs i 0) m ≡ bs
+    as-table m e = rw (← e) (tabulate-places 0 bs)
+
+    by : (kindOf bs ≡ 2) ⊎ (kindOf bs ≡ 3) → rowOf (bs ++ rest) ≡ rowOf bs
+    by (inl e) = rw (as-table 25 (rw e at n)) at (found-in-front (λ i. getD bs i 0) rest e)
+    by (inr e) = rw (as-table 13 (rw e at n)) at (given-in-front (λ i. getD bs i 0) rest e)
+
+short-frame : (bs : List ℕ) → isRow (kindOf bs) ≡ true → length bs ≡ frameLength (kindOf bs) → length bs ≤ 25
+unfolding frameLength
+short-frame bs k n = by (of-row-kind (kindOf bs) k)
+  where
+    by : (kindOf bs ≡ 2) ⊎ (kindOf bs ≡ 3) → length bs ≤ 25
+    by (inl e) = omega (arith, rw e at n)
+    by (inr e) = omega (arith, rw e at n)
+
+-- ---- a line's bytes written to place i of a buffer that was
+
+pub record Placed (kept was : List ℕ) (i : ℕ) (text : List ℕ) : Type 0 where
+  pub long : length kept ≡ length was
+  pub before : take (25 * i) kept ≡ take (25 * i) was
+  pub here : take 25 (drop (25 * i) kept) ≡ sets (take 25 (drop (25 * i) was)) 0 (bytesOf text)
+
+pub row-placed : (kept was : List ℕ) (i : ℕ) (p : Progress) (l : Line) → Placed kept was i (l .text) → 25 * i + 25 ≤ length was → LinePasses p l → isRow (kindOf (pairs (l .text))) ≡ true →
+    keptRow kept i ≡ rowOf (pairs (l .text))
+unfolding keptRow
+row-placed kept was i p l w room q k =
+    let place : List ℕ = take 25 (drop (25 * i) was) in
+    let bs : List ℕ = pairs (l .text) in
+    let good : proper (l .text) ≡ true = well-written l (q .written) .0 in
+    let n : length bs ≡ frameLength (kindOf bs) = fits l (q .written) (q .frame) .1 in
+    let wide : length place ≡ 25 = length-part (25 * i) 25 was room in
+    let e : take 25 (drop (25 * i) kept) ≡ bs ++ drop (0 + length bs) place = w .here ∙ ap (sets place 0) (bytes-pairs (l .text) (proper-parts (l .text) good .2)) ∙ sets-eq bs place 0 (omega (arith, wide, short-frame bs k n)) in
+    ap rowOf e ∙ row-in-front bs (drop (0 + length bs) place) k n

@@ -33,7 +33,7 @@ module _ (l : Line) (w : badlyWritten l ≡ false) where
   abbrev bs : List ℕ
   bs = pairs (l .text)
 
-  well-written : (proper (l .text) ≡ true) × (l .closed ≡ true)
+  pub well-written : (proper (l .text) ≡ true) × (l .closed ≡ true)
   unfolding badlyWritten
   well-written =
       let (p, c) = neither (not (proper (l .text))) (not (l .closed)) w in

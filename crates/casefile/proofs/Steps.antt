@@ -1,9 +1,8 @@
 -- The reading line by line: what each line's judging makes of the rest, in a form that a loop over the bytes can keep. Assumes nothing.
-use Prim.Native.Nat.{ℕ, suc, _+_, _≤_, _<_}
+use Prim.Native.Nat.{ℕ, _+_, _≤_, _<_}
 use mathlib.Core.Path.{_≡_, refl, sym, _∙_}
 use mathlib.Core.Bool.{Bool, true, false, cond}
-use mathlib.Core.List.{List, [], _∷_}
-use native.Mathlib.Nat.{zero-add, add-zero}
+use mathlib.Core.List.{List, [], _∷_, _++_, append-nil, append-assoc}
 use native.Mathlib.Omega.{arith}
 use lib.Dec.{eqb}
 use lib.ListN.{length}
@@ -14,14 +13,13 @@ use Rattle.lines.specs.Lines.{Line, lines}
 use Rattle.frames.specs.Hex.{pairs}
 use Rattle.casefile.specs.declared.Frame.{Frame}
 use Rattle.casefile.specs.declared.Progress.{Progress}
-use Rattle.casefile.specs.declared.Judgement.{Judgement}
 use Rattle.casefile.specs.Record.{Row}
 use Rattle.casefile.specs.Layout.{kindOf, isRow, rowOf, countOf}
 use Rattle.casefile.specs.Limits.{longestInput, mostRows}
 use Rattle.casefile.specs.Table.{firstHolds, lineChecks}
 use Rattle.casefile.specs.Reading.{Reading, refused, accepted, Stage, begin, inside, withRow, withEnd, checks, next, before, gathered, finished, readFrom, reading}
-use Rattle.casefile.specs.Answer.{frameOf, judged, noHull, judgementOf}
-use Rattle.casefile.proofs.Checks.{line-of-row}
+use Rattle.casefile.specs.Answer.{frameOf, judged}
+use Rattle.casefile.proofs.Checks.{LinePasses, line-of-row}
 
 -- ---- the input as a whole
 
@@ -106,27 +104,30 @@ module _ (h : Hull) (p : Progress) (l : Line) where
       let (a, b, c) = judged-row r e in
       line-of-row h p l a b .1 .few
 
--- ---- what is said of the whole by what is said of the rest, after k rows
+  pub row-passes-as : (r : RowHead) → judged h p l ≡ Frame.Row r → LinePasses p l × (isRow (kindOf bytes) ≡ true)
+  row-passes-as r e =
+      let (a, b, c) = judged-row r e in
+      (line-of-row h p l a b .0, b)
 
-abbrev pub counted : ℕ → Reading → Judgement
-counted k (refused n l) = record { number = n; line = l; rows = 0; hull = noHull }
-counted k (accepted c) = record { number = 0; line = 0; rows = k + length (c .rows); hull = c .hull }
+-- ---- what is said of the whole by what is said of the rest, after some rows
 
-pub counted-none : (s : Reading) → judgementOf s ≡ counted 0 s
-counted-none (refused n l) = refl
-counted-none (accepted c) = rw (zero-add (length (c .rows))) refl
+abbrev pub after : List Row → Reading → Reading
+after rs (refused n l) = refused n l
+after rs (accepted c) = accepted (record { hull = c .hull; rows = rs ++ c .rows })
 
-pub counted-row : (k : ℕ) (r : Row) (s : Reading) → counted k (before r s) ≡ counted (k + 1) s
-counted-row k r (refused n l) = refl
-counted-row k r (accepted c) =
-    let e : k + suc (length (c .rows)) ≡ k + 1 + length (c .rows) = omega arith in
-    rw e refl
+pub after-none : (s : Reading) → s ≡ after [] s
+after-none (refused n l) = refl
+after-none (accepted c) = refl
+
+pub after-row : (rs : List Row) (r : Row) (s : Reading) → after rs (before r s) ≡ after (rs ++ (r ∷ [])) s
+after-row rs r (refused n l) = refl
+after-row rs r (accepted c) = rw (append-assoc rs (r ∷ []) (c .rows)) refl
 
 -- every line is judged
-pub counted-end : (h : Hull) (p : Progress) (n : ℕ) → p .ended ≡ true → counted (p .rows) (readFrom (inside h p) n []) ≡ record { number = 0; line = 0; rows = p .rows; hull = h }
+pub after-end : (rs : List Row) (h : Hull) (p : Progress) (n : ℕ) → p .ended ≡ true → after rs (readFrom (inside h p) n []) ≡ accepted (record { hull = h; rows = rs })
 unfolding readFrom
-counted-end h p n e = rw (e, add-zero (p .rows)) refl
+after-end rs h p n e = rw (e, append-nil rs) refl
 
-pub counted-no-end : (h : Hull) (p : Progress) (n : ℕ) → p .ended ≡ false → readFrom (inside h p) n [] ≡ refused 10 n
+pub no-end : (h : Hull) (p : Progress) (n : ℕ) → p .ended ≡ false → readFrom (inside h p) n [] ≡ refused 10 n
 unfolding readFrom
-counted-no-end h p n e = rw e refl
+no-end h p n e = rw e refl

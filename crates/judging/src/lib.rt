@@ -1,7 +1,9 @@
 // A line after the hull, judged by the table's order: a refusal's number, or the frame that it holds.
 ghost use mathlib.Core.Path.{_≡_};
-ghost use Prim.Native.Nat.{_<_};
+ghost use Prim.Native.Nat.{_≤_, _<_};
 ghost use lib.ListN.{length};
+ghost use lib.Seq.{sets};
+ghost use Rattle.frames.specs.Hex.{bytesOf};
 ghost use Rattle.casefile.specs.Answer.{judged};
 ghost use Rattle.casefile.specs.Judging.{frameJudged};
 use casefile::Frame;
@@ -29,22 +31,24 @@ fn judge_frame(frame: &[u8], h: Hull, p: Progress) -> Frame
     }
 }
 
-// A line after the hull h and what the lines before it left.
-pub fn judge_line(text: &[u8], closed: bool, h: Hull, p: Progress) -> Frame
-    ensures { λ r. ⌜ r ≡ judged h p (record { text = now (text .entry); closed = closed }) ⌝ }
+// A line after the hull h and what the lines before it left. What it writes goes to the front of the place that is lent, as many bytes as go in.
+pub fn judge_line(text: &[u8], closed: bool, h: Hull, p: Progress, place: &mut [u8]) -> Frame
+    requires { ⌜ 25 ≤ length (now place) ⌝ }
+    ensures frame { λ r. ⌜ r ≡ judged h p (record { text = now (text .entry); closed = closed }) ⌝ }
+    ensures kept { λ r. ⌜ now (place .exit) ≡ sets (now (place .entry)) 0 (bytesOf (now (text .entry))) ⌝ }
 {
+    let written = frames::decode_text(text, place);
     if p.ended {
         return Frame::Wrong(10);
     }
     if !closed {
         return Frame::Wrong(2);
     }
-    let mut bytes = [0u8; 25];
-    let Written::Bytes(n) = frames::decode_text(text, &mut bytes) else {
+    let Written::Bytes(n) = written else {
         return Frame::Wrong(2);
     };
     if 25 < n {
         return Frame::Wrong(3);
     }
-    judge_frame(&bytes[..n], h, p)
+    judge_frame(&place[..n], h, p)
 }

@@ -1,98 +1,144 @@
 -- What the loop over the lines keeps: the reading of the whole is the reading of the rest in the present state. Assumes nothing.
-use Prim.Native.Nat.{ℕ, _+_, _-_, _≤_, _<_}
+use Prim.Native.Nat.{ℕ, _+_, _-_, _*_, _≤_, _<_}
 use mathlib.Core.Path.{_≡_, refl, sym, _∙_, ap}
 use mathlib.Core.Bool.{Bool, true, false}
-use mathlib.Core.List.{List, [], _∷_}
-use native.Mathlib.Nat.{sub-zero}
+use mathlib.Core.List.{List, [], _∷_, _++_}
+use native.Mathlib.Nat.{zero-add, sub-zero}
+use native.Mathlib.Numerals.{add-one}
 use native.Mathlib.Omega.{arith}
 use lib.Dec.{ltb, eqb}
 use lib.ListN.{length, take, drop}
+use lib.Seq.{sets}
+use borrow.Rule.Slice.PartMut.{midOf, putMid}
 use borrow.Author.Tests.{eqb-true, eqb-false}
 use Rattle.records.specs.declared.Hull.{Hull}
 use Rattle.lines.specs.Lines.{Line, lines, lineLength}
 use Rattle.lines.proofs.Lines.{lines-end, lines-next}
-use Rattle.frames.specs.Hex.{pairs}
+use Rattle.frames.specs.Hex.{pairs, bytesOf}
 use Rattle.casefile.specs.declared.Frame.{Frame}
 use Rattle.casefile.specs.declared.Progress.{Progress}
 use Rattle.casefile.specs.declared.Judgement.{Judgement}
 use Rattle.casefile.specs.declared.Step.{Step}
+use Rattle.casefile.specs.Record.{Row}
 use Rattle.casefile.specs.Layout.{rowOf}
+use Rattle.casefile.specs.Kept.{keptRow, keptRows, Keeps}
 use Rattle.casefile.specs.Limits.{longestInput, mostRows}
 use Rattle.casefile.specs.Table.{firstHolds, hullChecks}
-use Rattle.casefile.specs.Reading.{refused, begin, inside, start, readFrom, reading}
+use Rattle.casefile.specs.Reading.{Reading, refused, begin, inside, start, withEnd, readFrom, reading}
 use Rattle.casefile.specs.Answer.{judged, judgementOf}
 use Rattle.casefile.specs.Judging.{firstJudged, stepped, judgementAt}
-use Rattle.casefile.proofs.Steps.{not-too-long, no-line, line-passes, line-refused, row-goes-on, end-goes-on, wrong-stops, row-counts, counted, counted-none, counted-row, counted-end, counted-no-end}
+use Rattle.casefile.proofs.Steps.{not-too-long, no-line, line-passes, line-refused, row-goes-on, end-goes-on, wrong-stops, row-counts, row-passes-as, after, after-none, after-row, after-end, no-end}
+use Rattle.casefile.proofs.Kept.{Placed, length-kept, same-rows, kept-next, row-placed}
+use Rattle.reader.proofs.Places.{placed}
+
+-- what the last step and the buffer say of a reading
+abbrev pub Said : Reading → Hull → Step → List ℕ → Type 0
+Said r h s kept = (judgementAt h s ≡ judgementOf r) × Keeps r kept
 
 -- ---- one line
 
-module _ (h : Hull) (p : Progress) (l : Line) (n : ℕ) (ls : List Line) (few : p .rows ≤ mostRows) where
+module _ (h : Hull) (p : Progress) (l : Line) (n : ℕ) (ls : List Line) (few : p .rows ≤ mostRows) (kept was : List ℕ) (room : 25 * mostRows + 25 ≤ length was)
+    (w : Placed kept was (p .rows) (l .text)) where
   -- what is said of the line and those after it is the refusal, or what is said of those after it in the next state
   abbrev Taken : Step → Type 0
-  Taken (Step.Next q) = (q .rows ≤ mostRows) × (counted (p .rows) (readFrom (inside h p) n (l ∷ ls)) ≡ counted (q .rows) (readFrom (inside h q) (n + 1) ls))
-  Taken (Step.Refused k m) = counted (p .rows) (readFrom (inside h p) n (l ∷ ls)) ≡ judgementOf (refused k m)
+  Taken (Step.Next q) =
+      (q .rows ≤ mostRows) × (after (keptRows (p .rows) was 0) (readFrom (inside h p) n (l ∷ ls)) ≡ after (keptRows (q .rows) kept 0) (readFrom (inside h q) (n + 1) ls))
+  Taken (Step.Refused k m) = readFrom (inside h p) n (l ∷ ls) ≡ refused k m
+
+  -- the rows before are kept as they were
+  stay : keptRows (p .rows) was 0 ≡ keptRows (p .rows) kept 0
+  stay = sym (same-rows kept was (25 * p .rows) (w .before) (p .rows) 0 (omega arith))
 
   by-frame : (f : Frame) → judged h p l ≡ f → Taken (stepped f p n)
-  by-frame (Frame.Row r) e = (omega (arith, row-counts h p l r e), ap (counted (p .rows)) (row-goes-on h p l n r ls e) ∙ counted-row (p .rows) (rowOf (pairs (l .text))) (readFrom (inside h (record { rows = p .rows + 1; last = r; ended = false })) (n + 1) ls))
-  by-frame (Frame.End count) e = (few, ap (counted (p .rows)) (end-goes-on h p l n count ls e))
-  by-frame (Frame.Wrong k) e = ap (counted (p .rows)) (wrong-stops h p l n k ls e)
+  by-frame (Frame.Row r) e =
+      let fewer : p .rows < mostRows = row-counts h p l r e in
+      let row : Row = rowOf (pairs (l .text)) in
+      let (passes, is) = row-passes-as h p l r e in
+      let here : keptRow kept (0 + p .rows) ≡ row = ap (keptRow kept) (zero-add (p .rows)) ∙ row-placed kept was (p .rows) p l w (omega arith) passes is in
+      let more : keptRows (p .rows + 1) kept 0 ≡ keptRows (p .rows) was 0 ++ (row ∷ []) = rw (add-one, kept-next (p .rows) kept 0, here, stay) refl in
+      let rest : Reading = readFrom (inside h (record { rows = p .rows + 1; last = r; ended = false })) (n + 1) ls in
+      (omega (arith, fewer), ap (after (keptRows (p .rows) was 0)) (row-goes-on h p l n r ls e) ∙ after-row (keptRows (p .rows) was 0) row rest ∙ ap (λ rs. after rs rest) (sym more))
+  by-frame (Frame.End count) e = (few, ap (after (keptRows (p .rows) was 0)) (end-goes-on h p l n count ls e) ∙ ap (λ rs. after rs (readFrom (inside h (withEnd p)) (n + 1) ls)) stay)
+  by-frame (Frame.Wrong k) e = wrong-stops h p l n k ls e
 
   taken : (f : Frame) (s : Step) → f ≡ judged h p l → stepped f p n ≡ s → Taken s
   taken f s e g = rw (← g) (by-frame f (sym e))
 
 -- ---- the lines from a place on
 
--- the lines between `from` and `at` have passed and left p, and the next of them is line n; the first was line m
-pub record Running (input : List ℕ) (h : Hull) (from m : ℕ) (p : Progress) (at n : ℕ) : Type 0 where
+-- the lines between `from` and `at` have passed and left p, and their rows are kept; the next line is line n, the first was line m
+pub record Running (input : List ℕ) (h : Hull) (from m size : ℕ) (kept : List ℕ) (p : Progress) (at n : ℕ) : Type 0 where
   pub few : p .rows ≤ mostRows
+  pub long : length kept ≡ size
+  pub room : 25 * mostRows + 25 ≤ size
   pub lines-passed : n ≤ m + at
-  pub same : judgementOf (readFrom (inside h start) m (lines (drop from input))) ≡ counted (p .rows) (readFrom (inside h p) n (lines (drop at input)))
+  pub same : readFrom (inside h start) m (lines (drop from input)) ≡ after (keptRows (p .rows) kept 0) (readFrom (inside h p) n (lines (drop at input)))
 
-pub none-run : (input : List ℕ) (h : Hull) (from m : ℕ) (p : Progress) → p ≡ start → Running input h from m p from m
-none-run input h from m p e = rw e (record { few = omega arith; lines-passed = omega arith; same = counted-none (readFrom (inside h start) m (lines (drop from input))) })
+pub none-run : (input : List ℕ) (h : Hull) (from m : ℕ) (kept : List ℕ) (p : Progress) → 25 * mostRows + 25 ≤ length kept → p ≡ start → Running input h from m (length kept) kept p from m
+unfolding keptRows
+none-run input h from m kept p r e = rw e (record { few = omega arith; long = refl; room = r; lines-passed = omega arith; same = after-none (readFrom (inside h start) m (lines (drop from input))) })
 
-module _ (input : List ℕ) (h : Hull) (from m : ℕ) (p : Progress) (at n : ℕ) (i : Running input h from m p at n) where
+module _ (input : List ℕ) (h : Hull) (from m size : ℕ) (was : List ℕ) (p : Progress) (at n : ℕ) (i : Running input h from m size was p at n) where
+  wide : 25 * mostRows + 25 ≤ length was
+  wide = omega (arith, i .long, i .room)
+
+  -- a line's bytes written to the place after the rows that are kept
+  pub place-written : (text part : List ℕ) → part ≡ sets (midOf (p .rows * 25) (p .rows * 25 + 25 - p .rows * 25) was) 0 (bytesOf text) →
+      Placed (putMid (p .rows * 25) (p .rows * 25 + 25 - p .rows * 25) was part) was (p .rows) text
+  place-written text part w = placed was (p .rows) text part (p .rows * 25) (p .rows * 25 + 25 - p .rows * 25) (omega arith) (omega arith) (omega (arith, i .few, wide)) w
+
   module _ (end : ℕ) (e : end ≡ at + lineLength (drop at input)) (b : at < length input) where
     abbrev line : Line
     line = record { text = take (end - at) (drop at input); closed = ltb end (length input) }
 
-    cut : judgementOf (readFrom (inside h start) m (lines (drop from input))) ≡ counted (p .rows) (readFrom (inside h p) n (line ∷ lines (drop (end + 1) input)))
+    cut : readFrom (inside h start) m (lines (drop from input)) ≡ after (keptRows (p .rows) was 0) (readFrom (inside h p) n (line ∷ lines (drop (end + 1) input)))
     cut = i .same ∙ rw (lines-next input at end e b) refl
 
-    -- the line's frame, and what it steps to
-    module _ (f : Frame) (s : Step) (g : f ≡ judged h p line) (k : s ≡ stepped f p n) where
-      pub one-run : (q : Progress) → s ≡ Step.Next q → Running input h from m q (end + 1) (n + 1)
+    -- the line's frame, what it steps to, and the buffer after it
+    module _ (f : Frame) (s : Step) (g : f ≡ judged h p line) (k : s ≡ stepped f p n) (kept : List ℕ) (w : Placed kept was (p .rows) (line .text)) where
+      pub one-run : (q : Progress) → s ≡ Step.Next q → Running input h from m size kept q (end + 1) (n + 1)
       one-run q d =
-          let (few, same) = taken h p line n (lines (drop (end + 1) input)) (i .few) f (Step.Next q) g (sym k ∙ d) in
-          record { few = few; lines-passed = omega (arith, i .lines-passed); same = cut ∙ same }
+          let (few, same) = taken h p line n (lines (drop (end + 1) input)) (i .few) kept was wide w f (Step.Next q) g (sym k ∙ d) in
+          record { few = few; long = w .long ∙ i .long; room = i .room; lines-passed = omega (arith, i .lines-passed); same = cut ∙ same }
 
-      pub run-stops : (x y : ℕ) → s ≡ Step.Refused x y → judgementAt h s ≡ judgementOf (readFrom (inside h start) m (lines (drop from input)))
-      run-stops x y d = rw d (sym (cut ∙ taken h p line n (lines (drop (end + 1) input)) (i .few) f (Step.Refused x y) g (sym k ∙ d)))
+      stops : (x y : ℕ) → s ≡ Step.Refused x y → readFrom (inside h start) m (lines (drop from input)) ≡ refused x y
+      stops x y d = cut ∙ rw (taken h p line n (lines (drop (end + 1) input)) (i .few) kept was wide w f (Step.Refused x y) g (sym k ∙ d)) refl
+
+      pub run-stops : (x y : ℕ) → s ≡ Step.Refused x y → Said (readFrom (inside h start) m (lines (drop from input))) h s kept
+      run-stops x y d = rw (d, stops x y d) (refl, tt)
 
   -- no line is left
   module _ (b : length input ≤ at) where
-    last : judgementOf (readFrom (inside h start) m (lines (drop from input))) ≡ counted (p .rows) (readFrom (inside h p) n [])
+    last : readFrom (inside h start) m (lines (drop from input)) ≡ after (keptRows (p .rows) was 0) (readFrom (inside h p) n [])
     last = i .same ∙ rw (lines-end input at b) refl
 
-    pub run-ends : p .ended ≡ true → judgementAt h (Step.Next p) ≡ judgementOf (readFrom (inside h start) m (lines (drop from input)))
-    run-ends e = sym (last ∙ counted-end h p n e)
+    pub run-ends : p .ended ≡ true → Said (readFrom (inside h start) m (lines (drop from input))) h (Step.Next p) was
+    run-ends e =
+        let long : length (keptRows (p .rows) was 0) ≡ p .rows = length-kept (p .rows) was 0 in
+        rw (last ∙ after-end (keptRows (p .rows) was 0) h p n e, long) (refl, refl)
 
-    pub run-has-no-end : p .ended ≡ false → judgementAt h (Step.Refused 10 n) ≡ judgementOf (readFrom (inside h start) m (lines (drop from input)))
-    run-has-no-end e = sym (last ∙ ap (counted (p .rows)) (counted-no-end h p n e))
+    pub run-has-no-end : p .ended ≡ false → Said (readFrom (inside h start) m (lines (drop from input))) h (Step.Refused 10 n) was
+    run-has-no-end e = rw (last ∙ ap (after (keptRows (p .rows) was 0)) (no-end h p n e)) (refl, tt)
 
 -- ---- the whole input
 
-pub no-line-at-all : (f : List ℕ) → length f ≡ 0 → judgementOf (refused 10 1) ≡ judgementOf (reading f)
-no-line-at-all f e =
-    ap judgementOf (sym (not-too-long f (omega arith) ∙ ap (readFrom begin 1) (lines-end f 0 (omega arith)) ∙ no-line begin 1))
+-- what a judgement and the buffer say of a reading
+abbrev pub Told : Reading → Judgement → List ℕ → Type 0
+Told r j kept = (j ≡ judgementOf r) × Keeps r kept
 
-module _ (l : Line) (ls : List Line) where
-  first-case : (t : Bool) → eqb (firstHolds (hullChecks l)) 0 ≡ t → (firstJudged l .number ≡ 0 → ⊥) → firstJudged l ≡ judgementOf (readFrom begin 1 (l ∷ ls))
+pub told-refused : {r : Reading} {k l : ℕ} {j : Judgement} (kept : List ℕ) → r ≡ refused k l → j ≡ judgementOf (refused k l) → Told r j kept
+told-refused kept e g = rw e (g, tt)
+
+pub no-line-at-all : (f : List ℕ) → length f ≡ 0 → reading f ≡ refused 10 1
+no-line-at-all f e = not-too-long f (omega arith) ∙ ap (readFrom begin 1) (lines-end f 0 (omega arith)) ∙ no-line begin 1
+
+module _ (l : Line) (ls : List Line) (kept : List ℕ) where
+  first-case : (t : Bool) → eqb (firstHolds (hullChecks l)) 0 ≡ t → (firstJudged l .number ≡ 0 → ⊥) → Told (readFrom begin 1 (l ∷ ls)) (firstJudged l) kept
   unfolding firstJudged
   first-case true e f = absurd (f (rw e refl))
-  first-case false e f = rw (e, line-refused begin 1 l ls (firstHolds (hullChecks l)) refl (eqb-false (firstHolds (hullChecks l)) 0 e)) refl
+  first-case false e f = told-refused kept (line-refused begin 1 l ls (firstHolds (hullChecks l)) refl (eqb-false (firstHolds (hullChecks l)) 0 e)) (rw e refl)
 
-  pub first-stops : (firstJudged l .number ≡ 0 → ⊥) → firstJudged l ≡ judgementOf (readFrom begin 1 (l ∷ ls))
+  pub first-stops : (firstJudged l .number ≡ 0 → ⊥) → Told (readFrom begin 1 (l ∷ ls)) (firstJudged l) kept
   first-stops f = first-case (eqb (firstHolds (hullChecks l)) 0) refl f
 
   rest-case : (t : Bool) → eqb (firstHolds (hullChecks l)) 0 ≡ t → firstJudged l .number ≡ 0 → readFrom (inside (firstJudged l .hull) start) 2 ls ≡ readFrom begin 1 (l ∷ ls)
@@ -110,9 +156,11 @@ module _ (f : List ℕ) (few : length f ≤ longestInput) (some : 0 < length f) 
   opens : reading f ≡ readFrom begin 1 (opening ∷ lines (drop (end + 1) f))
   opens = not-too-long f few ∙ ap (readFrom begin 1) (lines-next f 0 end e some ∙ rw (sub-zero end) refl)
 
-  module _ (o : Judgement) (g : o ≡ firstJudged opening) where
-    pub input-stops : (o .number ≡ 0 → ⊥) → o ≡ judgementOf (reading f)
-    input-stops n = rw (g, opens) (first-stops opening (lines (drop (end + 1) f)) (rw g at n))
+  module _ (o : Judgement) (g : o ≡ firstJudged opening) (kept : List ℕ) where
+    pub input-stops : (o .number ≡ 0 → ⊥) → Told (reading f) o kept
+    input-stops n = rw (g, opens) (first-stops opening (lines (drop (end + 1) f)) kept (rw g at n))
 
-    pub input-goes-on : (r : Judgement) → o .number ≡ 0 → r ≡ judgementOf (readFrom (inside (o .hull) start) 2 (lines (drop (end + 1) f))) → r ≡ judgementOf (reading f)
-    input-goes-on r n d = d ∙ rw (g, opens) (ap judgementOf (first-goes-on opening (lines (drop (end + 1) f)) (rw g at n)))
+    pub input-goes-on : (r : Judgement) → o .number ≡ 0 → Told (readFrom (inside (o .hull) start) 2 (lines (drop (end + 1) f))) r kept → Told (reading f) r kept
+    input-goes-on r n d =
+        let same : readFrom (inside (o .hull) start) 2 (lines (drop (end + 1) f)) ≡ reading f = rw (g, opens) (first-goes-on opening (lines (drop (end + 1) f)) kept (rw g at n)) in
+        rw same at d

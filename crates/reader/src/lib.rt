@@ -1,12 +1,13 @@
 // The lines after the hull in turn, and the entry: any bytes whatever are refused or counted.
 ghost use mathlib.Core.Path.{_≡_};
-ghost use Prim.Native.Nat.{_≤_};
-ghost use lib.ListN.{drop};
+ghost use Prim.Native.Nat.{_+_, _*_, _≤_};
+ghost use lib.ListN.{length, drop};
 ghost use Rattle.lines.specs.Lines.{lines};
 ghost use Rattle.casefile.specs.Limits.{mostRows};
 ghost use Rattle.casefile.specs.Reading.{inside, start, readFrom, reading};
 ghost use Rattle.casefile.specs.Answer.{judgementOf};
 ghost use Rattle.casefile.specs.Judging.{stepped, judgementAt};
+ghost use Rattle.casefile.specs.Kept.{Keeps};
 use casefile::Frame;
 use casefile::Judgement;
 use casefile::Progress;
@@ -54,10 +55,11 @@ fn at_start() -> Progress
     }
 }
 
-// The lines from a place on, the first of which has the number that is given: the last step, or the first refusal.
-fn run(input: &[u8], h: Hull, from: usize, first: u64) -> Step
-    requires { ⌜ first ≤ 4294967296 ⌝ }
-    ensures { λ r. ⌜ judgementAt h r ≡ judgementOf (readFrom (inside h start) first (lines (drop from (now (input .entry))))) ⌝ }
+// The lines from a place on, the first of which has the number that is given: the last step, or the first refusal. Each row is kept.
+fn run(input: &[u8], h: Hull, from: usize, first: u64, kept: &mut [u8]) -> Step
+    requires { ⌜ (first ≤ 4294967296) × (25 * mostRows + 25 ≤ length (now kept)) ⌝ }
+    ensures step { λ r. ⌜ judgementAt h r ≡ judgementOf (readFrom (inside h start) first (lines (drop from (now (input .entry))))) ⌝ }
+    ensures rows { λ r. ⌜ Keeps (readFrom (inside h start) first (lines (drop from (now (input .entry))))) (now (kept .exit)) ⌝ }
 {
     let mut p = at_start();
     let mut at = from;
@@ -65,10 +67,12 @@ fn run(input: &[u8], h: Hull, from: usize, first: u64) -> Step
     while at < input.len() {
         let end = lines::line_end(input, at);
         let closed = end < input.len();
-        let frame = judging::judge_line(&input[at..end], closed, h, p);
-        let after = step(frame, p, line);
-        let Step::Next(next) = after else {
-            return after;
+        let place = p.rows as usize * 25;
+        let after = place + 25;
+        let frame = judging::judge_line(&input[at..end], closed, h, p, &mut kept[place..after]);
+        let stepped = step(frame, p, line);
+        let Step::Next(next) = stepped else {
+            return stepped;
         };
         p = next;
         at = end + 1;
@@ -81,11 +85,12 @@ fn run(input: &[u8], h: Hull, from: usize, first: u64) -> Step
 }
 
 // The rows and the end of a file whose hull is known, from a place on.
-pub fn judge_rows(input: &[u8], h: Hull, from: usize, first: u64) -> Judgement
-    requires { ⌜ first ≤ 4294967296 ⌝ }
-    ensures { λ r. ⌜ r ≡ judgementOf (readFrom (inside h start) first (lines (drop from (now (input .entry))))) ⌝ }
+pub fn judge_rows(input: &[u8], h: Hull, from: usize, first: u64, kept: &mut [u8]) -> Judgement
+    requires { ⌜ (first ≤ 4294967296) × (25 * mostRows + 25 ≤ length (now kept)) ⌝ }
+    ensures judgement { λ r. ⌜ r ≡ judgementOf (readFrom (inside h start) first (lines (drop from (now (input .entry))))) ⌝ }
+    ensures rows { λ r. ⌜ Keeps (readFrom (inside h start) first (lines (drop from (now (input .entry))))) (now (kept .exit)) ⌝ }
 {
-    match run(input, h, from, first) {
+    match run(input, h, from, first, kept) {
         Step::Next(p) => Judgement {
             number: 0,
             line: 0,
@@ -96,9 +101,11 @@ pub fn judge_rows(input: &[u8], h: Hull, from: usize, first: u64) -> Judgement
     }
 }
 
-// Any bytes whatever: a refusal's number and line, or the row count and the hull.
-pub fn judge(input: &[u8]) -> Judgement
-    ensures { λ r. ⌜ r ≡ judgementOf (reading (now (input .entry))) ⌝ }
+// Any bytes whatever: a refusal's number and line, or the row count and the hull, with the rows kept in the buffer that is lent.
+pub fn judge(input: &[u8], kept: &mut [u8]) -> Judgement
+    requires { ⌜ 25 * mostRows + 25 ≤ length (now kept) ⌝ }
+    ensures judgement { λ r. ⌜ r ≡ judgementOf (reading (now (input .entry))) ⌝ }
+    ensures rows { λ r. ⌜ Keeps (reading (now (input .entry))) (now (kept .exit)) ⌝ }
 {
     let n = input.len();
     if 32768 < n {
@@ -114,5 +121,5 @@ pub fn judge(input: &[u8]) -> Judgement
         return opened;
     }
     let h = opened.hull;
-    judge_rows(input, h, end + 1, 2)
+    judge_rows(input, h, end + 1, 2, kept)
 }

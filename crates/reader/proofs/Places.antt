@@ -1,0 +1,28 @@
+-- The buffer after a place of it was lent and a line's bytes were written to its front. Assumes nothing.
+use Prim.Native.Nat.{ℕ, _+_, _*_, _≤_}
+use mathlib.Core.Path.{_≡_, refl, _∙_, ap}
+use mathlib.Core.List.{List}
+use native.Mathlib.Omega.{arith}
+use lib.ListN.{length, take, drop}
+use lib.Seq.{sets, length-sets, length-take-le, take-at, drop-at}
+use borrow.Rule.Slice.PartMut.{midOf, postOf, putMid, same-len-mid, take-put}
+use Rattle.laws.proofs.Lists.{length-part}
+use Rattle.frames.specs.Hex.{bytesOf}
+use Rattle.casefile.proofs.Kept.{Placed}
+
+module _ (was : List ℕ) (i : ℕ) (text part : List ℕ) (a n : ℕ) (e : a ≡ 25 * i) (k : n ≡ 25) (room : 25 * i + 25 ≤ length was) (w : part ≡ sets (midOf a n was) 0 (bytesOf text)) where
+  as-long : length part ≡ length (midOf a n was)
+  as-long = ap length w ∙ length-sets (midOf a n was) 0 (bytesOf text)
+
+  wide : length part ≡ 25
+  wide = as-long ∙ rw (e, k) (length-part (25 * i) 25 was room)
+
+  pub placed : Placed (putMid a n was part) was i text
+  placed =
+      record {
+        long = same-len-mid a n was part as-long;
+        before = rw (← e) (take-put a n was part (omega arith));
+        here =
+            let front : length (take a was) ≡ a = length-take-le a was (omega arith) in
+            rw (← e, drop-at (take a was) _ a front, take-at part (postOf a n was) 25 wide) (w ∙ rw k refl);
+      }

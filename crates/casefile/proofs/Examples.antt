@@ -2,7 +2,7 @@
 use Prim.Native.Nat.{ℕ}
 use mathlib.Core.Path.{_≡_, refl}
 use mathlib.Core.Bool.{false}
-use mathlib.Core.List.{List, [], _∷_, _++_}
+use mathlib.Core.List.{List, [], _∷_, _++_, replicate}
 use Rattle.laws.specs.Lists.{tabulate}
 use Rattle.laws.specs.Bytes.{bytes}
 use Rattle.records.specs.declared.Finding.{Finding}
@@ -15,6 +15,7 @@ use Rattle.casefile.specs.Layout.{frameLength, placeOf, hullOf, headOf, 
 use Rattle.casefile.specs.Limits.{between, sizesFit, risingTo, zonesFit, headFits, findingFits, findingsFit, rowFits}
 use Rattle.casefile.specs.Order.{atTop, closesGroup, sameGroup, sameLayer, earlierGroup, outOfOrder, leavesOpen, endsOpen}
 use Rattle.casefile.specs.Table.{firstHolds, wrongHullFrame, wrongFrame, wrongZones, hullChecks, rowChecks, endChecks, lineChecks}
+use Rattle.casefile.specs.Kept.{keptRow, keptRows}
 use Rattle.casefile.specs.Reading.{Reading, refused, accepted, start, readFrom, reading}
 use Rattle.casefile.specs.Answer.{judgementOf}
 use Rattle.casefile.specs.Encode.{rowLines, encode}
@@ -105,6 +106,15 @@ unlikeResults = record { head = record { kind = 2; first = 1; count = 1; depth =
 deepest-partial-light : reading (hullLine ++ unlikeRow ++ endOfOne) ≡ accepted (case printedHull (unlikeResults ∷ []))
 unfolding read
 deepest-partial-light = refl
+
+-- ---- rows as they are kept: 25 bytes each, whatever stands after a shorter frame
+
+abbrev keptFrames : List ℕ
+keptFrames = rowBytes unlikeResults ++ rowBytes (row 3 1 2 800 18500 (survival 0)) ++ replicate 12 9
+
+two-kept : keptRows 2 keptFrames 0 ≡ unlikeResults ∷ row 3 1 2 800 18500 (survival 0) ∷ []
+unfolding read keptRows keptRow
+two-kept = refl
 
 -- ---- 10: no end frame, and whatever follows it
 

@@ -16,7 +16,6 @@ pub mod Turns
 pub mod EndFrames
 pub mod Refusal
 pub mod TableOrder
-pub mod Walk
 pub mod Kept
 pub mod Groups
 pub mod GroupRows

@@ -1,22 +1,19 @@
 -- What the code's answers are by document 01: the refusal's number and line, and the values, of each. Assumes nothing.
 use Prim.Native.Nat.{ℕ, _+_}
-use mathlib.Core.Bool.{Bool, true, false, cond, not, _&&_}
+use mathlib.Core.Bool.{true, false, cond}
 use mathlib.Core.Path.{_≡_}
 use mathlib.Core.List.{List, [], _∷_}
-use lib.ListN.{length, drop, replicate}
+use lib.ListN.{length, replicate}
 use lib.Dec.{eqb}
 use Rattle.records.specs.declared.Hull.{Hull}
-use Rattle.records.specs.declared.Finding.{Finding}
-use Rattle.lines.specs.Lines.{Line, lines}
-use Rattle.frames.specs.Hex.{pairs, badlyWritten}
+use Rattle.lines.specs.Lines.{Line}
+use Rattle.frames.specs.Hex.{pairs}
 use Rattle.frames.specs.Fields.{byteAt, wordAt}
 use Rattle.casefile.specs.declared.Frame.{Frame}
 use Rattle.casefile.specs.declared.Progress.{Progress}
 use Rattle.casefile.specs.declared.Judgement.{Judgement}
-use Rattle.casefile.specs.declared.RowPlace.{RowPlace}
-use Rattle.casefile.specs.Record.{Row}
 use Rattle.casefile.specs.Layout.{kindOf, fieldsOf, isRow, rowOf, countOf}
-use Rattle.casefile.specs.Table.{firstHolds, lineChecks, wrongFrame}
+use Rattle.casefile.specs.Table.{firstHolds, lineChecks}
 use Rattle.casefile.specs.Reading.{Reading, refused, accepted}
 
 -- ---- a line after the hull
@@ -58,34 +55,3 @@ noHull = record { length = 0; breadth = 0; deepest = 0; light = 0; zones = 0; pl
 abbrev pub judgementOf : Reading → Judgement
 judgementOf (refused k l) = record { number = k; line = l; rows = 0; hull = noHull }
 judgementOf (accepted c) = record { number = 0; line = 0; rows = length (c .rows); hull = c .hull }
-
--- ---- the row at a place
-
-abbrev pub noFinding : Finding
-noFinding = record { lever = 0; range = 0; heel = 0; given = 0 }
-
-abbrev pub noRow : RowPlace
-noRow = record {
-  found = false;
-  next = 0;
-  head = record { kind = 0; first = 0; count = 0; depth = 0; height = 0 };
-  results = replicate 3 noFinding;
-}
-
--- no line is as an empty one that nothing closes
-abbrev pub firstLine : List Line → Line
-firstLine [] = record { text = []; closed = false }
-firstLine (l ∷ ls) = l
-
--- a well written line of a row's kind and length
-unfoldable pub isRowLine : Line → Bool
-isRowLine l = let bs = pairs (l .text) in not (badlyWritten l) && not (wrongFrame bs) && isRow (kindOf bs)
-
--- the row that stands at a place of a file, and the place after its line feed
-unfoldable pub rowAt : List ℕ → ℕ → RowPlace
-rowAt f at =
-    let l = firstLine (lines (drop at f)) in
-    let bs = pairs (l .text) in
-    cond (isRowLine l)
-    (record { found = true; next = at + length (l .text) + 1; head = rowOf bs .head; results = rowOf bs .results })
-    noRow

@@ -10,7 +10,5 @@ pub mod Answer
 pub mod Acceptance
 pub mod Refusal
 pub mod Judging
-pub mod Walk
 pub mod Kept
 pub mod Groups
-pub mod Placing

@@ -1,5 +1,4 @@
 // Theorems only: the case file is in specs/, what is proved of it in proofs/. The values that its judging hands on stand here.
-use records::Finding;
 use records::Hull;
 use records::RowHead;
 
@@ -29,12 +28,4 @@ pub struct Judgement {
     pub line: u64,
     pub rows: u64,
     pub hull: Hull,
-}
-
-// The row at a place of a file and the place after it, or zeros where no row stands there.
-pub struct RowPlace {
-    pub found: bool,
-    pub next: usize,
-    pub head: RowHead,
-    pub results: [Finding; 3],
 }

@@ -23,24 +23,22 @@ use Rattle.survival.specs.declared.Ratio.{Ratio}
 use Rattle.survival.specs.Ratio.{ratioOf}
 use Rattle.indices.specs.Index.{partials, attainedOf, Share}
 use Rattle.verdicts.specs.Verdict.{verdictOf}
-use Rattle.lines.specs.Lines.{lineLength}
 use Rattle.casefile.specs.declared.Judgement.{Judgement}
 use Rattle.casefile.specs.Record.{Case}
 use Rattle.casefile.specs.Limits.{sizesFit}
 use Rattle.casefile.specs.Reading.{Reading, refused, accepted, reading}
 use Rattle.casefile.specs.Answer.{judgementOf}
 use Rattle.casefile.specs.Valid.{Valid}
-use Rattle.casefile.specs.Walk.{afterHull, rowsFrom}
+use Rattle.casefile.specs.Kept.{keptRows, Keeps}
 use Rattle.casefile.proofs.Limits.{Sizes, sizes-are}
 use Rattle.casefile.proofs.Refusal.{zero-accepts}
 use Rattle.casefile.proofs.Soundness.{sound}
-use Rattle.casefile.proofs.Walk.{rows-in-turn}
+use Rattle.casefile.proofs.Kept.{length-kept}
 use Rattle.rows.specs.declared.Standing.{Standing}
 use Rattle.rows.specs.Standing.{nowhere}
 use Rattle.rows.specs.Work.{shareAt, sharesFrom, addsFrom, numbers}
 use Rattle.rows.specs.Running.{Stood, Follow, Ready}
-use Rattle.rows.proofs.InTurn.{length-rows}
-use Rattle.index.specs.Answer.{partialsOf, figures, answer, shares, caseIn, refusal, answered, sheetAfter}
+use Rattle.index.specs.Answer.{partialsOf, figures, answer, shares, keptCase, refusal, answered, sheetAfter}
 use Rattle.index.proofs.ValidCase.{hulled, rows-follow}
 -- checked first, so that a definition that gives another number is refused there
 use Rattle.index.proofs.Values.{figures-are}
@@ -67,12 +65,9 @@ pub concluded : (size rows : ℕ) (ps : Trio) {a : Ends} {required mark : Ratio}
 unfolding figures
 concluded size rows ps e f g k = rw (k, e, f, g) refl
 
--- ---- a file that is accepted
+-- ---- a valid case, as it is kept
 
-module _ (f : List ℕ) (h : Hull) (rows : ℕ) (e : reading f ≡ accepted (caseIn f h rows)) where
-  valid : Valid (caseIn f h rows)
-  valid = sound f (caseIn f h rows) e .1
-
+module _ (kept : List ℕ) (h : Hull) (rows : ℕ) (valid : Valid (keptCase kept h rows)) where
   pub hull-is : Hulled h
   hull-is = hulled h (valid .hull)
 
@@ -82,37 +77,24 @@ module _ (f : List ℕ) (h : Hull) (rows : ℕ) (e : reading f ≡ accepted (cas
   pub not-long : h .length ≤ 10 ^ 6
   not-long = omega (arith, sizes .short)
 
-  pub fill-asked : (sheet : List ℕ) {t : List ℕ} {at : ℕ} → t ≡ tableOf h → at ≡ afterHull f → 2 * rows ≤ length sheet →
-      Ready h t × ((h .deepest < 2 ^ 32) × (h .light < 2 ^ 32)) × (rows ≤ 500) × (2 * rows ≤ length sheet) × Follow h nowhere (rowsFrom rows f at)
-  fill-asked sheet t a l =
-      let few : rows ≤ 500 = omega (arith, valid .few, length-rows rows f (afterHull f)) in
-      (ready hull-is t, (omega (arith, sizes .shallow), omega (arith, sizes .shallow, sizes .lighter)), few, l, rw a (rows-follow (caseIn f h rows) valid))
+  pub fill-asked : (sheet : List ℕ) {t : List ℕ} → t ≡ tableOf h → 25 * rows ≤ length kept → 2 * rows ≤ length sheet →
+      Ready h t × ((h .deepest < 2 ^ 32) × (h .light < 2 ^ 32)) × (rows ≤ 500) × (25 * rows ≤ length kept) × (2 * rows ≤ length sheet) × Follow h nowhere (keptRows rows kept 0)
+  fill-asked sheet t k l =
+      let few : rows ≤ 500 = omega (arith, valid .few, length-kept rows kept 0) in
+      (ready hull-is t, (omega (arith, sizes .shallow), omega (arith, sizes .shallow, sizes .lighter)), few, k, l, rows-follow (keptCase kept h rows) valid)
 
-  pub answer-is : {at : ℕ} {ps : Trio} {r : Answer} → at ≡ afterHull f → ps ≡ partials (addsFrom h nowhere (rowsFrom rows f at)) → r ≡ figures (h .length) rows ps → r ≡ answer (caseIn f h rows)
+  pub answer-is : {ps : Trio} {r : Answer} → ps ≡ partials (addsFrom h nowhere (keptRows rows kept 0)) → r ≡ figures (h .length) rows ps → r ≡ answer (keptCase kept h rows)
   unfolding answer partialsOf
-  answer-is a p q = q ∙ rw (p, a, length-rows rows f (afterHull f)) refl
+  answer-is p q = q ∙ rw (p, length-kept rows kept 0) refl
 
-  pub shares-are : (first : List ℕ) {at : ℕ} {now : List ℕ} → at ≡ afterHull f → now ≡ numbers (sharesFrom h nowhere (rowsFrom rows f at)) ++ drop (2 * rows) first →
-      now ≡ shares (caseIn f h rows) ++ drop (2 * rows) first
+  pub shares-are : (first : List ℕ) {now : List ℕ} → now ≡ numbers (sharesFrom h nowhere (keptRows rows kept 0)) ++ drop (2 * rows) first → now ≡ shares (keptCase kept h rows) ++ drop (2 * rows) first
   unfolding shares
-  shares-are first a q = q ∙ rw a refl
-
-  -- with room for its shares
-  pub whole-case : (sheet : List ℕ) {now : List ℕ} {r : Answer} → 2 * rows ≤ length sheet → r ≡ answer (caseIn f h rows) → now ≡ shares (caseIn f h rows) ++ drop (2 * rows) sheet →
-      (r ≡ answered (reading f) (length sheet)) × (now ≡ sheetAfter (reading f) sheet)
-  unfolding answered sheetAfter
-  whole-case sheet l a s =
-      let n : length (rowsFrom rows f (afterHull f)) ≡ rows = length-rows rows f (afterHull f) in
-      let t : ltb (length sheet) (2 * length (rowsFrom rows f (afterHull f))) ≡ false = le-ltb (length sheet) (2 * length (rowsFrom rows f (afterHull f))) (omega (arith, n)) in
-      (a ∙ rw (e, t) refl, s ∙ rw (e, t, n) refl)
-
-pub after-hull : (f : List ℕ) {end : ℕ} → end ≡ 0 + lineLength (drop 0 f) → end + 1 ≡ afterHull f
-after-hull f e = omega (arith, e)
+  shares-are first q = q
 
 -- ---- any file, by its judgement
 
-same-case : (f : List ℕ) (h : Hull) (n : ℕ) (c : Case) → h ≡ c .hull → n ≡ length (c .rows) → rowsFrom (length (c .rows)) f (afterHull f) ≡ c .rows → caseIn f h n ≡ c
-same-case f h n c e k r = rw (e, k, r) refl
+same-case : (kept : List ℕ) (h : Hull) (n : ℕ) (c : Case) → h ≡ c .hull → n ≡ length (c .rows) → keptRows (length (c .rows)) kept 0 ≡ c .rows → keptCase kept h n ≡ c
+same-case kept h n c e k r = rw (e, k, r) refl
 
 pub refused-case : (r : Reading) (sheet : List ℕ) {j : Judgement} {a : Answer} → j ≡ judgementOf r → (j .number ≡ 0 → ⊥) → a ≡ refusal (j .number) (j .line) →
     (a ≡ answered r (length sheet)) × (sheet ≡ sheetAfter r sheet)
@@ -135,7 +117,25 @@ module _ (f : List ℕ) {j : Judgement} (e : j ≡ judgementOf (reading f)) (z :
       let t : ltb (length sheet) (2 * length (c .rows)) ≡ true = lt-ltb (length sheet) (2 * length (c .rows)) (omega (arith, n)) in
       (q ∙ rw (case-is .1, t) refl, rw (case-is .1, t) refl)
 
-  pub known-case : reading f ≡ accepted (caseIn f (j .hull) (j .rows))
-  known-case =
-      let c = case-is .0 in
-      case-is .1 ∙ ap accepted (sym (same-case f (j .hull) (j .rows) c (ap (λ j. j .hull) told) (ap (λ j. j .rows) told) (rows-in-turn f c (case-is .1))))
+  -- the rows are kept
+  module _ (kept : List ℕ) (k : Keeps (reading f) kept) where
+    known-case : reading f ≡ accepted (keptCase kept (j .hull) (j .rows))
+    known-case =
+        let c = case-is .0 in
+        case-is .1 ∙ ap accepted (sym (same-case kept (j .hull) (j .rows) c (ap (λ j. j .hull) told) (ap (λ j. j .rows) told) (rw (case-is .1) at k)))
+
+    pub valid-case : Valid (keptCase kept (j .hull) (j .rows))
+    valid-case = sound f (keptCase kept (j .hull) (j .rows)) known-case .1
+
+    pub few-rows : j .rows ≤ 500
+    few-rows = omega (arith, valid-case .few, length-kept (j .rows) kept 0)
+
+    -- with room for its shares
+    pub whole-case : (sheet : List ℕ) {now : List ℕ} {r : Answer} → 2 * j .rows ≤ length sheet → r ≡ answer (keptCase kept (j .hull) (j .rows)) →
+        now ≡ shares (keptCase kept (j .hull) (j .rows)) ++ drop (2 * j .rows) sheet → (r ≡ answered (reading f) (length sheet)) × (now ≡ sheetAfter (reading f) sheet)
+    unfolding answered sheetAfter
+    whole-case sheet l a s =
+        let rows : ℕ = j .rows in
+        let n : length (keptRows rows kept 0) ≡ rows = length-kept rows kept 0 in
+        let t : ltb (length sheet) (2 * length (keptRows rows kept 0)) ≡ false = le-ltb (length sheet) (2 * length (keptRows rows kept 0)) (omega (arith, n)) in
+        (a ∙ rw (known-case, t) refl, s ∙ rw (known-case, t, n) refl)

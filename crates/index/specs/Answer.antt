@@ -14,7 +14,7 @@ use Rattle.indices.specs.Index.{partials, attainedOf}
 use Rattle.verdicts.specs.Verdict.{verdictOf}
 use Rattle.casefile.specs.Record.{Case}
 use Rattle.casefile.specs.Reading.{Reading, refused, accepted}
-use Rattle.casefile.specs.Walk.{afterHull, rowsFrom}
+use Rattle.casefile.specs.Kept.{keptRows}
 use Rattle.rows.specs.Standing.{nowhere}
 use Rattle.rows.specs.Work.{sharesFrom, addsFrom, numbers}
 
@@ -42,9 +42,9 @@ answer c = figures (c .hull .length) (length (c .rows)) (partialsOf c)
 unfoldable pub shares : Case → List ℕ
 shares c = numbers (sharesFrom (c .hull) nowhere (c .rows))
 
--- the case of a file whose hull and row count are known
-abbrev pub caseIn : List ℕ → Hull → ℕ → Case
-caseIn f h rows = record { hull = h; rows = rowsFrom rows f (afterHull f) }
+-- the case of a hull and of so many rows as they are kept
+abbrev pub keptCase : List ℕ → Hull → ℕ → Case
+keptCase kept h rows = record { hull = h; rows = keptRows rows kept 0 }
 
 -- ---- any input, and a sheet of so many numbers
 

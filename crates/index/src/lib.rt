@@ -4,8 +4,9 @@ ghost use mathlib.Core.List.{_++_};
 ghost use Prim.Native.Nat.{_*_, _^_, _≤_};
 ghost use lib.ListN.{length, drop};
 ghost use Rattle.indices.specs.Index.{Within};
-ghost use Rattle.casefile.specs.Reading.{accepted, reading};
-ghost use Rattle.index.specs.Answer.{figures, answer, shares, caseIn, refusal, answered, sheetAfter};
+ghost use Rattle.casefile.specs.Reading.{reading};
+ghost use Rattle.casefile.specs.Valid.{Valid};
+ghost use Rattle.index.specs.Answer.{figures, answer, shares, keptCase, refusal, answered, sheetAfter};
 ghost use Rattle.index.specs.Report.{reportLength, reportedIn};
 use records::Answer;
 use records::Ends;
@@ -51,22 +52,29 @@ fn conclude(size: u64, rows: u64, partials: Trio) -> Answer
     }
 }
 
-// An accepted file whose hull and row count are known, with room for its shares.
-fn complete(input: &[u8], h: Hull, rows: u64, sheet: &mut [u64]) -> Answer
-    requires { ⌜ (reading (now input) ≡ accepted (caseIn (now input) h rows)) × (2 * rows ≤ length (now sheet)) ⌝ }
-    ensures { λ r. ⌜ (r ≡ answer (caseIn (now (input .entry)) h rows)) × (now (sheet .exit) ≡ shares (caseIn (now (input .entry)) h rows) ++ drop (2 * rows) (now (sheet .entry))) ⌝ }
+// A valid case, by its hull and its rows as they are kept, with room for its shares.
+fn complete(kept: &[u8], h: Hull, rows: u64, sheet: &mut [u64]) -> Answer
+    requires { ⌜ Valid (keptCase (now kept) h rows) × (25 * rows ≤ length (now kept)) × (2 * rows ≤ length (now sheet)) ⌝ }
+    ensures { λ r. ⌜ (r ≡ answer (keptCase (now (kept .entry)) h rows)) × (now (sheet .exit) ≡ shares (keptCase (now (kept .entry)) h rows) ++ drop (2 * rows) (now (sheet .entry))) ⌝ }
 {
     let t = spans::span_table(h);
-    let end = lines::line_end(input, 0);
-    let partials = fill(input, end + 1, rows as usize, h, &t, sheet);
+    let partials = fill(kept, rows as usize, h, &t, sheet);
     conclude(h.length, rows, partials)
+}
+
+// Room for the bytes of 500 rows, and of a line more.
+fn row_room() -> [u8; 12_525]
+    ensures { λ r. ⌜ length r ≡ 12525 ⌝ }
+{
+    [0u8; 12_525]
 }
 
 // Any bytes whatever: a refusal, which leaves the sheet as it is, or the answer, with each row's share on the sheet.
 pub fn answer(input: &[u8], sheet: &mut [u64]) -> Answer
     ensures { λ r. ⌜ (r ≡ answered (reading (now (input .entry))) (length (now (sheet .entry)))) × (now (sheet .exit) ≡ sheetAfter (reading (now (input .entry))) (now (sheet .entry))) ⌝ }
 {
-    let judged = reader::judge(input);
+    let mut kept = row_room();
+    let judged = reader::judge(input, &mut kept);
     if judged.number != 0 {
         return refuse(judged.number, judged.line);
     }
@@ -74,7 +82,7 @@ pub fn answer(input: &[u8], sheet: &mut [u64]) -> Answer
         return refuse(11, 0);
     }
     let h = judged.hull;
-    complete(input, h, judged.rows, sheet)
+    complete(&kept, h, judged.rows, sheet)
 }
 
 // A sheet of 1,000 numbers, with room for every case's shares.

@@ -7,14 +7,14 @@ use native.Mathlib.Numerals.{add-one}
 use native.Mathlib.Omega.{arith}
 use lib.Dec.{eqb}
 use lib.ListN.{length, getD, take, drop, set, replicate, getD-replicate, drop-of-length-le}
-use lib.Seq.{sets, sets-eq, length-sets, take-at, take-suc, length-take-le, drop-cons}
+use lib.Seq.{sets, sets-eq, length-sets, take-at, take-suc, take-add, length-take-le, drop-cons}
 use Rattle.laws.proofs.Lists.{sets-append}
 use Rattle.frames.specs.declared.Written.the-variants.{Bytes, Badly}
-use Rattle.frames.specs.Hex.{digitOf, refusalOf, markOf, pairs, byteOf, bytesOf, digitsOnly, proper}
+use Rattle.frames.specs.Hex.{digitOf, refusalOf, markOf, markAt, pairs, byteOf, bytesOf, digitsOnly, proper}
 use Rattle.frames.specs.Decoding.{writtenOf}
 use Rattle.frames.proofs.Marks.{mark-tells, mark-counts}
 use Rattle.frames.proofs.Pairs.{proper-parts, length-pairs, pairs-some}
-use Rattle.frames.proofs.Decode.{length-bytesOf, byte-there, bytes-pairs, digits-taken, proper-by-parts}
+use Rattle.frames.proofs.Decode.{length-bytesOf, byte-there, bytes-pairs, digits-taken, digits-joined, proper-by-parts}
 
 -- ---- i pairs are read, and their bytes stand at the front of out, which came as was
 
@@ -38,6 +38,20 @@ module _ (bad : Bool) (s : List ℕ) (k : ℕ) where
   unfolding digitsOnly
   other-ended h = rw (drop-of-length-le s h) (or-false bad)
 
+-- a run of stores changes no length, and goes on by a byte
+pub run-long : (was : List ℕ) (i : ℕ) (vs : List ℕ) {out : List ℕ} → out ≡ sets was i vs → length out ≡ length was
+run-long was i vs e = ap length e ∙ length-sets was i vs
+
+pub one-stored : (xs was : List ℕ) {out : List ℕ} (i k : ℕ) → k < length xs → out ≡ sets was i (take k xs) → set out (i + k) (getD xs k 0) ≡ sets was i (take (k + 1) xs)
+one-stored xs was i k h e =
+    let long : length (take k xs) ≡ k = length-take-le k xs (omega arith) in
+    rw (e, add-one k, take-suc xs k 0 h, sets-append was i (take k xs) (getD xs k 0 ∷ []), long) refl
+
+-- the byte of a pair by its two marks
+pub pair-byte : (text : List ℕ) (i h l : ℕ) → i * 2 + 2 ≤ length text → h ≡ markAt text (i * 2) → l ≡ markAt text (i * 2 + 1) → h % 16 * 16 + l % 16 ≡ getD (bytesOf text) i 0
+unfolding byteOf
+pair-byte text i h l r e f = rw (mark-counts (getD text (i * 2) 0) h e, mark-counts (getD text (i * 2 + 1) 0) l f) (sym (byte-there text i r))
+
 pub record Decoding (text was out : List ℕ) (bad : Bool) (i : ℕ) : Type 0 where
   pub other : bad ≡ not (digitsOnly (take (i * 2) text))
   pub front : out ≡ sets was 0 (take i (bytesOf text))
@@ -48,21 +62,31 @@ none-read text was = record { other = refl; front = refl }
 
 module _ (text was out : List ℕ) (bad : Bool) (i : ℕ) (p : Decoding text was out bad i) where
   pub as-long : length out ≡ length was
-  as-long = ap length (p .front) ∙ length-sets was 0 (take i (bytesOf text))
+  as-long = run-long was 0 (take i (bytesOf text)) (p .front)
 
-  pub pair-read : (h l : ℕ) → i * 2 + 2 ≤ length text → h ≡ markOf (digitOf (getD text (i * 2) 0)) → l ≡ markOf (digitOf (getD text (i * 2 + 1) 0)) →
+  pub pair-read : (h l : ℕ) → i * 2 + 2 ≤ length text → h ≡ markAt text (i * 2) → l ≡ markAt text (i * 2 + 1) →
       Decoding text was (set out i (h % 16 * 16 + l % 16)) (bad || eqb h 16 || eqb l 16) (i + 1)
-  unfolding byteOf
   pair-read h l r e f =
       let two : (i + 1) * 2 ≡ suc (suc (i * 2)) = omega arith in
       let one : i * 2 + 1 ≡ suc (i * 2) = omega arith in
-      let there : i < length (bytesOf text) = omega (arith, length-bytesOf text) in
-      let byte : h % 16 * 16 + l % 16 ≡ getD (bytesOf text) i 0 = rw (mark-counts (getD text (i * 2) 0) h e, mark-counts (getD text (i * 2 + 1) 0) l f) (sym (byte-there text i r)) in
-      let next : take (i + 1) (bytesOf text) ≡ take i (bytesOf text) ++ (getD (bytesOf text) i 0 ∷ []) = rw add-one (take-suc (bytesOf text) i 0 there) in
-      let long : 0 + length (take i (bytesOf text)) ≡ i = omega (arith, length-take-le i (bytesOf text) (omega arith)) in
+      let here : 0 + i ≡ i = omega arith in
+      let stored : set out i (getD (bytesOf text) i 0) ≡ sets was 0 (take (i + 1) (bytesOf text)) = rw here at (one-stored (bytesOf text) was 0 i (omega (arith, length-bytesOf text)) (p .front)) in
       record {
         other = rw (p .other, other-taken text (i * 2) h (omega arith) e, two) (other-taken text (suc (i * 2)) l (omega arith) (rw one at f));
-        front = rw (byte, p .front, next, sets-append was 0 (take i (bytesOf text)) (getD (bytesOf text) i 0 ∷ []), long) refl;
+        front = rw (pair-byte text i h l r e f) stored;
+      }
+
+  -- so many pairs more
+  pub pairs-read : (k : ℕ) {new : List ℕ} {t : Bool} → (i + k) * 2 ≤ length text → t ≡ not (digitsOnly (take (k * 2) (drop (i * 2) text))) → new ≡ sets out i (take k (drop i (bytesOf text))) →
+      Decoding text was new (bad || t) (i + k)
+  pairs-read k h e f =
+      let long : 0 + length (take i (bytesOf text)) ≡ i = omega (arith, length-take-le i (bytesOf text) (omega (arith, length-bytesOf text))) in
+      let both : (i + k) * 2 ≡ i * 2 + k * 2 = omega arith in
+      let read = take (i * 2) text in
+      let more = take (k * 2) (drop (i * 2) text) in
+      record {
+        other = rw (p .other, e, both, take-add (i * 2) (k * 2) text, digits-joined read more) (not-both (digitsOnly read) (digitsOnly more));
+        front = rw (f, p .front, take-add i k (bytesOf text), sets-append was 0 (take i (bytesOf text)) (take k (drop i (bytesOf text))), long) refl;
       }
 
 -- the answer by the four tests

@@ -2,11 +2,11 @@
 use Prim.Native.Nat.{ℕ, zero, suc, _+_, _*_, _/_, _%_, _≤_, _<_, min}
 use mathlib.Core.Path.{_≡_, refl, sym, _∙_, ap}
 use mathlib.Core.Bool.{Bool, true, not, _&&_, _||_, and-assoc, and-true}
-use mathlib.Core.List.{List, [], _∷_}
+use mathlib.Core.List.{List, [], _∷_, _++_}
 use native.Mathlib.Nat.{min-eq-left, min-eq-right, le-of-lt}
 use native.Mathlib.Omega.{arith}
 use lib.Dec.{eqb}
-use lib.ListN.{length, getD, take, drop, set, length-set}
+use lib.ListN.{length, getD, take, drop, set, length-set, take-append-drop}
 use lib.Seq.{sets, set-out, take-all, take-nil}
 use borrow.Author.Tests.{lt-ltb, eq-eqb, ne-eqb, eqb-false, not-true, not-false}
 use Rattle.laws.proofs.Tests.{both, neither, same-test}
@@ -71,11 +71,13 @@ digits-taken [] k h = absurd (omega arith)
 digits-taken (b ∷ s) zero h = and-true (isDigit b)
 digits-taken (b ∷ s) (suc k) h = ap (isDigit b &&_) (digits-taken s k (omega arith)) ∙ sym (and-assoc (isDigit b) (digitsOnly (take k s)) (isDigit (getD s k 0)))
 
-pub digits-in-two : (k : ℕ) (s : List ℕ) → digitsOnly s ≡ (digitsOnly (take k s) && digitsOnly (drop k s))
+pub digits-joined : (s t : List ℕ) → digitsOnly (s ++ t) ≡ (digitsOnly s && digitsOnly t)
 unfolding digitsOnly
-digits-in-two zero s = refl
-digits-in-two (suc k) [] = refl
-digits-in-two (suc k) (b ∷ s) = ap (isDigit b &&_) (digits-in-two k s) ∙ sym (and-assoc (isDigit b) (digitsOnly (take k s)) (digitsOnly (drop k s)))
+digits-joined [] t = refl
+digits-joined (b ∷ s) t = ap (isDigit b &&_) (digits-joined s t) ∙ sym (and-assoc (isDigit b) (digitsOnly s) (digitsOnly t))
+
+pub digits-in-two : (k : ℕ) (s : List ℕ) → digitsOnly s ≡ (digitsOnly (take k s) && digitsOnly (drop k s))
+digits-in-two k s = ap digitsOnly (sym (take-append-drop k s)) ∙ digits-joined (take k s) (drop k s)
 
 -- ---- a line is well written where both parts have digits only, and it is neither odd nor without a pair
 module _ (s : List ℕ) (k : ℕ) where

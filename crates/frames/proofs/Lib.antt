@@ -3,6 +3,7 @@ pub mod Pairs
 pub mod Decode
 pub mod Marks
 pub mod CodeDecoding
+pub mod CodeEights
 pub mod Fields
 pub mod Examples
 pub mod Text

@@ -1,11 +1,12 @@
 // What stands in a line of the case file: hexadecimal digits, and the fields that are read from a place of their bytes on.
 ghost use mathlib.Core.Path.{_≡_};
 ghost use mathlib.Core.Bool.{cond, not, _&&_};
-ghost use Prim.Native.Nat.{_-_, _*_, _≤_, _<_, min};
+ghost use Prim.Native.Nat.{_+_, _-_, _*_, _≤_, _<_, min};
 ghost use lib.Dec.{leb};
 ghost use lib.ListN.{length, take, drop};
 ghost use lib.Seq.{sets};
-ghost use Rattle.frames.specs.Hex.{digitOf, markOf, digitsOnly, bytesOf};
+ghost use Rattle.laws.specs.Lists.{tabulate};
+ghost use Rattle.frames.specs.Hex.{digitOf, markOf, markAt, otherBelow, digitsOnly, bytesOf};
 ghost use Rattle.frames.specs.Decoding.{writtenOf};
 ghost use Rattle.frames.specs.Fields.{byteAt, wordAt};
 
@@ -50,8 +51,52 @@ fn value_of(b: u8) -> u8
     if decimal < 16 { decimal } else { letter }
 }
 
+// The values of the sixteen bytes from a place on: in an array of their own, so that no store can touch them.
+fn sixteen(text: &[u8], at: usize) -> [u8; 16]
+    requires { ⌜ at + 16 ≤ length (now text) ⌝ }
+    ensures { λ r. ⌜ r ≡ tabulate (λ k. markAt (now (text .entry)) (at + k)) 16 ⌝ }
+{
+    let mut v = [0u8; 16];
+    let mut k: usize = 0;
+    while k < 16 {
+        v[k] = value_of(text[at + k]);
+        k = k + 1;
+    }
+    v
+}
+
+// Whether one of sixteen values is that of no digit.
+fn some_other(v: [u8; 16]) -> bool
+    ensures { λ r. ⌜ r ≡ otherBelow v 16 ⌝ }
+{
+    let mut bad = false;
+    let mut k: usize = 0;
+    while k < 16 {
+        bad = bad | (v[k] == 16);
+        k = k + 1;
+    }
+    bad
+}
+
+// Writes the bytes of the eight pairs from pair i on to their places, and says whether one of their digits is none.
+fn decode_eight(text: &[u8], out: &mut [u8], i: usize) -> bool
+    requires { ⌜ (i * 2 + 16 ≤ length (now text)) × (i + 8 ≤ length (now out)) ⌝ }
+    ensures result { λ r. ⌜ r ≡ not (digitsOnly (take 16 (drop (i * 2) (now (text .entry))))) ⌝ }
+    ensures buffer { λ r. ⌜ now (out .exit) ≡ sets (now (out .entry)) i (take 8 (drop i (bytesOf (now (text .entry))))) ⌝ }
+{
+    let v = sixteen(text, i * 2);
+    let mut k: usize = 0;
+    while k < 8 {
+        let h = v[2 * k];
+        let l = v[2 * k + 1];
+        out[i + k] = h % 16 * 16 + l % 16;
+        k = k + 1;
+    }
+    some_other(v)
+}
+
 // Writes the bytes of the first m pairs to the front of the buffer, and says whether one of their digits is none. Each turn does the same
-// whatever the digits are, so that the compiler takes many turns at once.
+// whatever the digits are, and eight pairs are a turn as long as there are so many, so that the compiler takes them at once.
 fn decode_pairs(text: &[u8], out: &mut [u8], m: usize) -> bool
     requires { ⌜ (m * 2 ≤ length (now text)) × (m ≤ length (now out)) ⌝ }
     ensures result { λ r. ⌜ r ≡ not (digitsOnly (take (m * 2) (now (text .entry)))) ⌝ }
@@ -59,6 +104,10 @@ fn decode_pairs(text: &[u8], out: &mut [u8], m: usize) -> bool
 {
     let mut bad = false;
     let mut i: usize = 0;
+    while i + 8 <= m {
+        bad = bad | decode_eight(text, out, i);
+        i = i + 8;
+    }
     while i < m {
         let h = value_of(text[i * 2]);
         let l = value_of(text[i * 2 + 1]);
@@ -123,4 +172,22 @@ pub fn word_at(f: &[u8], at: usize) -> u64
         return 0;
     }
     byte_at(f, at) * 256 + byte_at(f, at + 1)
+}
+
+// A byte of a part of a line that has it: it is read without a test.
+pub fn byte_in(f: &[u8], at: usize) -> u64
+    requires { ⌜ at < length (now f) ⌝ }
+    ensures value { λ r. ⌜ r ≡ byteAt (now (f .entry)) at ⌝ }
+    ensures small { λ r. ⌜ r < 256 ⌝ }
+{
+    f[at] as u64
+}
+
+// Two bytes of a part of a line that has both, the high one first.
+pub fn word_in(f: &[u8], at: usize) -> u64
+    requires { ⌜ at + 2 ≤ length (now f) ⌝ }
+    ensures value { λ r. ⌜ r ≡ wordAt (now (f .entry)) at ⌝ }
+    ensures small { λ r. ⌜ r < 65536 ⌝ }
+{
+    f[at] as u64 * 256 + f[at + 1] as u64
 }

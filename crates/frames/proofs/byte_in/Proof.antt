@@ -1,0 +1,18 @@
+-- `byte_in` meets its contract. Assumes nothing.
+use mathlib.Core.Path.{refl}
+use borrow.Author.Needs.{needs}
+use native.Mathlib.Omega.{arith}
+use Rattle.frames.proofs.byte_in.Statement.{statement}
+use Rattle.frames.proofs.byte_in.Tie as tie
+
+shared-slice-read-result : tie.Need-shared-slice-read-result
+shared-slice-read-result c = search needs
+
+cast-result : tie.Need-cast-result
+cast-result c = omega (arith, c .shared-slice-known .given (c .before .args .at))
+
+returns : tie.Need-returns
+returns c = (refl, omega (arith, c .shared-slice-known .given (c .before .args .at)))
+
+pub byte-in-spec : {M : Type 1} → statement M
+byte-in-spec = tie.close (tie.spec shared-slice-read-result cast-result returns)

@@ -1,5 +1,5 @@
 -- The rows worked through in turn: after some of them, what is known and what is left come to what all of them come to. Assumes nothing.
-use Prim.Native.Nat.{ℕ, zero, suc, _+_, _-_, _*_, _^_, _≤_, _<_}
+use Prim.Native.Nat.{ℕ, suc, _+_, _-_, _*_, _^_, _≤_, _<_}
 use mathlib.Core.Path.{_≡_, refl, sym, _∙_, ap, subst}
 use mathlib.Core.List.{List, [], _∷_, _++_, append-assoc, append-nil}
 use native.Mathlib.Numerals.{add-one}
@@ -19,8 +19,6 @@ use Rattle.indices.specs.Index.{partials, plus, Share, Given, Within}
 use Rattle.indices.proofs.Rows.{row-weights}
 use Rattle.indices.proofs.Sums.{partials-snoc, row-within, plus-within, none-within, within-wider}
 use Rattle.casefile.specs.Record.{Row}
-use Rattle.casefile.specs.Answer.{rowAt}
-use Rattle.casefile.specs.Walk.{rowsFrom}
 use Rattle.casefile.specs.Kept.{keptRow, keptRows}
 use Rattle.casefile.proofs.Kept.{length-kept}
 use Rattle.rows.specs.declared.Standing.{Standing}
@@ -30,12 +28,7 @@ use Rattle.rows.specs.Work.{shareAt, sumsAt, partAt, addsAt, sharesFrom,
 use Rattle.rows.specs.Running.{begun, entered, Stood, Follow, Ready}
 use Rattle.rows.specs.Work.{numbers}
 
--- ---- how many there are
-
-pub length-rows : (k : ℕ) (f : List ℕ) (at : ℕ) → length (rowsFrom k f at) ≡ k
-unfolding rowsFrom
-length-rows zero f at = refl
-length-rows (suc k) f at = ap suc (length-rows k f (rowAt f at .next))
+-- ---- how many numbers there are
 
 pub length-numbers : (h : Hull) (y : Standing) (rs : List Row) → length (numbers (sharesFrom h y rs)) ≡ 2 * length rs
 unfolding sharesFrom

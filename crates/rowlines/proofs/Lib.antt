@@ -1,3 +1,4 @@
 pub mod CodeReaders
 pub mod CodeFrames
+pub mod CodeKept
 pub mod CodeWalking

@@ -4,7 +4,7 @@ ghost use mathlib.Core.List.{_++_};
 ghost use Prim.Native.Nat.{_*_, _^_, _≤_, _<_};
 ghost use lib.ListN.{length, drop};
 ghost use Rattle.indices.specs.Index.{partials, Within};
-ghost use Rattle.casefile.specs.Walk.{rowsFrom};
+ghost use Rattle.casefile.specs.Kept.{keptRows};
 ghost use Rattle.rows.specs.Standing.{nowhere};
 ghost use Rattle.rows.specs.Work.{sharesFrom, addsFrom, numbers};
 ghost use Rattle.rows.specs.Running.{begun, Follow, Ready};
@@ -50,26 +50,23 @@ fn begin() -> Running
     }
 }
 
-// So many rows, the first of which stands at a place: two numbers a row on the sheet.
-pub fn fill(input: &[u8], from: usize, rows: usize, h: Hull, t: &[u64], sheet: &mut [u64]) -> Trio
-    requires { ⌜ Ready h (now t) × ((h .deepest < 2 ^ 32) × (h .light < 2 ^ 32)) × (rows ≤ 500) × (2 * rows ≤ length (now sheet)) × Follow h nowhere (rowsFrom rows (now input) from) ⌝ }
-    ensures { λ r. ⌜ (r ≡ partials (addsFrom h nowhere (rowsFrom rows (now (input .entry)) from))) × Within (500 * 10 ^ 9) r × (now (sheet .exit) ≡ numbers (sharesFrom h nowhere (rowsFrom rows (now (input .entry)) from)) ++ drop (2 * rows) (now (sheet .entry))) ⌝ }
+// So many rows, as they are kept: two numbers a row on the sheet.
+pub fn fill(kept: &[u8], rows: usize, h: Hull, t: &[u64], sheet: &mut [u64]) -> Trio
+    requires { ⌜ Ready h (now t) × ((h .deepest < 2 ^ 32) × (h .light < 2 ^ 32)) × (rows ≤ 500) × (25 * rows ≤ length (now kept)) × (2 * rows ≤ length (now sheet)) × Follow h nowhere (keptRows rows (now kept) 0) ⌝ }
+    ensures { λ r. ⌜ (r ≡ partials (addsFrom h nowhere (keptRows rows (now (kept .entry)) 0))) × Within (500 * 10 ^ 9) r × (now (sheet .exit) ≡ numbers (sharesFrom h nowhere (keptRows rows (now (kept .entry)) 0)) ++ drop (2 * rows) (now (sheet .entry))) ⌝ }
 {
     let at = heights::three_draughts(h.deepest, h.light);
     let mut s = begin();
-    let mut place = from;
     let mut i: usize = 0;
     while i < rows {
-        let p = rowlines::row_at(input, place);
-        let head = p.head;
-        let results = p.results;
+        let head = rowlines::kept::head_at(kept, i);
+        let results = rowlines::kept::results_at(kept, i);
         s = enter(t, h, at, s, head, results);
         let part = s.part;
         let share = part.share;
         let k = 2 * i;
         sheet[k] = share.lower;
         sheet[k + 1] = share.upper;
-        place = p.next;
         i += 1;
     }
     s.sums

@@ -10,10 +10,10 @@ use Rattle.rows.proofs.sheet.fill.Statement.{statement}
 use Rattle.rows.proofs.sheet.fill.Tie as tie
 
 abbrev Inv-loop : tie.InvT-loop
-Inv-loop input from rows h t sheet₀ at s₀ place₀ i₀ sheet s place i = Reached h input from rows sheet₀ sheet s place i
+Inv-loop kept rows h t sheet₀ at s₀ i₀ sheet s i = Reached h kept rows sheet₀ sheet s i
 
 abbrev μ-loop : tie.MeasureT-loop
-μ-loop input from rows h t sheet₀ at s₀ place₀ i₀ sheet s place i = rows - i
+μ-loop kept rows h t sheet₀ at s₀ i₀ sheet s i = rows - i
 
 three-draughts-requires : tie.Need-three-draughts-requires Inv-loop μ-loop
 three-draughts-requires c κs = search needs
@@ -22,49 +22,52 @@ begin-requires : tie.Need-begin-requires Inv-loop μ-loop
 begin-requires c κs = search needs
 
 loop-holds : tie.Need-loop-holds Inv-loop μ-loop
-loop-holds c = let r = c .before .before .before .before .before in starts (r .args .h) (r .args .input .now) (r .args .from) (r .args .rows) (r .args .sheet .now) (r .pre .4) (c .begin .ensures)
+loop-holds c = let r = c .before .before .before .before .before in starts (r .args .h) (r .args .kept .now) (r .args .rows) (r .args .sheet .now) (r .pre .5) (c .begin .ensures)
 
-row-at-requires : tie.Need-row-at-requires Inv-loop μ-loop
-row-at-requires c κs = search needs
+head-at-requires : tie.Need-head-at-requires Inv-loop μ-loop
+head-at-requires c κs = omega (arith, c .loop-test .taken, c .before .before .before .before .before .before .before .pre .3)
+
+results-at-requires : tie.Need-results-at-requires Inv-loop μ-loop
+results-at-requires c κs = omega (arith, c .before .loop-test .taken, c .before .before .before .before .before .before .before .before .pre .3)
 
 enter-requires : tie.Need-enter-requires Inv-loop μ-loop
 enter-requires c κs =
-    let r = c .before .before .before .before .before .before .before .before .before .before in
-    let l = c .before .before .before .before in
-    may-enter (r .args .h) (r .args .input .now) (r .args .from) (r .args .rows) (r .args .sheet .now) (l .loop .sheet) (l .loop .s) (l .loop .place) (l .loop .i) (l .loop .inv) (c .before .before .before .loop-test .taken) (r .pre .0) (l .before .before .three-draughts .ensures) (c .before .before .row-at .ensures) (r .pre .2)
+    let r = c .before .before .before .before .before .before .before .before .before in
+    let l = c .before .before .before in
+    may-enter (r .args .h) (r .args .kept .now) (r .args .rows) (r .args .sheet .now) (l .loop .sheet) (l .loop .s) (l .loop .i) (l .loop .inv) (c .before .before .loop-test .taken) (r .pre .0) (l .before .before .three-draughts .ensures) (c .before .head-at .ensures) (c .results-at .ensures) (r .pre .2)
 
 mul-k : tie.Need-mul-k Inv-loop μ-loop
-mul-k c = omega (arith, c .before .before .before .before .before .before .loop-test .taken, c .before .before .before .before .before .before .before .before .before .before .before .before .before .pre .2)
+mul-k c = omega (arith, c .before .before .before .before .before .loop-test .taken, c .before .before .before .before .before .before .before .before .before .before .before .before .pre .2)
 
 mul-sheet : tie.Need-mul-sheet Inv-loop μ-loop
-mul-sheet c = omega (arith, c .before .before .before .before .before .before .loop-test .taken, c .before .before .before .before .before .before .before .before .before .before .before .before .before .pre .2)
+mul-sheet c = omega (arith, c .before .before .before .before .before .loop-test .taken, c .before .before .before .before .before .before .before .before .before .before .before .before .pre .2)
 
 slice-write-sheet : tie.Need-slice-write-sheet Inv-loop μ-loop
-slice-write-sheet c = omega (arith, c .before .before .before .before .before .before .loop-test .taken, c .before .before .before .before .before .before .before .before .before .before .before .before .before .pre .3, c .before .before .before .before .before .before .before .loop .inv .long)
+slice-write-sheet c = omega (arith, c .before .before .before .before .before .loop-test .taken, c .before .before .before .before .before .before .before .before .before .before .before .before .pre .4, c .before .before .before .before .before .before .loop .inv .long)
 
 add-sheet : tie.Need-add-sheet Inv-loop μ-loop
-add-sheet c = omega (arith, c .before .before .before .before .before .before .loop-test .taken, c .before .before .before .before .before .before .before .before .before .before .before .before .before .pre .2)
+add-sheet c = omega (arith, c .before .before .before .before .before .loop-test .taken, c .before .before .before .before .before .before .before .before .before .before .before .before .pre .2)
 
 mul-sheet-2 : tie.Need-mul-sheet-2 Inv-loop μ-loop
-mul-sheet-2 c = omega (arith, c .before .before .before .before .before .before .loop-test .taken, c .before .before .before .before .before .before .before .before .before .before .before .before .before .pre .2)
+mul-sheet-2 c = omega (arith, c .before .before .before .before .before .loop-test .taken, c .before .before .before .before .before .before .before .before .before .before .before .before .pre .2)
 
 slice-write-sheet-2 : tie.Need-slice-write-sheet-2 Inv-loop μ-loop
-slice-write-sheet-2 c = lt-length-set (c .before .before .before .before .before .before .before .loop .sheet) _ _ (omega (arith, c .before .before .before .before .before .before .loop-test .taken, c .before .before .before .before .before .before .before .before .before .before .before .before .before .pre .3, c .before .before .before .before .before .before .before .loop .inv .long))
+slice-write-sheet-2 c = lt-length-set (c .before .before .before .before .before .before .loop .sheet) _ _ (omega (arith, c .before .before .before .before .before .loop-test .taken, c .before .before .before .before .before .before .before .before .before .before .before .before .pre .4, c .before .before .before .before .before .before .loop .inv .long))
 
 add-i : tie.Need-add-i Inv-loop μ-loop
-add-i c = omega (arith, c .before .before .before .before .before .before .loop-test .taken, c .before .before .before .before .before .before .before .before .before .before .before .before .before .pre .2)
+add-i c = omega (arith, c .before .before .before .before .before .loop-test .taken, c .before .before .before .before .before .before .before .before .before .before .before .before .pre .2)
 
 loop-less : tie.Need-loop-less Inv-loop μ-loop
-loop-less c = omega (arith, c .before .before .before .before .before .before .loop-test .taken)
+loop-less c = omega (arith, c .before .before .before .before .before .loop-test .taken)
 
 loop-again : tie.Need-loop-again Inv-loop μ-loop
 loop-again c =
-    let r = c .before .before .before .before .before .before .before .before .before .before .before .before .before in
-    let l = c .before .before .before .before .before .before .before in
-    goes-on (r .args .h) (r .args .input .now) (r .args .from) (r .args .rows) (r .args .sheet .now) (l .loop .sheet) (l .loop .s) (l .loop .place) (l .loop .i) (l .loop .inv) (c .before .before .before .before .before .before .loop-test .taken) (r .pre .0 .shares) (c .before .before .before .before .before .row-at .ensures) (c .before .before .enter .ensures .0) (c .before .before .enter .ensures .1) refl
+    let r = c .before .before .before .before .before .before .before .before .before .before .before .before in
+    let l = c .before .before .before .before .before .before in
+    goes-on (r .args .h) (r .args .kept .now) (r .args .rows) (r .args .sheet .now) (l .loop .sheet) (l .loop .s) (l .loop .i) (l .loop .inv) (c .before .before .before .before .before .loop-test .taken) (r .pre .0 .shares) (c .before .before .before .before .head-at .ensures) (c .before .before .before .results-at .ensures) (c .before .before .enter .ensures .0) (c .before .before .enter .ensures .1) refl
 
 same-length : tie.Need-same-length Inv-loop μ-loop
-same-length c = c .before .before .loop .inv .long
+same-length c = search needs
 
 returns : tie.Need-returns Inv-loop μ-loop
 returns c =
@@ -72,7 +75,7 @@ returns c =
     let l = c .before .before in
     let last = c .before .loop-test .left in
     let few = within-wider {k = 500 * 10 ^ 9} (omega (arith, l .loop .inv .within, r .pre .2)) (l .loop .inv .small) in
-    (sums-are (r .args .h) (r .args .input .now) (r .args .from) (r .args .rows) (r .args .sheet .now) (l .loop .sheet) (l .loop .s) (l .loop .place) (l .loop .i) (l .loop .inv) last, few, sheet-is (r .args .h) (r .args .input .now) (r .args .from) (r .args .rows) (r .args .sheet .now) (l .loop .sheet) (l .loop .s) (l .loop .place) (l .loop .i) (l .loop .inv) last (r .pre .3))
+    (sums-are (r .args .h) (r .args .kept .now) (r .args .rows) (r .args .sheet .now) (l .loop .sheet) (l .loop .s) (l .loop .i) (l .loop .inv) last, few, sheet-is (r .args .h) (r .args .kept .now) (r .args .rows) (r .args .sheet .now) (l .loop .sheet) (l .loop .s) (l .loop .i) (l .loop .inv) last (r .pre .4))
 
 pub fill-spec : {M : Type 1} → statement M
 fill-spec =
@@ -83,7 +86,8 @@ fill-spec =
     three-draughts-requires
     begin-requires
     loop-holds
-    row-at-requires
+    head-at-requires
+    results-at-requires
     enter-requires
     mul-k
     mul-sheet

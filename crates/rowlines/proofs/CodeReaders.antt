@@ -1,11 +1,30 @@
 -- Records from parts of a frame's bytes, as the code takes them. Assumes nothing.
-use Prim.Native.Nat.{ℕ, _+_, _-_, _*_}
+use Prim.Native.Nat.{ℕ, _+_, _-_, _*_, _≤_}
 use mathlib.Core.Path.{_≡_, refl}
+use mathlib.Core.Bool.{Bool, true, false, cond}
 use mathlib.Core.List.{List, [], _∷_}
-use lib.ListN.{length, take, drop}
+use native.Mathlib.Omega.{arith}
+use lib.Dec.{eqb}
+use lib.ListN.{length, take, drop, length-drop}
+use borrow.Author.Tests.{eq-eqb}
 use Rattle.laws.proofs.Lists.{rest-of}
 use Rattle.records.specs.declared.Finding.{Finding}
 use Rattle.casefile.specs.Layout.{setLength, findingOf, resultsOf}
+
+-- a result of either kind has a field of two bytes, and one of kind 02 has three
+pub field-there : (kind n : ℕ) → setLength kind ≤ n → 2 ≤ n
+field-there kind n h = by (eqb kind 2) h
+  where
+    by : (t : Bool) → cond t 6 2 ≤ n → 2 ≤ n
+    by true l = omega arith
+    by false l = l
+
+pub three-there : (kind n : ℕ) → kind ≡ 2 → setLength kind ≤ n → 6 ≤ n
+three-there kind n e h = rw (eq-eqb kind 2 e) at h
+
+-- what stands from a place on stands in the part from there to the end
+pub part-long : (f : List ℕ) (at n : ℕ) → at + n ≤ length f → n ≤ length (take (length f - at) (drop at f))
+part-long f at n h = rw (rest-of f at, length-drop at f) (omega arith)
 
 -- the three results of a frame, each from a part that goes on to the end
 pub results-by-parts : (kind set : ℕ) (f : List ℕ) (x y z : Finding) → set ≡ setLength kind

@@ -7,26 +7,28 @@ use records::Finding;
 use records::RowHead;
 
 pub fn head(kind: u64, f: &[u8]) -> RowHead
+    requires { ⌜ 6 ≤ length (now f) ⌝ }
     ensures { λ r. ⌜ r ≡ headOf kind (now (f .entry)) ⌝ }
 {
     RowHead {
         kind,
-        first: frames::byte_at(f, 0),
-        count: frames::byte_at(f, 1),
-        depth: frames::word_at(f, 2),
-        height: frames::word_at(f, 4),
+        first: frames::byte_in(f, 0),
+        count: frames::byte_in(f, 1),
+        depth: frames::word_in(f, 2),
+        height: frames::word_in(f, 4),
     }
 }
 
 // One draught's result, read from where it starts.
 fn finding(kind: u64, f: &[u8]) -> Finding
+    requires { ⌜ setLength kind ≤ length (now f) ⌝ }
     ensures { λ r. ⌜ r ≡ findingOf kind (now (f .entry)) ⌝ }
 {
     if kind == 2 {
         return Finding {
-            lever: frames::word_at(f, 0),
-            range: frames::word_at(f, 2),
-            heel: frames::word_at(f, 4),
+            lever: frames::word_in(f, 0),
+            range: frames::word_in(f, 2),
+            heel: frames::word_in(f, 4),
             given: 0,
         };
     }
@@ -34,7 +36,7 @@ fn finding(kind: u64, f: &[u8]) -> Finding
         lever: 0,
         range: 0,
         heel: 0,
-        given: frames::word_at(f, 0),
+        given: frames::word_in(f, 0),
     }
 }
 

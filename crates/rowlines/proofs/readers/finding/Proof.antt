@@ -2,37 +2,38 @@
 use mathlib.Core.Path.{refl}
 use borrow.Author.Tests.{eq-eqb, ne-eqb}
 use Rattle.casefile.specs.Layout.{findingOf}
-use borrow.Author.Needs.{needs}
+use native.Mathlib.Omega.{arith}
+use Rattle.rowlines.proofs.CodeReaders.{field-there, three-there}
 use Rattle.rowlines.proofs.readers.finding.Statement.{statement}
 use Rattle.rowlines.proofs.readers.finding.Tie as tie
 
-word-at-requires : tie.Need-word-at-requires
-word-at-requires c κs = search needs
+word-in-requires : tie.Need-word-in-requires
+word-in-requires c κs = omega (arith, three-there _ _ (c .if1 .taken) (c .before .before .pre))
 
-word-at-requires-2 : tie.Need-word-at-requires-2
-word-at-requires-2 c κs = search needs
+word-in-requires-2 : tie.Need-word-in-requires-2
+word-in-requires-2 c κs = omega (arith, three-there _ _ (c .before .if1 .taken) (c .before .before .before .pre))
 
-word-at-requires-3 : tie.Need-word-at-requires-3
-word-at-requires-3 c κs = search needs
+word-in-requires-3 : tie.Need-word-in-requires-3
+word-in-requires-3 c κs = omega (arith, three-there _ _ (c .before .before .if1 .taken) (c .before .before .before .before .pre))
 
 returns : tie.Need-returns
 unfolding findingOf
-returns c = rw (eq-eqb _ _ (c .before .before .before .if1 .taken), c .word-at3 .ensures .0, c .before .word-at2 .ensures .0, c .before .before .word-at .ensures .0) refl
+returns c = rw (eq-eqb _ _ (c .before .before .before .if1 .taken), c .word-in3 .ensures .0, c .before .word-in2 .ensures .0, c .before .before .word-in .ensures .0) refl
 
-word-at-requires-4 : tie.Need-word-at-requires-4
-word-at-requires-4 c κs = search needs
+word-in-requires-4 : tie.Need-word-in-requires-4
+word-in-requires-4 c κs = omega (arith, field-there (c .before .before .args .kind) _ (c .before .before .pre))
 
 returns-2 : tie.Need-returns-2
 unfolding findingOf
-returns-2 c = rw (ne-eqb _ _ (c .before .if1 .left), c .word-at4 .ensures .0) refl
+returns-2 c = rw (ne-eqb _ _ (c .before .if1 .left), c .word-in4 .ensures .0) refl
 
 pub finding-spec : {M : Type 1} → statement M
 finding-spec =
     tie.close
     (tie.spec
-    word-at-requires
-    word-at-requires-2
-    word-at-requires-3
+    word-in-requires
+    word-in-requires-2
+    word-in-requires-3
     returns
-    word-at-requires-4
+    word-in-requires-4
     returns-2)

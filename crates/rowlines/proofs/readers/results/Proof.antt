@@ -1,5 +1,5 @@
 -- `results` meets its contract: a part with no end goes on to the end. Assumes nothing.
-use Rattle.rowlines.proofs.CodeReaders.{results-by-parts}
+use Rattle.rowlines.proofs.CodeReaders.{part-long, results-by-parts}
 use borrow.Author.Needs.{needs}
 use Rattle.rowlines.proofs.readers.results.Statement.{statement}
 use Rattle.rowlines.proofs.readers.results.Tie as tie
@@ -26,7 +26,7 @@ part-finding-end : tie.Need-part-finding-end
 part-finding-end c = search needs
 
 finding-requires : tie.Need-finding-requires
-finding-requires c κs = search needs
+finding-requires c κs = search (needs, part-long)
 
 sub-finding-2 : tie.Need-sub-finding-2
 sub-finding-2 c = search needs
@@ -38,7 +38,7 @@ part-finding-end-2 : tie.Need-part-finding-end-2
 part-finding-end-2 c = search needs
 
 finding-requires-2 : tie.Need-finding-requires-2
-finding-requires-2 c κs = search needs
+finding-requires-2 c κs = search (needs, part-long)
 
 sub-finding-3 : tie.Need-sub-finding-3
 sub-finding-3 c = search needs
@@ -50,7 +50,7 @@ part-finding-end-3 : tie.Need-part-finding-end-3
 part-finding-end-3 c = search needs
 
 finding-requires-3 : tie.Need-finding-requires-3
-finding-requires-3 c κs = search needs
+finding-requires-3 c κs = search (needs, part-long)
 
 returns : tie.Need-returns
 returns c = results-by-parts _ _ _ _ _ _ (c .before .before .before .before .before .before .set-length .ensures) (c .before .before .before .before .finding .ensures) (c .before .before .finding2 .ensures) (c .finding3 .ensures)

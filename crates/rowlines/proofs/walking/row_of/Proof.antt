@@ -31,7 +31,7 @@ part-head-end : tie.Need-part-head-end
 part-head-end c = search needs
 
 head-requires : tie.Need-head-requires
-head-requires c κs = search needs
+head-requires c κs = omega (arith, results-fit (now (c .before .before .before .before .before .before .before .args .frame)) _ (c .before .before .before .before .before .byte-at .ensures .0) (c .before .before .before .if1 .left ∙ c .before .before .before .before .frame-length .ensures) (omega arith) (omega arith))
 
 sub-results : tie.Need-sub-results
 sub-results c = search needs

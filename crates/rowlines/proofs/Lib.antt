@@ -1,4 +1,3 @@
 pub mod CodeReaders
 pub mod CodeFrames
 pub mod CodeKept
-pub mod CodeWalking

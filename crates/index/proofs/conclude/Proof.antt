@@ -1,4 +1,4 @@
--- `entry::conclude` meets its contract. Assumes nothing.
+-- `conclude` meets its contract. Assumes nothing.
 use borrow.Author.Needs.{needs}
 use Rattle.verdicts.proofs.Marks.{required-proper, mark-proper}
 use Rattle.index.proofs.Accepted.{concluded}

@@ -1,4 +1,4 @@
--- `entry::report` meets its contract: the sheet has room for every case's shares. Assumes nothing.
+-- `report` meets its contract: the sheet has room for every case's shares. Assumes nothing.
 use borrow.Author.Needs.{needs}
 use Rattle.index.proofs.Reported.{length-reported, text-reported}
 use Rattle.index.proofs.report.Statement.{statement}

@@ -1,4 +1,5 @@
 // Single figures of the inner crates, for a host in C that compares them with the independent program.
+use casefile::Judgement;
 use records::Finding;
 ghost use mathlib.Core.Path.{_≡_};
 ghost use Rattle.solas.specs.Height.{rowV};
@@ -44,12 +45,20 @@ pub extern "C" fn probe_height(below: u64, height: u64, draught: u64) -> u64
     heights::row_factor(below, height, draught)
 }
 
+// What is said of any bytes whatever; the rows that are kept on the way go no further.
+fn judged(input: &[u8]) -> Judgement
+    ensures { λ r. ⌜ r ≡ judgementOf (reading (now (input .entry))) ⌝ }
+{
+    let mut kept = [0u8; 12_525];
+    reader::judge(input, &mut kept)
+}
+
 // The refusal's number of any bytes whatever, 0 where they are accepted.
 #[no_mangle]
 pub extern "C" fn probe_number(input: &[u8]) -> u64
     ensures { λ r. ⌜ r ≡ judgementOf (reading (now (input .entry))) .number ⌝ }
 {
-    reader::judge(input).number
+    judged(input).number
 }
 
 // Its line.
@@ -57,7 +66,7 @@ pub extern "C" fn probe_number(input: &[u8]) -> u64
 pub extern "C" fn probe_line(input: &[u8]) -> u64
     ensures { λ r. ⌜ r ≡ judgementOf (reading (now (input .entry))) .line ⌝ }
 {
-    reader::judge(input).line
+    judged(input).line
 }
 
 // The row count of a file that is accepted.
@@ -65,5 +74,5 @@ pub extern "C" fn probe_line(input: &[u8]) -> u64
 pub extern "C" fn probe_rows(input: &[u8]) -> u64
     ensures { λ r. ⌜ r ≡ judgementOf (reading (now (input .entry))) .rows ⌝ }
 {
-    reader::judge(input).rows
+    judged(input).rows
 }

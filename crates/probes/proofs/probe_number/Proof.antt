@@ -5,11 +5,11 @@ use Rattle.casefile.specs.declared.Judgement.{Judgement}
 use Rattle.probes.proofs.probe_number.Statement.{statement}
 use Rattle.probes.proofs.probe_number.Tie as tie
 
-judge-requires : tie.Need-judge-requires
-judge-requires c κs = search needs
+judged-requires : tie.Need-judged-requires
+judged-requires c κs = search needs
 
 returns : tie.Need-returns
-returns c = ap (λ (j : Judgement). j .number) (c .judge .ensures)
+returns c = ap (λ (j : Judgement). j .number) (c .judged .ensures)
 
 pub probe-number-spec : {M : Type 1} → statement M
-probe-number-spec = tie.close (tie.spec judge-requires returns)
+probe-number-spec = tie.close (tie.spec judged-requires returns)

@@ -62,18 +62,12 @@ fn complete(kept: &[u8], h: Hull, rows: u64, sheet: &mut [u64]) -> Answer
     conclude(h.length, rows, partials)
 }
 
-// Room for the bytes of 500 rows, and of a line more.
-fn row_room() -> [u8; 12_525]
-    ensures { λ r. ⌜ length r ≡ 12525 ⌝ }
-{
-    [0u8; 12_525]
-}
-
-// Any bytes whatever: a refusal, which leaves the sheet as it is, or the answer, with each row's share on the sheet.
+// Any bytes whatever: a refusal, which leaves the sheet as it is, or the answer, with each row's share on the sheet. There is room to
+// keep 500 rows, and a line more, in 25 bytes each.
 pub fn answer(input: &[u8], sheet: &mut [u64]) -> Answer
     ensures { λ r. ⌜ (r ≡ answered (reading (now (input .entry))) (length (now (sheet .entry)))) × (now (sheet .exit) ≡ sheetAfter (reading (now (input .entry))) (now (sheet .entry))) ⌝ }
 {
-    let mut kept = row_room();
+    let mut kept = [0u8; 12_525];
     let judged = reader::judge(input, &mut kept);
     if judged.number != 0 {
         return refuse(judged.number, judged.line);

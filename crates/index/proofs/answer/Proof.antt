@@ -6,9 +6,6 @@ use borrow.Author.Needs.{needs}
 use Rattle.index.proofs.answer.Statement.{statement}
 use Rattle.index.proofs.answer.Tie as tie
 
-row-room-requires : tie.Need-row-room-requires
-row-room-requires c κs = search needs
-
 slice-aggregate-judge : tie.Need-slice-aggregate-judge
 slice-aggregate-judge c = search needs
 
@@ -19,20 +16,20 @@ refuse-requires : tie.Need-refuse-requires
 refuse-requires c κs = search needs
 
 returns : tie.Need-returns
-returns c = let r = c .before .before .before .before .before .before .before .before .before in refused-case (reading (r .args .input .now)) (r .args .sheet .now) (c .before .before .before .before .judge .ensures .0) (c .before .if1 .taken) (c .refuse .ensures)
+returns c = let r = c .before .before .before .before .before .before .before .before in refused-case (reading (r .args .input .now)) (r .args .sheet .now) (c .before .before .before .before .judge .ensures .0) (c .before .if1 .taken) (c .refuse .ensures)
 
 refuse-requires-2 : tie.Need-refuse-requires-2
 refuse-requires-2 c κs = search needs
 
 returns-2 : tie.Need-returns-2
-returns-2 c = let r = c .before .before .before .before .before .before .before .before .before .before .before in short-sheet (r .args .input .now) (c .before .before .before .before .before .before .judge .ensures .0) (search needs) (r .args .sheet .now) (c .before .if2 .taken) (c .refuse2 .ensures)
+returns-2 c = let r = c .before .before .before .before .before .before .before .before .before .before in short-sheet (r .args .input .now) (c .before .before .before .before .before .before .judge .ensures .0) (search needs) (r .args .sheet .now) (c .before .if2 .taken) (c .refuse2 .ensures)
 
 slice-aggregate-complete : tie.Need-slice-aggregate-complete
 slice-aggregate-complete c = search needs
 
 complete-requires : tie.Need-complete-requires
 complete-requires c κs =
-    let r = c .before .before .before .before .before .before .before .before .before .before .before .before .before in
+    let r = c .before .before .before .before .before .before .before .before .before .before .before .before in
     let j = c .before .before .before .before .before .before .before .before .judge in
     (valid-case (r .args .input .now) (j .ensures .0) (search needs) _ (j .ensures .1), omega (arith, few-rows (r .args .input .now) (j .ensures .0) (search needs) _ (j .ensures .1)), omega arith)
 
@@ -41,7 +38,7 @@ same-length c = search needs
 
 returns-3 : tie.Need-returns-3
 returns-3 c =
-    let r = c .before .before .before .before .before .before .before .before .before .before .before .before .before .before .before .before in
+    let r = c .before .before .before .before .before .before .before .before .before .before .before .before .before .before .before in
     let j = c .before .before .before .before .before .before .before .before .before .before .before .judge in
     whole-case (r .args .input .now) (j .ensures .0) (search needs) _ (j .ensures .1) (r .args .sheet .now) (omega arith) (c .before .before .complete .ensures .0) (c .before .before .complete .ensures .1)
 
@@ -49,7 +46,6 @@ pub answer-spec : {M : Type 1} → statement M
 answer-spec =
     tie.close
     (tie.spec
-    row-room-requires
     slice-aggregate-judge
     judge-requires
     refuse-requires

@@ -5,7 +5,6 @@ use mathlib.Core.Bool.{false}
 use mathlib.Core.List.{List, [], _∷_, _++_, replicate}
 use Rattle.laws.specs.Lists.{tabulate}
 use Rattle.laws.specs.Bytes.{bytes}
-use Rattle.records.specs.declared.Finding.{Finding}
 use Rattle.records.specs.declared.Hull.{Hull}
 use Rattle.lines.specs.Lines.{lines}
 use Rattle.frames.specs.Hex.{digitOf, pairOf, pairs, digitsOnly, proper, badlyWritten, digit, hex, lineOf}
@@ -19,6 +18,7 @@ use Rattle.casefile.specs.Kept.{keptRow, keptRows}
 use Rattle.casefile.specs.Reading.{Reading, refused, accepted, start, readFrom, reading}
 use Rattle.casefile.specs.Answer.{judgementOf}
 use Rattle.casefile.specs.Encode.{rowLines, encode}
+use Rattle.casefile.proofs.LimitExamples.{found, survival, row}
 
 -- 0126ac064017700fa00205dc
 abbrev hullLine : List ℕ
@@ -47,15 +47,6 @@ printed = hullLine ++ firstRow ++ secondRow ++ thirdRow ++ endLine
 read : List ℕ → Reading
 unfolding reading readFrom lines firstHolds hullChecks rowChecks endChecks lineChecks wrongHullFrame wrongFrame wrongZones between sizesFit risingTo zonesFit headFits findingFits findingsFit rowFits atTop closesGroup sameGroup sameLayer earlierGroup outOfOrder leavesOpen endsOpen frameLength placeOf hullOf headOf findingOf resultsOf digitOf pairOf pairs digitsOnly proper badlyWritten wordAt tabulate bytes hullBytes findingBytes rowBytes endBytes digit hex lineOf rowLines encode
 read f = reading f
-
-abbrev found : ℕ → ℕ → ℕ → Finding
-found g t e = record { lever = g; range = t; heel = e; given = 0 }
-
-abbrev survival : ℕ → Finding
-survival s = record { lever = 0; range = 0; heel = 0; given = s }
-
-abbrev row : ℕ → ℕ → ℕ → ℕ → ℕ → Finding → Row
-row kind a n b H r = record { head = record { kind = kind; first = a; count = n; depth = b; height = H }; results = r ∷ r ∷ r ∷ [] }
 
 -- 16 m broad, two zones
 abbrev hull : ℕ → ℕ → ℕ → ℕ → Hull

@@ -1,3 +1,4 @@
+pub mod LimitExamples
 pub mod Examples
 pub mod Checks
 pub mod Steps

@@ -1,5 +1,6 @@
 -- Rows worked out by the independent program, computed from the definitions. Assumes nothing.
 use Prim.Native.Nat.{ℕ}
+use mathlib.Core.Path.{_≡_, refl}
 use mathlib.Core.Bool.{Bool, _&&_}
 use mathlib.Core.List.{[], _∷_}
 use lib.Dec.{T, eqb}
@@ -25,8 +26,12 @@ abbrev right : Ship → Row → Bool
 right s (row a n b′ b lower upper) = eqb (rowEnds s a n b′ b .lower) lower && eqb (rowEnds s a n b′ b .upper) upper
 
 -- "One file in full": two zones that meet at 1,500, each row down to B/2
-abbrev printed : Ship
+abbrev pub printed : Ship
 printed = abutting 9900 1600 2 (0 ∷ 1500 ∷ 9900 ∷ [])
+
+pub first-row : rowEnds printed 1 1 0 800 ≡ record { lower = 0x072648b6; upper = 0x072648b7 }
+unfolding rowEnds rowOf lowest highest sumsOf withinEnds added taken QEnds mixed c d PEnds GEnds pEnds partEnds G1Ends G3Ends minus plus endsOf billionthsOf portionOf halvesOf ceil touch P p G1 G3 _⊹_ _⊛_ _less_over_
+first-row = refl
 
 in-full :
     T (every (right printed)

@@ -124,7 +124,8 @@ fractions = record {
   fraction-product = λ f g. ≈-refl (f ⊛ g);
 }
 
--- two of document 01's proved values, from the regulation's own formula: 1/2 upright, and 1/10 at a heel of 29.95 degrees
+-- three of document 01's proved values, from the regulation's own formula, one for each case of K: 1/2 upright, 1/10 at a heel of 29.95 degrees, and
+-- 0 at 30 degrees
 pub half-survives : Final fractions (millimetres 30) (hundredths 400) (hundredths 0) (1 over 2)
 unfolding lesser _≼?_ _⊝_ _⊛_ _⊘_ _less_over_
 half-survives = record {
@@ -145,6 +146,18 @@ tenth-survives = record {
   upright = λ p. absurd (omega (arith, p .cross));
   lost = λ p. absurd (omega (arith, p .cross));
   heeled = λ p q. record { cross = refl };
+  fourth-root = record { cross = refl };
+  product = record { cross = refl };
+}
+
+pub none-survives : Final fractions (millimetres 30) (hundredths 400) (hundredths 3000) (whole 0)
+unfolding lesser _≼?_ _⊝_ _⊛_ _⊘_ _less_over_
+none-survives = record {
+  K = whole 0;
+  root = 1 over 2;
+  upright = λ p. absurd (omega (arith, p .cross));
+  lost = λ p. record { cross = refl };
+  heeled = λ p q. absurd (omega (arith, q .cross));
   fourth-root = record { cross = refl };
   product = record { cross = refl };
 }

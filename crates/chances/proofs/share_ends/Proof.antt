@@ -1,5 +1,6 @@
 -- `chances::share_ends` meets its contract, from the sums down to both penetrations. Assumes nothing.
 use borrow.Author.Needs.{needs}
+use native.Mathlib.Omega.{arith}
 use Rattle.chances.proofs.Group.{lent, row-between}
 use Rattle.chances.proofs.share_ends.Statement.{statement}
 use Rattle.chances.proofs.share_ends.Tie as tie
@@ -8,7 +9,7 @@ group-at-requires : tie.Need-group-at-requires
 group-at-requires c κs = search needs
 
 sums-to-requires : tie.Need-sums-to-requires
-sums-to-requires c κs = let s = c .before .before in (lent (s .pre .0) (s .pre .1) (s .pre .2) (c .group-at .ensures), s .pre .3)
+sums-to-requires c κs = let s = c .before .before in (lent (s .pre .0) (s .pre .1) (s .pre .2) (c .group-at .ensures), omega (arith, s .pre .3))
 
 sums-to-requires-2 : tie.Need-sums-to-requires-2
 sums-to-requires-2 c κs = let s = c .before .before .before in (lent (s .pre .0) (s .pre .1) (s .pre .2) (c .before .group-at .ensures), s .pre .4)

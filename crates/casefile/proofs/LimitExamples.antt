@@ -1,0 +1,128 @@
+-- Document 01, "Limits", with its numbers: what stands on each limit passes, and what stands past it does not. Assumes nothing.
+use Prim.Native.Nat.{ℕ, _+_, _-_, _*_}
+use mathlib.Core.Path.{_≡_, refl}
+use mathlib.Core.Bool.{Bool, true, false}
+use mathlib.Core.List.{List, [], _∷_}
+use lib.ListN.{length}
+use Rattle.laws.specs.Lists.{tabulate}
+use Rattle.records.specs.declared.Finding.{Finding}
+use Rattle.records.specs.declared.Hull.{Hull}
+use Rattle.lines.specs.Lines.{lines}
+use Rattle.casefile.specs.declared.Progress.{Progress}
+use Rattle.casefile.specs.Record.{Row}
+use Rattle.casefile.specs.Limits.{between, sizesFit, risingTo, zonesFit, headFits, findingFits, findingsFit, rowFits}
+use Rattle.casefile.specs.Order.{outOfOrder, leavesOpen, endsOpen}
+use Rattle.casefile.specs.Table.{firstHolds, rowChecks, endChecks}
+use Rattle.casefile.specs.Reading.{refused, begin, start, readFrom, reading}
+
+-- passes from the one number to the other, and neither that far below nor that far above
+abbrev Between : ℕ → (ℕ → Bool) → ℕ → ℕ → Type 0
+Between far fits low high = (fits (low - far) ≡ false) × (fits low ≡ true) × (fits high ≡ true) × (fits (high + far) ≡ false)
+
+abbrev UpTo : (ℕ → Bool) → ℕ → Type 0
+UpTo fits high = (fits 0 ≡ true) × (fits high ≡ true) × (fits (high + 1) ≡ false)
+
+-- ---- the hull
+
+abbrev hull : ℕ → ℕ → ℕ → ℕ → ℕ → List ℕ → Hull
+hull Ls B ds dl m places = record { length = Ls; breadth = B; deepest = ds; light = dl; zones = m; places = places }
+
+abbrev sized : ℕ → ℕ → ℕ → ℕ → Bool
+sized Ls B ds dl = sizesFit (hull Ls B ds dl 1 (0 ∷ Ls ∷ []))
+
+-- so many zones of a metre
+abbrev zoned : ℕ → Bool
+zoned m = zonesFit (hull (100 * m) 1600 6000 4000 m (tabulate (λ k. 100 * k) (m + 1)))
+
+-- three zones, with these bulkheads between 0 and 9,900
+abbrev cut : ℕ → ℕ → Bool
+cut x y = zonesFit (hull 9900 1600 6000 4000 3 (0 ∷ x ∷ y ∷ 9900 ∷ []))
+
+pub record Hulls : Type 0 where
+  pub length : Between 1 (λ Ls. sized Ls 1600 6000 4000) 8000 19800
+  pub breadth : Between 2 (λ B. sized 9900 B 6000 4000) 1000 6000
+  pub even : sized 9900 1601 6000 4000 ≡ false
+  pub deepest : Between 1 (λ ds. sized 9900 1600 ds ds) 1000 30000
+  pub light : (sized 9900 1600 1500 500 ≡ true) × (sized 9900 1600 1499 499 ≡ false) × (sized 9900 1600 6000 6001 ≡ false)
+  pub fifths : (sized 9900 1600 6000 3995 ≡ true) × (sized 9900 1600 6000 3996 ≡ false)
+  pub zones : Between 1 zoned 1 20
+  pub bulkheads : (cut 1 9899 ≡ true) × (cut 0 9899 ≡ false) × (cut 4950 4950 ≡ false) × (cut 1 9900 ≡ false)
+
+pub hulls : Hulls
+unfolding between sizesFit risingTo zonesFit tabulate
+hulls = record {
+  length = (refl, refl, refl, refl);
+  breadth = (refl, refl, refl, refl);
+  even = refl;
+  deepest = (refl, refl, refl, refl);
+  light = (refl, refl, refl);
+  fifths = (refl, refl);
+  zones = (refl, refl, refl, refl);
+  bulkheads = (refl, refl, refl, refl);
+}
+
+-- ---- a row, of a ship of two zones and 16 m breadth
+
+abbrev pub found : ℕ → ℕ → ℕ → Finding
+found g t e = record { lever = g; range = t; heel = e; given = 0 }
+
+abbrev pub survival : ℕ → Finding
+survival s = record { lever = 0; range = 0; heel = 0; given = s }
+
+abbrev pub row : ℕ → ℕ → ℕ → ℕ → ℕ → Finding → Row
+row kind a n b H r = record { head = record { kind = kind; first = a; count = n; depth = b; height = H }; results = r ∷ r ∷ r ∷ [] }
+
+abbrev twoZones : Hull
+twoZones = hull 9900 1600 6000 4000 2 (0 ∷ 1500 ∷ 9900 ∷ [])
+
+abbrev placed : ℕ → ℕ → ℕ → ℕ → Bool
+placed a n b H = rowFits twoZones (row 2 a n b H (found 0 0 0))
+
+abbrev resulting : Finding → Bool
+resulting r = rowFits twoZones (row 2 1 1 800 18500 r)
+
+pub record Rows : Type 0 where
+  pub first : Between 1 (λ a. placed a 1 800 18500) 1 2
+  pub count : Between 1 (λ n. placed 1 n 800 18500) 1 2
+  pub group : placed 2 2 800 18500 ≡ false
+  pub depth : Between 1 (λ b. placed 1 1 b 18500) 1 800
+  pub height : Between 1 (λ H. placed 1 1 800 H) 1 60000
+  pub lever : UpTo (λ g. resulting (found g 0 0)) 5000
+  pub range : UpTo (λ t. resulting (found 0 t 0)) 9000
+  pub heel : UpTo (λ e. resulting (found 0 0 e)) 9000
+  pub given : UpTo (λ s. resulting (survival s)) 10000
+
+pub rows : Rows
+unfolding between headFits findingFits findingsFit rowFits
+rows = record {
+  first = (refl, refl, refl, refl);
+  count = (refl, refl, refl, refl);
+  group = refl;
+  depth = (refl, refl, refl, refl);
+  height = (refl, refl, refl, refl);
+  lever = (refl, refl, refl);
+  range = (refl, refl, refl);
+  heel = (refl, refl, refl);
+  given = (refl, refl, refl);
+}
+
+-- ---- the file: how many bytes, how many rows, and the end's count of them
+
+abbrev after : ℕ → Progress
+after rows = record { rows = rows; last = start .last; ended = false }
+
+abbrev atRow : ℕ → ℕ
+atRow rows = firstHolds (rowChecks twoZones (after rows) (row 2 1 1 800 18500 (found 0 0 0)))
+
+abbrev atEnd : ℕ → ℕ
+atEnd count = firstHolds (endChecks twoZones (after 3) count)
+
+pub record Files : Type 0 where
+  pub bytes : (f : List ℕ) → length f ≡ 32768 → reading f ≡ readFrom begin 1 (lines f)
+  pub byte-more : (f : List ℕ) → length f ≡ 32769 → reading f ≡ refused 1 0
+  pub rows : (atRow 499 ≡ 0) × (atRow 500 ≡ 6)
+  pub counted : (atEnd 2 ≡ 6) × (atEnd 3 ≡ 0) × (atEnd 4 ≡ 6)
+
+pub files : Files
+unfolding reading firstHolds rowChecks endChecks between headFits findingFits findingsFit rowFits outOfOrder leavesOpen endsOpen
+files = record { bytes = λ f e. rw e refl; byte-more = λ f e. rw e refl; rows = (refl, refl); counted = (refl, refl, refl) }

@@ -5,7 +5,6 @@ pub mod Choice
 -- sums and lists
 pub mod Sums
 pub mod Listed
-pub mod Telescope
 pub mod Lists
 pub mod Bytes
 -- polynomials, by computation

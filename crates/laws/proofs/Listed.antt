@@ -13,10 +13,6 @@ pub rising-from : (a n i : ℕ) (xs : List ℕ) → Rising a n xs → List·Mem�
 rising-from a n i (x ∷ xs) r (List·Memᴰ·head e) = omega arith
 rising-from a n i (x ∷ xs) r (List·Memᴰ·tail m) = omega (arith, rising-from (suc x) n i xs (r .2) m)
 
-pub rising-below : (a n i : ℕ) (xs : List ℕ) → Rising a n xs → List·Memᴰ i xs → i < n
-rising-below a n i (x ∷ xs) r (List·Memᴰ·head e) = omega arith
-rising-below a n i (x ∷ xs) r (List·Memᴰ·tail m) = rising-below (suc x) n i xs (r .2) m
-
 module _ (f : ℕ → ℕ) (n : ℕ) where
   not-above-from : (a : ℕ) (xs : List ℕ) → a ≤ n → Rising a n xs → sumBelow f a + sumOf f xs ≤ sumBelow f n
   not-above-from a [] h r = omega (arith, sumBelow-longer f h)

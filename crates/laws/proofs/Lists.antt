@@ -9,8 +9,7 @@ use native.Mathlib.Omega.{arith}
 use lib.ListN.{length, getD, take, drop, set, length-append, length-drop, length-set, List·getD-append}
 use lib.Seq.{take-all, take-take, drop-drop, take-suc-set, getD-at, getD-take, getD-drop, ext-getD, sets, length-take-le, take-nil}
 use Rattle.laws.specs.Lists.{tabulate}
-use Rattle.laws.specs.Sums.{sumOf, sumBelow, last, Linked}
-use Rattle.laws.proofs.Sums.{sumOf-append}
+use Rattle.laws.specs.Sums.{last, Linked}
 
 -- ---- a list place by place
 
@@ -42,11 +41,6 @@ module _ {A : Type 0} where
   tabulate-places d xs =
       ext-getD d (tabulate (λ i. getD xs i d) (length xs)) xs (length-tabulate _ (length xs))
       (λ i h. getD-tabulate (λ i. getD xs i d) (length xs) i d (omega (arith, length-tabulate (λ i. getD xs i d) (length xs))))
-
-  pub sumOf-tabulate : (f : A → ℕ) (g : ℕ → A) (n : ℕ) → sumOf f (tabulate g n) ≡ sumBelow (λ i. f (g i)) n
-  unfolding tabulate
-  sumOf-tabulate f g zero = refl
-  sumOf-tabulate f g (suc n) = omega (arith, sumOf-append f (tabulate g n) (g n ∷ []), sumOf-tabulate f g n)
 
   -- ---- an array of n places that a loop fills with g: the first k are there
   pub record Filled (g : ℕ → A) (n : ℕ) (xs : List A) (k : ℕ) : Type 0 where

@@ -1,4 +1,4 @@
--- Sums over a list, over the numbers below n, and over the intervals of n places. Assumes nothing.
+-- Sums over a list, and over the numbers below n; lists that rise. Assumes nothing.
 use Prim.Native.Nat.{ℕ, zero, suc, _+_, _≤_, _<_}
 use mathlib.Core.List.{List, [], _∷_}
 
@@ -15,19 +15,10 @@ abbrev pub sumBelow : (ℕ → ℕ) → ℕ → ℕ
 sumBelow f zero = 0
 sumBelow f (suc n) = sumBelow f n + f n
 
--- the sum of s i j over i ≤ j < n
-abbrev pub triangle : (ℕ → ℕ → ℕ) → ℕ → ℕ
-triangle s n = sumBelow (λ j. sumBelow (λ i. s i j) (suc j)) n
-
 -- the numbers of a list rise strictly, from a on and below n
 abbrev pub Rising : ℕ → ℕ → List ℕ → Type 0
 Rising a n [] = Unit {0}
 Rising a n (x ∷ xs) = (a ≤ x) × (x < n) × Rising (suc x) n xs
-
--- d a x₁ + d x₁ x₂ + .. over the neighbours of a ∷ xs
-abbrev pub sumSteps : {A : Type 0} → (A → A → ℕ) → A → List A → ℕ
-sumSteps d a [] = 0
-sumSteps d a (x ∷ xs) = d a x + sumSteps d x xs
 
 abbrev pub last : {A : Type 0} → A → List A → A
 last a [] = a

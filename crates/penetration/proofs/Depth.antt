@@ -12,7 +12,7 @@ use Rattle.solas.specs.Penetration.{C, G1, G3}
 use Rattle.penetration.specs.Penetration.{c, d, G1Ends, G3Ends}
 use Rattle.penetration.specs.Layer.{layerOf}
 use Rattle.laws.proofs.Polynomial.{pow-two, cube}
-use Rattle.solas.proofs.Depth.{C-is, c-at-most, c-one}
+use Rattle.solas.proofs.Depth.{C-is, c-at-most}
 use Rattle.spans.proofs.Rounded.{ends-are}
 
 -- products of the breadth and a penetration, in order
@@ -56,11 +56,6 @@ module _ (B b : ℕ) (h : (1 ≤ B) × (B ≤ 6000) × (2 * b ≤ B)) where
   pub C-at-most-one : (0 < d B) × (c B b ≤ d B)
   unfolding c d
   C-at-most-one = let q = products B b h in (rw (pow-two B) (omega arith), c-at-most B b (h .2))
-
-  -- at half of the breadth, C is one
-  pub C-whole : 2 * b ≡ B → c B b ≡ d B
-  unfolding c d
-  C-whole e = c-one B b e
 
   pub G1-is : Is (G1 B b) (5500 * b * B - 1089 * b * b) 0 (7500 * B * B)
   unfolding G1

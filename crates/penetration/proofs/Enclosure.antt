@@ -14,13 +14,13 @@ use Rattle.solas.specs.Span.{Touch, neither, one, both, touch, half, p}
 use Rattle.solas.specs.Penetration.{G1, G3, GAt, G, Q}
 use Rattle.solas.proofs.Within.{is-half}
 use Rattle.spans.specs.Rounded.{Probable, Near}
-use Rattle.spans.specs.Span.{pEnds, PEnds}
+use Rattle.spans.specs.Span.{pEnds}
 use Rattle.spans.proofs.Rounded.{Enclosed, between, ends-enclose, ends-near, ends-probable}
 use Rattle.spans.proofs.Enclosure.{p-enclosed, p-near, p-probable, P-enclosed, P-near, P-probable}
 use Rattle.penetration.specs.Figures.{plus, minus}
 use Rattle.penetration.specs.Penetration.{d, G1Ends, G3Ends, partEnds, GEndsAt, GEnds, QEnds}
-use Rattle.penetration.proofs.Depth.{products, C-over, C-at-most-one, C-whole, G1-is, G1-proper, G3-is, G3-proper}
-use Rattle.penetration.proofs.Figures.{enclosed-plus, enclosed-minus, enclosed-portion, enclosed-half, enclosed-mixed, near-plus, near-minus, near-portion, near-half, near-mixed, probable-minus, probable-portion, probable-half, probable-halves, probable-mixed, mixed-whole}
+use Rattle.penetration.proofs.Depth.{products, C-over, C-at-most-one, G1-is, G1-proper, G3-is, G3-proper}
+use Rattle.penetration.proofs.Figures.{enclosed-plus, enclosed-minus, enclosed-portion, enclosed-half, enclosed-mixed, near-plus, near-minus, near-portion, near-half, near-mixed, probable-minus, probable-portion, probable-half, probable-halves, probable-mixed}
 
 -- a figure that is wider is within
 wider : {w v : ℕ} {g : Ends} → w ≤ v → Near w g → Near v g
@@ -143,9 +143,6 @@ module _ (L aft fwd : ℕ) (some : 1 ≤ L) (short : L ≤ 19800) (within : fwd 
   unfolding GEnds G
   G-enclosed = GAt-enclosed B b h L (fwd - aft) some short (omega arith) (touch L aft fwd)
 
-  pub G-between : Between (GEnds L B aft fwd b) (G L B aft fwd b)
-  G-between = between G-enclosed
-
   pub G-near : Near 3 (GEnds L B aft fwd b)
   unfolding GEnds
   G-near = GAt-near B b h L (fwd - aft) some short (omega arith) (touch L aft fwd)
@@ -170,8 +167,3 @@ module _ (L aft fwd : ℕ) (some : 1 ≤ L) (short : L ≤ 19800) (within : fwd 
   pub Q-probable : Probable (QEnds L B aft fwd b)
   unfolding QEnds
   Q-probable = let q = C-at-most-one B b h in probable-mixed (q .0) (q .1) (P-probable L aft fwd some short within) G-probable
-
-  -- at half of the breadth Q's ends are P's, one apart
-  pub Q-whole : 2 * b ≡ B → QEnds L B aft fwd b ≡ PEnds L aft fwd
-  unfolding QEnds
-  Q-whole e = rw (C-whole B b h e) (mixed-whole (d B) (PEnds L aft fwd) (GEnds L B aft fwd b) (C-at-most-one B b h .0))

@@ -43,10 +43,7 @@ unfolding sameGroup
 later-told b r (inl l) = let n = ne-eqb (r .first) (b .first) (λ e. omega (arith, l, e)) in rw n refl
 later-told b r (inr (a, l)) = rw (eq-eqb (r .first) (b .first) a, ne-eqb (r .count) (b .count) (λ e. omega (arith, l, e))) refl
 
--- ---- over plain numbers: c has been given above the layer, x is the layer's own, v and v′ what is below the row and below the next
-in-one-layer : (c x v w v′ rest all : ℕ) → v + w ≡ v′ → c * 916500 + x * v′ + rest ≡ all → c * 916500 + x * v + (x * w + rest) ≡ all
-in-one-layer c x v w v′ rest all e h = omega (arith, ap (λ t. x * t) e, h)
-
+-- ---- the rows at a draught, each at its standing
 module _ (h : Hull) (sound : Sound (shipOf h)) (d : ℕ) (afloat : d ≤ h .deepest) where
   abbrev s : Ship
   s = shipOf h

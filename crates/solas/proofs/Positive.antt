@@ -15,7 +15,7 @@ use Rattle.solas.proofs.Ship.{aft-next, fwd-next, span, ends-within}
 use Rattle.solas.proofs.GeneralSpan.{group-share-not-negative, pair-share-not-negative, whole-ship-at-most-one, whole-ship-one}
 use Rattle.solas.proofs.Figure.{figure, over, over-positive, falls, rises, within-is}
 use Rattle.solas.proofs.Depth.{no-cut, no-chance, c-one}
-use Rattle.solas.proofs.Chances.{Q-half-breadth}
+use Rattle.solas.proofs.HalfBreadth.{Q-half-breadth}
 use Rattle.solas.proofs.SpanChance.{P-above}
 
 module _ (s : Ship) (h : Sound s) (b′ b : ℕ) where

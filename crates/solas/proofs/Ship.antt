@@ -25,9 +25,6 @@ module _ {s : Ship} (h : Zoned s) where
   pub fwd-next : (a : ℕ) → 1 ≤ a → a < s .m → s .fwd a < s .fwd (a + 1)
   fwd-next a p q = omega (arith, h .zone (a + 1) (omega arith) (omega arith), h .next a p q)
 
-  pub aft-rises : {a e : ℕ} → 1 ≤ a → a ≤ e → e ≤ s .m → s .aft a ≤ s .aft e
-  aft-rises = rises (λ a. s .aft a) aft-next
-
   pub fwd-rises : {a e : ℕ} → 1 ≤ a → a ≤ e → e ≤ s .m → s .fwd a ≤ s .fwd e
   fwd-rises = rises (λ a. s .fwd a) fwd-next
 

@@ -33,9 +33,6 @@ module _ (L x : ℕ) {r : Ratio} (some : 1 ≤ L) (c : Chance (p L x) L r) where
   pub part-at-most : x ≤ L → x * r .cm ≤ r .den
   part-at-most h = omega (arith, mul-le-mul-right (r .cm) h, c .centimetre)
 
-  pub inner-proper : Proper (r .num) (r .den)
-  inner-proper = proper (c .positive) (c .at-most-one) (omega (arith, c .narrow))
-
   pub one-end-proper : x ≤ L → Proper (r .num + x * r .cm) (2 * r .den)
   one-end-proper h = proper (omega (arith, c .positive)) (omega (arith, c .at-most-one, part-at-most h)) (omega (arith, c .narrow))
 

@@ -12,7 +12,7 @@ use Rattle.laws.proofs.FractionCompare.{across-below, is-times}
 use Rattle.roots.proofs.Root.{down-of-fraction, up-of-fraction}
 use Rattle.roots.proofs.RootValue.{down-root, up-root}
 use Rattle.survival.specs.Ratio.{ratioOf}
-use Rattle.survival.specs.Survival.{Factor, root, given, ends, Sensible, Bottom, Top, BottomAndTop, scaledOf, roundedOf, tenThousandths, fourthPower, NotAbove, NotBelow}
+use Rattle.survival.specs.Survival.{Factor, root, given, ends, Sensible, Bottom, Top, BottomAndTop, scaledOf, roundedOf, tenThousandths, NotAbove, NotBelow}
 use Rattle.survival.proofs.Compare.{ratio-positive, is-ratio, is-fourth}
 use Rattle.survival.proofs.Factors.{same-survival, times-down, times-up}
 
@@ -115,23 +115,6 @@ not-below-bottom (root f) {x} h p l =
     let k = across-below (is-ratio (h .0)) (is-fourth i) l in
     below-across (is-over (ends (root f) .bottom) {d = 10 ^ 4} (lit< tt)) i (lit< tt) (ratio-positive x)
     (omega (arith, root-above (ratioOf x .num) (ratioOf x .den) (ratioOf f .num) (ratioOf f .den) (ends (root f) .bottom) (10 ^ 4) (ratio-positive f) (omega arith) (omega (arith, bottom-of h .0))))
-
--- a given survival counts as itself: by fourth powers it is compared alike
-pub given-not-above : (n : ℕ) {x : Fraction} → whole 0 ≼ x → fourthPower x ≼ fourthPower (tenThousandths n) → NotAbove (given n) x
-given-not-above n {x} p l =
-    let i = is-ratio p in
-    let g = is-over n {d = 10 ^ 4} (lit< tt) in
-    let k = across-below (is-fourth i) (is-fourth g) l in
-    below-across i g (ratio-positive x) (lit< tt)
-    (omega (arith, root-below (ratioOf x .num) (ratioOf x .den) (n ^ 4) ((10 ^ 4) ^ 4) n (10 ^ 4) (lit< tt) (omega arith) (omega arith)))
-
-pub given-not-below : (n : ℕ) {x : Fraction} → whole 0 ≼ x → fourthPower (tenThousandths n) ≼ fourthPower x → NotBelow (given n) x
-given-not-below n {x} p l =
-    let i = is-ratio p in
-    let g = is-over n {d = 10 ^ 4} (lit< tt) in
-    let k = across-below (is-fourth g) (is-fourth i) l in
-    below-across g i (lit< tt) (ratio-positive x)
-    (omega (arith, root-above (ratioOf x .num) (ratioOf x .den) (n ^ 4) ((10 ^ 4) ^ 4) n (10 ^ 4) (lit< tt) (omega arith) (omega arith)))
 
 -- ---- at most one apart, and at most one
 pub ends-near : (s : Factor) → Sensible s → ends s .top ≤ ends s .bottom + 1

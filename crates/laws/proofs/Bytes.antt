@@ -9,6 +9,12 @@ use lib.Dec.{lit<}
 use lib.ListN.{length}
 use Rattle.laws.specs.Bytes.{Octets, number, bytes}
 
+-- ---- a worked case: the high byte stands first
+
+two-and-three : number (2 ∷ 3 ∷ []) ≡ 515
+unfolding number
+two-and-three = refl
+
 -- ---- any count of bytes
 
 pub octets-cons : (b : ℕ) (bs : List ℕ) → b < 256 → Octets bs → Octets (b ∷ bs)

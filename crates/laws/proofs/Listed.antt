@@ -6,7 +6,8 @@ use mathlib.Core.List.{List, [], _∷_, List·Memᴰ, List·Memᴰ·head, List·
 use mathlib.Core.Logic.{_↔_, ⊎-elim}
 use native.Mathlib.Nat.{eq-or-lt-of-le, le-dest}
 use native.Mathlib.Omega.{arith, sub-cases}
-use Rattle.laws.specs.Sums.{sumOf, sumBelow, Rising}
+use Rattle.laws.specs.Lists.{Rising}
+use Rattle.laws.specs.Sums.{sumOf, sumBelow}
 use Rattle.laws.proofs.Sums.{sumBelow-longer, sumBelow-between, sumBelow-split, sumBelow-zero}
 
 pub rising-from : (a n i : ℕ) (xs : List ℕ) → Rising a n xs → List·Memᴰ i xs → a ≤ i

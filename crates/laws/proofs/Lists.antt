@@ -8,8 +8,7 @@ use native.Mathlib.Numerals.{add-one}
 use native.Mathlib.Omega.{arith}
 use lib.ListN.{length, getD, take, drop, set, length-append, length-drop, length-set, List·getD-append}
 use lib.Seq.{take-all, take-take, drop-drop, take-suc-set, getD-at, getD-take, getD-drop, ext-getD, sets, length-take-le, take-nil}
-use Rattle.laws.specs.Lists.{tabulate}
-use Rattle.laws.specs.Sums.{last, Linked}
+use Rattle.laws.specs.Lists.{tabulate, last, Linked}
 
 -- ---- a list place by place
 

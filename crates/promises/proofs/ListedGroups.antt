@@ -8,8 +8,8 @@ use mathlib.Core.Logic.{_↔_}
 use native.Mathlib.Omega.{arith}
 use lib.Dec.{eqb}
 use borrow.Author.Tests.{eqb-true}
-use Rattle.laws.specs.Lists.{Every}
-use Rattle.laws.specs.Sums.{sumOf, Rising}
+use Rattle.laws.specs.Lists.{Every, Rising}
+use Rattle.laws.specs.Sums.{sumOf}
 use Rattle.laws.proofs.Listed.{listed-not-above, listed-equal}
 use Rattle.laws.proofs.Tests.{both, holds}
 use Rattle.records.specs.declared.Hull.{Hull}

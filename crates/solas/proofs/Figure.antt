@@ -4,7 +4,7 @@ use mathlib.Core.Path.{_≡_}
 use mathlib.Core.List.{List, [], _∷_}
 use native.Mathlib.Omega.{arith}
 use Rattle.laws.specs.Fraction.{Is, total}
-use Rattle.laws.specs.Sums.{last, Linked}
+use Rattle.laws.specs.Lists.{last, Linked}
 use Rattle.laws.proofs.Fraction.{is-nothing, is-shifted, is-⊹, is-⊝}
 use Rattle.laws.proofs.Lists.{last-rises}
 use Rattle.solas.specs.Ship.{Ship, Sound}

@@ -6,7 +6,8 @@ use mathlib.Core.List.{List, [], _∷_}
 use native.Mathlib.Nat.{div-eq-of-eq-mul-right}
 use native.Mathlib.Omega.{arith}
 use lib.Dec.{lit<}
-use Rattle.laws.specs.Sums.{sum, last, Linked}
+use Rattle.laws.specs.Lists.{last, Linked}
+use Rattle.laws.specs.Sums.{sum}
 use Rattle.laws.proofs.Choice.{chosen}
 use Rattle.solas.specs.Height.{v, vAt, rowV, top}
 use Rattle.solas.specs.Index.{dp}

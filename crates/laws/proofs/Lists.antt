@@ -1,14 +1,14 @@
--- Lists that are made place by place, parts of lists that the library has no law for, and lists that rise. Assumes nothing.
+-- Lists that are made place by place, and parts of lists that the library has no law for. Assumes nothing.
 use Prim.Native.Nat.{ℕ, zero, suc, _+_, _-_, _≤_, _<_}
 use mathlib.Core.Path.{_≡_, refl, sym, _∙_, ap, ap₂}
 use mathlib.Core.List.{List, [], _∷_, _++_}
 use mathlib.Core.Logic.{⊎-elim}
-use native.Mathlib.Nat.{add-zero, add-suc, suc-add, suc-sub-suc, sub-zero, zero-sub, eq-or-lt-of-le, le-refl}
+use native.Mathlib.Nat.{add-zero, add-suc, suc-add, suc-sub-suc, sub-zero, zero-sub, eq-or-lt-of-le}
 use native.Mathlib.Numerals.{add-one}
 use native.Mathlib.Omega.{arith}
 use lib.ListN.{length, getD, take, drop, set, length-append, length-drop, length-set, List·getD-append}
 use lib.Seq.{take-all, take-take, drop-drop, take-suc-set, getD-at, getD-take, getD-drop, ext-getD, sets, length-take-le, take-nil}
-use Rattle.laws.specs.Lists.{tabulate, last, Linked}
+use Rattle.laws.specs.Lists.{tabulate}
 
 -- ---- a list place by place
 
@@ -89,9 +89,3 @@ module _ {A : Type 0} where
   pub sets-append : (l : List A) (i : ℕ) (vs ws : List A) → sets l i (vs ++ ws) ≡ sets (sets l i vs) (i + length vs) ws
   sets-append l i [] ws = rw (add-zero i) refl
   sets-append l i (v ∷ vs) ws = sets-append (set l i v) (suc i) vs ws ∙ rw (add-suc i (length vs), suc-add i (length vs)) refl
-
--- ---- lists that rise
-
-pub last-rises : (a : ℕ) (xs : List ℕ) → Linked _<_ a xs → a ≤ last a xs
-last-rises a [] l = le-refl a
-last-rises a (x ∷ xs) l = omega (arith, l .0, last-rises x xs (l .1))

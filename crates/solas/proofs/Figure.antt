@@ -6,7 +6,7 @@ use native.Mathlib.Omega.{arith}
 use Rattle.laws.specs.Fraction.{Is, total}
 use Rattle.laws.specs.Lists.{last, Linked}
 use Rattle.laws.proofs.Fraction.{is-nothing, is-shifted, is-⊹, is-⊝}
-use Rattle.laws.proofs.Lists.{last-rises}
+use Rattle.laws.proofs.Rising.{last-rises}
 use Rattle.solas.specs.Ship.{Ship, Sound}
 use Rattle.solas.specs.Share.{within, share, rowShare, layerShares}
 use Rattle.solas.specs.General.{Falling, Rising, inSpan, law, layer, unit}

@@ -1,6 +1,6 @@
 -- Q of one span at a layer, put together from the ends of its p and P, and where b may be 0. Assumes nothing.
 use mathlib.Core.Path.{_≡_, refl, ap}
-use Prim.Native.Nat.{ℕ, zero, suc, _*_, _^_, _≤_, _<_}
+use Prim.Native.Nat.{ℕ, zero, suc, _^_, _≤_, _<_}
 use native.Mathlib.Omega.{arith}
 use Rattle.records.specs.declared.Ends.{Ends}
 use Rattle.solas.specs.Ship.{Ship}

@@ -5,7 +5,7 @@ use mathlib.Core.Path.{refl}
 use native.Mathlib.Nat.{mul-pos, le-of-mul-le-mul-right, mul-le-mul-right, div-mul-le-self}
 use native.Mathlib.Omega.{arith}
 use lib.Dec.{lit<}
-use Rattle.laws.specs.Fraction.{Fraction, den, _less_over_, _over_, whole, Is, _≈_, _≼_, _⊹_, _⊛_}
+use Rattle.laws.specs.Fraction.{Fraction, den, whole, Is, _≈_, _≼_, _⊹_, _⊛_}
 use Rattle.laws.specs.Rounding.{ceil}
 use Rattle.laws.proofs.Fraction.{positive, is-over, is-self, is-nothing, is-⊹, is-⊛, same, ≼-of-≈, ≼-trans, ≈-sym, ⊹-≼, is-written, below-across}
 use Rattle.laws.proofs.Rounding.{ceil-lower}

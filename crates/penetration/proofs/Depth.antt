@@ -3,7 +3,7 @@ use mathlib.Core.Path.{_≡_, refl, _∙_}
 use Prim.Native.Nat.{ℕ, _-_, _*_, _^_, _≤_, _<_}
 use native.Mathlib.Nat.{mul-le-mul, mul-le-mul-left, mul-pos, mul-sub}
 use native.Mathlib.Omega.{arith}
-use Rattle.laws.specs.Fraction.{Is, _less_over_}
+use Rattle.laws.specs.Fraction.{Is}
 use Rattle.laws.proofs.Fraction.{is-less-over, is-shifted, is-written}
 use Rattle.records.specs.declared.Ends.{Ends}
 use Rattle.numbers.specs.Figures.{Proper, bothWays, halvesOf}

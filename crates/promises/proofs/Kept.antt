@@ -30,8 +30,8 @@ use Rattle.casefile.specs.Valid.{Valid}
 use Rattle.casefile.specs.Reading.{Reading, refused, accepted, reading}
 use Rattle.casefile.proofs.Soundness.{sound}
 use Rattle.casefile.proofs.Refusal.{nonzero, is-refusal}
-use Rattle.index.specs.Answer.{partialsOf, figures, answer, refusal, answered}
-use Rattle.promises.specs.Rows.{exactRows, rowsOf, chances}
+use Rattle.index.specs.Answer.{figures, answer, refusal, answered}
+use Rattle.promises.specs.Rows.{exactRows, rowsOf}
 use Rattle.promises.specs.Promises.{Enclosure, Near, Width, Chances, Verdict, Kept, Promise, PromiseOfTheEntry}
 use Rattle.promises.proofs.CaseRows.{sums-are, as-many, all-sound, all-close}
 use Rattle.promises.proofs.Chances.{chances-at-most-one, chances-one}

@@ -3,7 +3,7 @@ use mathlib.Core.Path.{_≡_, refl}
 use Prim.Native.Nat.{ℕ, _+_, _-_, _*_, _^_, _≤_}
 use native.Mathlib.Omega.{arith}
 use native.Mathlib.Nat.{mul-le-mul-right}
-use Rattle.laws.specs.Fraction.{_less_over_, _over_, _⊹_, _⊛_, Is}
+use Rattle.laws.specs.Fraction.{_less_over_, _over_, _⊹_, Is}
 use Rattle.laws.specs.Rounding.{ceil}
 use Rattle.laws.proofs.Fraction.{is-over, is-widened, is-⊹, is-⊛, is-shifted}
 use Rattle.records.specs.declared.Ends.{Ends}

@@ -7,7 +7,7 @@ use native.Mathlib.Nat.{mul-pos, mul-le-mul, min-le-right}
 use native.Mathlib.Omega.{arith}
 use lib.Dec.{leb, lit<}
 use borrow.Author.Tests.{le-leb, lt-leb}
-use Rattle.laws.specs.Fraction.{Fraction, den, _less_over_, _over_, whole, _⊛_}
+use Rattle.laws.specs.Fraction.{Fraction, _less_over_, _over_, whole, _⊛_}
 use Rattle.laws.proofs.Fraction.{positive}
 use Rattle.solas.specs.Survival.{k, s⁴}
 use Rattle.laws.proofs.Choice.{split}

@@ -8,7 +8,8 @@ use Rattle.penetration.specs.declared.Layer.{Layer}
 use Rattle.spans.specs.declared.SpanEnds.{SpanEnds}
 use Rattle.spans.specs.Rounded.{Probable}
 use Rattle.spans.specs.Span.{PEnds}
-use Rattle.penetration.specs.Penetration.{c, d, GEnds, mixed, QEnds}
+use Rattle.solas.specs.Penetration.{c, d}
+use Rattle.penetration.specs.Penetration.{GEnds, mixed, QEnds}
 use Rattle.penetration.specs.Layer.{layerOf, Reached}
 use Rattle.chances.specs.Lent.{alone, across}
 use Rattle.chances.specs.Share.{withinEnds}

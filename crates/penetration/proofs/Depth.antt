@@ -8,8 +8,8 @@ use Rattle.laws.proofs.Fraction.{is-less-over, is-shifted, is-written}
 use Rattle.records.specs.declared.Ends.{Ends}
 use Rattle.numbers.specs.Figures.{Proper, bothWays, halvesOf}
 use Rattle.numbers.proofs.Figures.{proper, billionths-both-ways}
-use Rattle.solas.specs.Penetration.{C, G1, G3}
-use Rattle.penetration.specs.Penetration.{c, d, G1Ends, G3Ends}
+use Rattle.solas.specs.Penetration.{C, c, d, G1, G3}
+use Rattle.penetration.specs.Penetration.{G1Ends, G3Ends}
 use Rattle.penetration.specs.Layer.{layerOf}
 use Rattle.laws.proofs.Polynomial.{pow-two, cube}
 use Rattle.solas.proofs.Depth.{C-is, c-at-most}

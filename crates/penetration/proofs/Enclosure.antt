@@ -11,14 +11,14 @@ use Rattle.laws.proofs.Fraction.{≼-trans, is-over, is-⊛, is-shifted, below-
 use Rattle.records.specs.declared.Ends.{Ends}
 use Rattle.numbers.specs.Figures.{Between, halvesOf}
 use Rattle.solas.specs.Span.{Touch, neither, one, both, touch, half, p}
-use Rattle.solas.specs.Penetration.{G1, G3, GAt, G, Q}
+use Rattle.solas.specs.Penetration.{d, G1, G3, GAt, G, Q}
 use Rattle.solas.proofs.Within.{is-half}
 use Rattle.spans.specs.Rounded.{Probable, Near}
 use Rattle.spans.specs.Span.{pEnds}
 use Rattle.spans.proofs.Rounded.{Enclosed, between, ends-enclose, ends-near, ends-probable}
 use Rattle.spans.proofs.Enclosure.{p-enclosed, p-near, p-probable, P-enclosed, P-near, P-probable}
 use Rattle.penetration.specs.Figures.{plus, minus}
-use Rattle.penetration.specs.Penetration.{d, G1Ends, G3Ends, partEnds, GEndsAt, GEnds, QEnds}
+use Rattle.penetration.specs.Penetration.{G1Ends, G3Ends, partEnds, GEndsAt, GEnds, QEnds}
 use Rattle.penetration.proofs.Depth.{products, C-over, C-at-most-one, G1-is, G1-proper, G3-is, G3-proper}
 use Rattle.penetration.proofs.Figures.{enclosed-plus, enclosed-minus, enclosed-portion, enclosed-half, enclosed-mixed, near-plus, near-minus, near-portion, near-half, near-mixed, probable-minus, probable-portion, probable-half, probable-halves, probable-mixed}
 

@@ -7,7 +7,7 @@ use Rattle.laws.specs.Rounding.{ceil}
 use Rattle.laws.proofs.Rounding.{ceil-lower, ceil-least, ceil-near-floor, floor-rises, floor-not-above-ceil, floor-product, ceil-product, part-apart, halves-apart}
 use Rattle.laws.proofs.Equal.{same-floor, same-ceil}
 use Rattle.records.specs.declared.Ends.{Ends}
-use Rattle.numbers.specs.Figures.{Proper, Encloses, bothWays, billionthsOf, portionOf, halvesOf}
+use Rattle.numbers.specs.Figures.{Encloses, bothWays, billionthsOf, portionOf, halvesOf}
 
 -- figures with the same ends are the same
 pub both : {a b l u : ℕ} → a ≡ l → b ≡ u → _≡_ {A = Ends} (record { lower = a; upper = b }) (record { lower = l; upper = u })
@@ -19,10 +19,6 @@ pub encloses-ordered : {g : Ends} {n d : ℕ} → 0 < d → Encloses g n d → g
 encloses-ordered hd h = le-of-mul-le-mul-right (le-trans (h .low) (h .high)) hd
 
 -- ---- billionths
-
--- every divisor of 01 will do: the widest is 59400 L³, of a span at one end of a ship of 198 m
-pub proper : {n d : ℕ} → 0 < d → n ≤ d → d ≤ 59400 * 19800 ^ 3 → Proper n d
-proper hd hn h = record { positive = hd; at-most-one = hn; narrow = omega arith }
 
 module _ (n : ℕ) {d : ℕ} (hd : 0 < d) where
   pub billionths-enclose : Encloses (billionthsOf n d) (10 ^ 9 * n) d

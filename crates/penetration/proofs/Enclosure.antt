@@ -34,27 +34,27 @@ module _ (B b : ℕ) (h : (1 ≤ B) × (B ≤ 6000) × (2 * b ≤ B)) where
 
   pub G1-enclosed : Enclosed (G1Ends B b) (G1 B b)
   unfolding G1Ends
-  G1-enclosed = ends-enclose (G1-proper B b h .positive) (G1-is B b h)
+  G1-enclosed = ends-enclose (G1-proper B b h .0) (G1-is B b h)
 
   pub G1-near : Near 1 (G1Ends B b)
   unfolding G1Ends
-  G1-near = ends-near (G1-proper B b h .positive) (G1-is B b h)
+  G1-near = ends-near (G1-proper B b h .0) (G1-is B b h)
 
   pub G1-probable : Probable (G1Ends B b)
   unfolding G1Ends
-  G1-probable = let q = G1-proper B b h in ends-probable (q .positive) (q .at-most-one) (G1-is B b h)
+  G1-probable = let q = G1-proper B b h in ends-probable (q .0) (q .1) (G1-is B b h)
 
   pub G3-enclosed : Enclosed (G3Ends B b) (G3 B b)
   unfolding G3Ends
-  G3-enclosed = ends-enclose (G3-proper B b h .positive) (G3-is B b h)
+  G3-enclosed = ends-enclose (G3-proper B b h .0) (G3-is B b h)
 
   pub G3-near : Near 1 (G3Ends B b)
   unfolding G3Ends
-  G3-near = ends-near (G3-proper B b h .positive) (G3-is B b h)
+  G3-near = ends-near (G3-proper B b h .0) (G3-is B b h)
 
   pub G3-probable : Probable (G3Ends B b)
   unfolding G3Ends
-  G3-probable = let q = G3-proper B b h in ends-probable (q .positive) (q .at-most-one) (G3-is B b h)
+  G3-probable = let q = G3-proper B b h in ends-probable (q .0) (q .1) (G3-is B b h)
 
   module _ (L x : ℕ) (some : 1 ≤ L) (short : L ≤ 19800) (within : x ≤ L) where
     -- ---- x·G1/L
@@ -88,11 +88,11 @@ module _ (B b : ℕ) (h : (1 ≤ B) × (B ≤ 6000) × (2 * b ≤ B)) where
 
     G3-below : b * L ≤ 15 * B * x → G3 B b ≼ (x over L) ⊛ G1 B b
     G3-below l =
-        below-across (G3-is B b h) part-is (G3-proper B b h .positive) (mul-pos some (G1-proper B b h .positive))
+        below-across (G3-is B b h) part-is (G3-proper B b h .0) (mul-pos some (G1-proper B b h .0))
         (omega (arith, cross (5500 * b * B - 1089 * b * b) (1375 * b * b * B - 363 * b * b * b) thirds l))
 
     half-below : b * L ≤ 15 * B * x → half (G3 B b) ≼ (x over L) ⊛ G1 B b
-    half-below l = ≼-trans (half-not-above (G3-proper B b h .positive) (G3-is B b h)) (G3-below l)
+    half-below l = ≼-trans (half-not-above (G3-proper B b h .0) (G3-is B b h)) (G3-below l)
 
     -- ---- G, by the ends that the span touches
 

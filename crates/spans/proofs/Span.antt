@@ -7,8 +7,9 @@ use Rattle.laws.specs.Fraction.{_less_over_, _over_, _⊹_, Is}
 use Rattle.laws.specs.Rounding.{ceil}
 use Rattle.laws.proofs.Fraction.{is-over, is-widened, is-⊹, is-⊛, is-shifted}
 use Rattle.records.specs.declared.Ends.{Ends}
-use Rattle.numbers.specs.Figures.{Proper, billionthsOf}
-use Rattle.numbers.proofs.Figures.{proper}
+use Rattle.numbers.specs.Figures.{billionthsOf}
+use Rattle.division.specs.Division.{Proper}
+use Rattle.division.proofs.Division.{proper}
 use Rattle.solas.specs.Span.{Touch, neither, one, both, touch, half, p, PAt, P}
 use Rattle.bands.specs.declared.Ratio.{Ratio}
 use Rattle.spans.specs.Rounded.{endsOf}

@@ -12,12 +12,12 @@ use Rattle.laws.proofs.Rounding.{ceil-lower}
 use Rattle.laws.proofs.FractionCompare.{across-below, is-times, ⊛-rises, times-rises}
 use Rattle.numbers.specs.Figures.{billionths}
 use Rattle.solas.specs.Index.{attained}
-use Rattle.survival.specs.Ratio.{ratioOf}
+use Rattle.numbers.specs.Ratio.{ratioOf}
 use Rattle.survival.specs.Survival.{ends, tenThousandths}
 use Rattle.indices.specs.Index.{scale, addsOf, attainedOf}
 use Rattle.indices.specs.Exact.{RowAt, Sound, weight, rowEnds, partialEnds}
 use Rattle.indices.specs.Promises.{NoMoreThanUpper, NoLessThanLower, AttainedNoMore, AttainedNoLess}
-use Rattle.survival.proofs.Compare.{ratio-positive, is-ratio}
+use Rattle.numbers.proofs.Ratios.{ratio-positive, is-ratio}
 use Rattle.survival.proofs.Bounds.{not-above-top, not-below-bottom}
 -- checked first, so that a definition that gives another number is refused there
 use Rattle.indices.proofs.Values.{one-file}

@@ -14,8 +14,8 @@ use Rattle.records.specs.declared.Answer.{Answer}
 use Rattle.records.specs.declared.Ends.{Ends}
 use Rattle.records.specs.declared.Trio.{Trio}
 use Rattle.solas.specs.Index.{R, partialMark}
-use Rattle.survival.specs.declared.Ratio.{Ratio}
-use Rattle.survival.specs.Ratio.{ratioOf}
+use Rattle.records.specs.declared.Ratio.{Ratio}
+use Rattle.numbers.specs.Ratio.{ratioOf}
 use Rattle.indices.specs.Index.{attainedOf}
 use Rattle.verdicts.specs.Verdict.{allReach, verdictOf}
 use Rattle.indices.specs.Exact as exact

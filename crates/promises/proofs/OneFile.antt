@@ -17,7 +17,7 @@ use Rattle.spans.specs.Span.{pEnds, PEnds}
 use Rattle.penetration.specs.Figures.{plus, minus}
 use Rattle.penetration.specs.Penetration.{G1Ends, G3Ends, partEnds, GEnds, mixed, QEnds}
 use Rattle.chances.specs.Share.{withinEnds, sumsOf, lowest, highest, rowOf, rowEnds}
-use Rattle.survival.specs.Ratio.{ratioOf}
+use Rattle.numbers.specs.Ratio.{ratioOf}
 use Rattle.heights.specs.Height.{rowVs}
 use Rattle.survival.specs.Survival.{factorOf, scaledOf, roundedOf, factorsOf, survivalsOf}
 use Rattle.indices.specs.Index.{addsOf, rowAdds, partials, attainedOf}

@@ -13,7 +13,7 @@ use Rattle.solas.specs.Share.{within, share, rowShare}
 use Rattle.solas.specs.Survival.{k, s⁴}
 use Rattle.solas.proofs.Values as values
 use Rattle.solas.proofs.Survival.{is-s⁴, s⁴-not-negative, s⁴-at-most-one}
-use Rattle.survival.specs.Ratio.{ratioOf}
+use Rattle.numbers.specs.Ratio.{ratioOf}
 use Rattle.survival.specs.Survival.{factorOf, scaledOf, roundedOf, survivalOf}
 use Rattle.survival.proofs.Bounds.{ends-same}
 use Rattle.promises.specs.Values.{gives, ProvedValues}

@@ -1,20 +1,29 @@
 -- Bottom and top: they are what 01 says, one number each, by the value of s⁴ alone, at most one apart, and they enclose every survival. Assumes nothing.
 use Prim.Native.Nat.{ℕ, _+_, _*_, _/_, _^_, _≤_, _<_}
-use mathlib.Core.Path.{_≡_}
+use mathlib.Core.List.{[]}
+use mathlib.Core.Path.{_≡_, refl}
 use native.Mathlib.Nat.{le-refl, le-antisymm, le-trans, le-of-lt, lt-of-not-le, le-of-mul-le-mul-right, mul-le-mul-left}
 use native.Mathlib.Omega.{arith}
 use lib.Dec.{lit<}
 use Rattle.laws.specs.Fraction.{Fraction, whole, Is, _≈_, _≼_, _⊛_}
 use Rattle.laws.specs.Rounding.{ceil}
-use Rattle.laws.proofs.Fraction.{is-over, is-whole, ≈-refl, ≈-sym, ⊛-≈, ≼-of-≈, ≼-trans, below-across}
+use Rattle.laws.proofs.Polynomial.{_:^_, _:=_, _⊢_, poly1}
+use Rattle.laws.proofs.Fraction.{is-over, is-whole, is-written, ≈-refl, ≈-sym, ⊛-≈, ≼-of-≈, ≼-trans, below-across}
 use Rattle.laws.proofs.Roots.{powers-ordered, root-below, root-above}
-use Rattle.laws.proofs.FractionCompare.{across-below, is-times}
+use Rattle.laws.proofs.FractionCompare.{across-below, is-times, is-square}
 use Rattle.roots.proofs.Root.{down-of-fraction, up-of-fraction}
 use Rattle.roots.proofs.RootValue.{down-root, up-root}
-use Rattle.survival.specs.Ratio.{ratioOf}
-use Rattle.survival.specs.Survival.{Factor, root, given, ends, Sensible, Bottom, Top, BottomAndTop, scaledOf, roundedOf, tenThousandths, NotAbove, NotBelow}
-use Rattle.survival.proofs.Compare.{ratio-positive, is-ratio, is-fourth}
+use Rattle.numbers.specs.Ratio.{ratioOf}
+use Rattle.numbers.proofs.Ratios.{ratio-positive, is-ratio}
+use Rattle.survival.specs.Survival.{fourthPower, Factor, root, given, ends, Sensible, Bottom, Top, BottomAndTop, scaledOf, roundedOf, tenThousandths, NotAbove, NotBelow}
 use Rattle.survival.proofs.Factors.{same-survival, times-down, times-up}
+
+-- ---- fourth powers
+is-fourth : {x : Fraction} {n d : ℕ} → Is x n 0 d → Is (fourthPower x) (n ^ 4) 0 (d ^ 4)
+is-fourth {x} {n} {d} h = is-written (is-square (is-square h)) (twice n) refl (twice d)
+  where
+    twice : (n : ℕ) → (n ^ 2) ^ 2 ≡ n ^ 4
+    twice = poly1 (λ n. [] ⊢ (n :^ 2) :^ 2 := n :^ 4) tt
 
 -- ---- over numbers: the bottom and the top of the root of N/M
 module _ {f : Fraction} (h : Sensible (root f)) where

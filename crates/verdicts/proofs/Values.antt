@@ -4,7 +4,7 @@ use mathlib.Core.Path.{_≡_, refl}
 use Rattle.laws.specs.Fraction.{_less_over_, _⊛_}
 use Rattle.records.specs.declared.Ends.{Ends}
 use Rattle.solas.specs.Index.{R, partialMark}
-use Rattle.survival.specs.Ratio.{ratioOf}
+use Rattle.numbers.specs.Ratio.{ratioOf}
 use Rattle.indices.specs.Index.{trio}
 use Rattle.verdicts.specs.Verdict.{reaches, allReach, verdictOf}
 

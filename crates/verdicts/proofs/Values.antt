@@ -1,4 +1,4 @@
--- Document 01, "Proved values" and "One file in full": R and the verdict, as the definitions of this crate give them. Assumes nothing.
+-- Document 01, "Proved values" and "One file in full": R as the ratio that an index is held to, and the verdict, computed. Assumes nothing.
 use Prim.Native.Nat.{_*_}
 use mathlib.Core.Path.{_≡_, refl}
 use Rattle.laws.specs.Fraction.{_less_over_, _⊛_}

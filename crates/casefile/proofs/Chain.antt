@@ -2,8 +2,7 @@
 use mathlib.Core.Path.{_≡_, refl}
 use mathlib.Core.List.{List, [], _∷_}
 use mathlib.Core.Logic.{_⊎_, inl, inr, ⊎-elim}
-use Rattle.laws.specs.Lists.{Every}
-use Rattle.laws.specs.Sums.{last, Linked}
+use Rattle.laws.specs.Lists.{Every, last, Linked}
 use Rattle.records.specs.declared.Hull.{Hull}
 use Rattle.records.specs.declared.RowHead.{RowHead}
 use Rattle.casefile.specs.Record.{Row}

@@ -3,6 +3,7 @@ use Prim.Native.Nat.{ℕ, _+_, _-_, _*_, _≤_, _<_}
 use mathlib.Core.Path.{_≡_, refl, sym, _∙_, ap}
 use mathlib.Core.Bool.{Bool, true, false, cond}
 use mathlib.Core.List.{List, [], _∷_, _++_}
+use native.Mathlib.Nat.{le-refl}
 use native.Mathlib.Omega.{arith}
 use lib.Dec.{ltb, eqb, lit<}
 use lib.ListN.{length, getD, drop, length-drop}
@@ -100,8 +101,7 @@ module _ (h : Hull) (s : Sizes h) (z : Zones h) (p : Placed h) where
       let e : 7 + 2 * k ≡ 9 + 2 * (k - 1) = omega arith in
       let q : 1 + (k - 1) ≡ k = omega arith in
       let g : getD (innerOf h) (k - 1) 0 ≡ getD (h .places) k 0 = rw q at (getD-part 1 (h .zones - 1) (k - 1) (h .places) 0 (omega arith)) in
-      let d : k + (h .zones - k) ≡ h .zones = omega arith in
-      let up : getD (h .places) k 0 ≤ getD (h .places) (h .zones) 0 = rw d at (rising-below (h .places) (h .zones) k (h .zones - k) (z .rising) (omega arith)) in
+      let up : getD (h .places) k 0 ≤ getD (h .places) (h .zones) 0 = rising-below (h .places) (h .zones) (z .rising) (omega arith) (le-refl (h .zones)) in
       rw (e, ← word-drop 9 (2 * (k - 1)) fields, after-nine)
       (word-at (innerOf h) (k - 1) (omega (arith, inner-length)) (omega (arith, g, up, z .bow, s .short)) ∙ g)
 

@@ -1,15 +1,17 @@
 -- The limits as orders between numbers: what a hull, a row's head and a result that fit are within. Assumes nothing.
-use Prim.Native.Nat.{ℕ, zero, suc, _+_, _-_, _/_, _%_, _≤_, _<_}
+use Prim.Native.Nat.{ℕ, zero, suc, _+_, _-_, _/_, _%_, _≤_, _<_, zero-le}
 use mathlib.Core.Path.{_≡_}
 use mathlib.Core.Bool.{Bool, true, _&&_}
 use mathlib.Core.List.{List, [], _∷_}
 use mathlib.Core.Logic.{⊎-elim}
-use native.Mathlib.Nat.{add-zero, add-suc, le-of-suc-le-suc, eq-or-lt-of-le}
+use native.Mathlib.Nat.{le-of-suc-le-suc, eq-or-lt-of-le}
+use native.Mathlib.Numerals.{add-one}
 use native.Mathlib.Omega.{arith}
 use lib.Dec.{leb, ltb, eqb}
 use lib.ListN.{getD}
 use borrow.Author.Tests.{leb-true, eqb-true, ltb-true}
 use Rattle.laws.specs.Lists.{Every}
+use Rattle.laws.proofs.Rising.{places-rise}
 use Rattle.laws.proofs.Tests.{both}
 use Rattle.records.specs.declared.Hull.{Hull}
 use Rattle.records.specs.declared.Finding.{Finding}
@@ -91,10 +93,8 @@ rising-step places (suc m) k e h =
     (eq-or-lt-of-le h)
 
 -- and so none is above a later one
-pub rising-below : (places : List ℕ) (m k d : ℕ) → risingTo places m ≡ true → k + d ≤ m → getD places k 0 ≤ getD places (k + d) 0
-rising-below places m k zero e h = rw (add-zero k) (omega arith)
-rising-below places m k (suc d) e h =
-    rw (add-suc k d) (omega (arith, rising-below places m k d e (omega arith), rising-step places m (k + d) e (omega arith)))
+pub rising-below : (places : List ℕ) (m : ℕ) → risingTo places m ≡ true → {k n : ℕ} → k ≤ n → n ≤ m → getD places k 0 ≤ getD places n 0
+rising-below places m e = places-rise (λ k. getD places k 0) (λ k _ h. rw (add-one k) (rising-step places m k e h)) zero-le
 
 pub record Head (h : Hull) (r : RowHead) : Type 0 where
   pub first : 1 ≤ r .first

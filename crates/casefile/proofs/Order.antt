@@ -53,13 +53,13 @@ module _ (h : Hull) (r : RowHead) where
 -- ---- the groups
 
 module _ (b r : RowHead) where
-  same-group : sameGroup b r ≡ true → SameGroup b r
+  pub same-group : sameGroup b r ≡ true → SameGroup b r
   unfolding sameGroup
   same-group e =
       let (a, n) = both (eqb (r .first) (b .first)) (eqb (r .count) (b .count)) e in
       (eqb-true (r .first) (b .first) a, eqb-true (r .count) (b .count) n)
 
-  is-same : SameGroup b r → sameGroup b r ≡ true
+  pub is-same : SameGroup b r → sameGroup b r ≡ true
   unfolding sameGroup
   is-same (a, n) = rw (eq-eqb (r .first) (b .first) a, eq-eqb (r .count) (b .count) n) refl
 
@@ -77,7 +77,7 @@ module _ (b r : RowHead) where
       (λ (q : b .first < r .first). inl q)
       (eq-or-lt-of-le (ltb-false (r .first) (b .first) a))
 
-  not-same : LaterGroup b r → sameGroup b r ≡ false
+  pub not-same : LaterGroup b r → sameGroup b r ≡ false
   unfolding sameGroup
   not-same (inl a) = rw (ne-eqb (r .first) (b .first) (λ e. omega arith)) refl
   not-same (inr (a, n)) = rw (eq-eqb (r .first) (b .first) a, ne-eqb (r .count) (b .count) (λ e. omega arith)) refl

@@ -3,8 +3,7 @@ use Prim.Native.Nat.{_/_, _<_}
 use mathlib.Core.Path.{_≡_}
 use mathlib.Core.List.{List, [], _∷_, _++_}
 use mathlib.Core.Logic.{_↔_}
-use Rattle.laws.specs.Lists.{Every}
-use Rattle.laws.specs.Sums.{last, Linked}
+use Rattle.laws.specs.Lists.{Every, last, Linked}
 use Rattle.records.specs.declared.Hull.{Hull}
 use Rattle.records.specs.declared.RowHead.{RowHead}
 use Rattle.casefile.specs.Record.{Row}

@@ -2,7 +2,7 @@
 use Prim.Native.Nat.{ℕ, zero, suc, _+_, _-_, _*_, _^_, _≤_}
 use native.Mathlib.Nat.{le-refl, le-trans, min-le-right}
 use native.Mathlib.Omega.{arith}
-use Rattle.laws.specs.Fraction.{whole, _⊹_, _⊝_}
+use Rattle.laws.specs.Fraction.{whole}
 use Rattle.numbers.specs.Figures.{Between}
 use Rattle.solas.specs.Ship.{Ship, Sound}
 use Rattle.solas.specs.Share.{within, share, before, rowShare}

@@ -9,13 +9,13 @@ use Rattle.laws.specs.Rounding.{ceil}
 use Rattle.laws.proofs.Table.{every}
 use Rattle.numbers.specs.Figures.{billionthsOf, portionOf, halvesOf}
 use Rattle.solas.specs.Span.{touch, p, P}
-use Rattle.solas.specs.Penetration.{G1, G3}
+use Rattle.solas.specs.Penetration.{c, d, G1, G3}
 use Rattle.solas.specs.Ship.{Ship, abutting}
 use Rattle.solas.specs.Count.{added, taken}
 use Rattle.spans.specs.Rounded.{endsOf}
 use Rattle.penetration.specs.Figures.{plus, minus}
 use Rattle.spans.specs.Span.{pEnds, PEnds}
-use Rattle.penetration.specs.Penetration.{G1Ends, G3Ends, partEnds, GEnds, c, d, mixed, QEnds}
+use Rattle.penetration.specs.Penetration.{G1Ends, G3Ends, partEnds, GEnds, mixed, QEnds}
 use Rattle.chances.specs.Share.{withinEnds, sumsOf, lowest, highest, rowOf, rowEnds}
 
 -- the group (a, n), its layer from b′ to b, and the ends of its share

@@ -1,6 +1,6 @@
 -- Q of one span at a layer, put together from the ends of its p and P, and where b may be 0. Assumes nothing.
 use mathlib.Core.Path.{_≡_, refl, ap}
-use Prim.Native.Nat.{ℕ, zero, suc, _*_, _^_, _≤_, _<_}
+use Prim.Native.Nat.{ℕ, zero, suc, _^_, _≤_, _<_}
 use native.Mathlib.Omega.{arith}
 use Rattle.records.specs.declared.Ends.{Ends}
 use Rattle.solas.specs.Ship.{Ship}
@@ -8,7 +8,8 @@ use Rattle.penetration.specs.declared.Layer.{Layer}
 use Rattle.spans.specs.declared.SpanEnds.{SpanEnds}
 use Rattle.spans.specs.Rounded.{Probable}
 use Rattle.spans.specs.Span.{PEnds}
-use Rattle.penetration.specs.Penetration.{c, d, GEnds, mixed, QEnds}
+use Rattle.solas.specs.Penetration.{c, d}
+use Rattle.penetration.specs.Penetration.{GEnds, mixed, QEnds}
 use Rattle.penetration.specs.Layer.{layerOf, Reached}
 use Rattle.chances.specs.Lent.{alone, across}
 use Rattle.chances.specs.Share.{withinEnds}

@@ -1,4 +1,4 @@
--- What a division with a rest says: the bounds of the long division's steps, and the roundings at its end. Assumes nothing.
+-- What long division takes, and what a division with a rest says: the bounds of its steps, and the roundings at its end. Assumes nothing.
 use mathlib.Core.Path.{_≡_, sym}
 use Prim.Native.Nat.{ℕ, _+_, _*_, _/_, _%_, _^_, _≤_, _<_}
 use native.Mathlib.Nat.{le-of-lt, div-add-mod', mod-lt, div-le-of-le-mul, le-of-mul-le-mul-right, mul-le-mul-left, mul-le-mul-right}
@@ -6,8 +6,12 @@ use native.Mathlib.Omega.{arith}
 use lib.Arith.{digits-div}
 use Rattle.laws.specs.Rounding.{ceil}
 use Rattle.numbers.proofs.Quotients.{exact-up, more-up}
-use Rattle.division.specs.Division.{Division, Carries, dividend}
+use Rattle.division.specs.Division.{Proper, Division, Carries, dividend}
 use Rattle.division.specs.declared.Quotient.{Quotient}
+
+-- every divisor of 01 will do: the widest is 59400 L³, of a span at one end of a ship of 198 m
+pub proper : {n d : ℕ} → 0 < d → n ≤ d → d ≤ 59400 * 19800 ^ 3 → Proper n d
+proper hd hn h = record { positive = hd; at-most-one = hn; narrow = omega arith }
 
 -- the machine's quotient and rest are a division
 pub by-machine : (n d : ℕ) → 0 < d → Division n d (record { whole = n / d; rest = n % d })

@@ -1,7 +1,13 @@
--- Division with a rest, as the long division keeps it. Assumes nothing.
+-- What long division takes, and division with a rest as it keeps it. Assumes nothing.
 use mathlib.Core.Path.{_≡_}
-use Prim.Native.Nat.{ℕ, _+_, _*_, _^_, _<_}
+use Prim.Native.Nat.{ℕ, _+_, _*_, _^_, _≤_, _<_}
 use Rattle.division.specs.declared.Quotient.{Quotient}
+
+-- n/d is at most one, and 64 bits hold what its long division makes
+pub record Proper (n d : ℕ) : Type 0 where
+  pub positive : 0 < d
+  pub at-most-one : n ≤ d
+  pub narrow : 40 * d < 2 ^ 64
 
 -- the number whose quotient by d is q
 abbrev pub dividend : Quotient → ℕ → ℕ

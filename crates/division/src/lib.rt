@@ -1,12 +1,10 @@
 // Long division in 64 bits: a fraction in billionths, rounded both ways, however wide its divisor.
+use numbers::LARGEST;
 use records::Ends;
 ghost use mathlib.Core.Path.{_≡_};
 ghost use Prim.Native.Nat.{_*_, _%_, _^_, _<_};
-ghost use Rattle.numbers.specs.Figures.{Proper, billionthsOf};
-ghost use Rattle.division.specs.Division.{Division, Carries, dividend};
-
-// The largest number that 64 bits hold.
-const LARGEST: u64 = 18_446_744_073_709_551_615;
+ghost use Rattle.numbers.specs.Figures.{billionthsOf};
+ghost use Rattle.division.specs.Division.{Proper, Division, Carries, dividend};
 
 // The largest divisors that take 10⁹ in one step, in two of 10⁵ and 10⁴, and in three of 10³.
 const ONE_STEP: u64 = LARGEST / 1_000_000_000;

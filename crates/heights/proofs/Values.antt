@@ -1,4 +1,4 @@
--- Heights that refuse a slip in this crate at once; document 01's own table is crates/promises/specs/Values.antt. Assumes nothing.
+-- v on both sides of its bend at 7.8 m, above the draught and over the baseline: the definitions that this crate's contracts cite, computed. Assumes nothing.
 use mathlib.Core.Path.{_≡_, refl}
 use Rattle.solas.specs.Height.{v, vAt}
 

@@ -1,5 +1,5 @@
 -- Line 1, step by step as the code goes: a hull's number, the record from a buffer that is longer than the line or shorter, the line. Assumes nothing.
-use Prim.Native.Nat.{ℕ, _+_, _-_, _*_, _≤_, _<_}
+use Prim.Native.Nat.{ℕ, _+_, _*_, _≤_, _<_}
 use mathlib.Core.Path.{_≡_, refl, sym, _∙_, ap}
 use mathlib.Core.Bool.{true, false, not, _&&_, or-true}
 use mathlib.Core.List.{List}

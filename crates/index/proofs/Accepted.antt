@@ -19,8 +19,8 @@ use Rattle.spans.specs.Table.{tableOf}
 use Rattle.spans.proofs.Places.{ship-sound}
 use Rattle.chances.specs.Share.{rowOf, rowEnds}
 use Rattle.chances.proofs.Row.{lower-at-most-one}
-use Rattle.survival.specs.declared.Ratio.{Ratio}
-use Rattle.survival.specs.Ratio.{ratioOf}
+use Rattle.records.specs.declared.Ratio.{Ratio}
+use Rattle.numbers.specs.Ratio.{ratioOf}
 use Rattle.indices.specs.Index.{partials, attainedOf, Share}
 use Rattle.verdicts.specs.Verdict.{verdictOf}
 use Rattle.casefile.specs.declared.Judgement.{Judgement}

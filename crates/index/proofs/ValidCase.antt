@@ -9,8 +9,7 @@ use native.Mathlib.Omega.{arith}
 use lib.Dec.{eqb}
 use lib.ListN.{getD}
 use borrow.Author.Tests.{eqb-true, eqb-false}
-use Rattle.laws.specs.Lists.{Every}
-use Rattle.laws.specs.Sums.{Linked}
+use Rattle.laws.specs.Lists.{Every, Linked}
 use Rattle.laws.proofs.Tests.{both, holds}
 use Rattle.records.specs.declared.Hull.{Hull}
 use Rattle.records.specs.declared.Finding.{Finding}

@@ -8,7 +8,7 @@ use Rattle.records.specs.declared.Ends.{Ends}
 use Rattle.solas.specs.Count.{added, taken}
 use Rattle.solas.specs.Index.{R, partialMark}
 use Rattle.chances.specs.Share.{sumsOf, lowest, highest, rowOf, rowEnds}
-use Rattle.survival.specs.Ratio.{ratioOf}
+use Rattle.numbers.specs.Ratio.{ratioOf}
 use Rattle.indices.specs.Index.{trio, attainedOf}
 use Rattle.verdicts.specs.Verdict.{reaches, allReach, verdictOf}
 use Rattle.casefile.specs.Record.{Row, Case}

@@ -9,7 +9,7 @@ use Rattle.records.specs.declared.Ends.{Ends}
 use Rattle.records.specs.declared.Hull.{Hull}
 use Rattle.records.specs.declared.Trio.{Trio}
 use Rattle.solas.specs.Index.{R, partialMark}
-use Rattle.survival.specs.Ratio.{ratioOf}
+use Rattle.numbers.specs.Ratio.{ratioOf}
 use Rattle.indices.specs.Index.{partials, attainedOf}
 use Rattle.verdicts.specs.Verdict.{verdictOf}
 use Rattle.casefile.specs.Record.{Case}

@@ -1,24 +1,23 @@
 -- The ends enclose: what a row adds, the partial indices and A, for every list of survivals. Assumes nothing.
-use Prim.Native.Nat.{ℕ, suc, _+_, _*_, _/_, _^_, _≤_, _<_}
-use mathlib.Core.List.{List, [], _∷_}
-use mathlib.Core.Path.{_≡_, refl, ap}
+use Prim.Native.Nat.{ℕ, _+_, _*_, _/_, _^_, _≤_, _<_}
+use mathlib.Core.List.{[], _∷_}
+use mathlib.Core.Path.{refl}
 use native.Mathlib.Nat.{mul-pos, le-of-mul-le-mul-right, mul-le-mul-right, div-mul-le-self}
 use native.Mathlib.Omega.{arith}
 use lib.Dec.{lit<}
-use lib.ListN.{length}
-use Rattle.laws.specs.Fraction.{Fraction, den, _less_over_, _over_, whole, Is, _≈_, _≼_, _⊹_, _⊛_}
+use Rattle.laws.specs.Fraction.{Fraction, den, whole, Is, _≈_, _≼_, _⊹_, _⊛_}
 use Rattle.laws.specs.Rounding.{ceil}
 use Rattle.laws.proofs.Fraction.{positive, is-over, is-self, is-nothing, is-⊹, is-⊛, same, ≼-of-≈, ≼-trans, ≈-sym, ⊹-≼, is-written, below-across}
 use Rattle.laws.proofs.Rounding.{ceil-lower}
 use Rattle.laws.proofs.FractionCompare.{across-below, is-times, ⊛-rises, times-rises}
 use Rattle.numbers.specs.Figures.{billionths}
 use Rattle.solas.specs.Index.{attained}
-use Rattle.survival.specs.Ratio.{ratioOf}
+use Rattle.numbers.specs.Ratio.{ratioOf}
 use Rattle.survival.specs.Survival.{ends, tenThousandths}
 use Rattle.indices.specs.Index.{scale, addsOf, attainedOf}
-use Rattle.indices.specs.Exact.{Each, RowAt, Sound, weight, rowEnds, partialEnds}
+use Rattle.indices.specs.Exact.{RowAt, Sound, weight, rowEnds, partialEnds}
 use Rattle.indices.specs.Promises.{NoMoreThanUpper, NoLessThanLower, AttainedNoMore, AttainedNoLess}
-use Rattle.survival.proofs.Compare.{ratio-positive, is-ratio}
+use Rattle.numbers.proofs.Ratios.{ratio-positive, is-ratio}
 use Rattle.survival.proofs.Bounds.{not-above-top, not-below-bottom}
 -- checked first, so that a definition that gives another number is refused there
 use Rattle.indices.proofs.Values.{one-file}
@@ -75,11 +74,7 @@ module _ (r : RowAt) {x : Fraction} (h : Sound r) (p : whole 0 ≼ x) where
             (omega arith) (omega arith) (div-mul-le-self (lo * r .v * bottom) scale),
       ))
 
--- ---- all rows; one survival for each is a list of the same length
-pub each-length : {A B : Type 0} (P : A → B → Type 0) (xs : List A) (ys : List B) → Each P xs ys → length xs ≡ length ys
-each-length P [] [] h = refl
-each-length P (x ∷ xs) (y ∷ ys) h = ap suc (each-length P xs ys (h .1))
-
+-- ---- all rows
 billionths-sum : (m n : ℕ) → billionths m ⊹ billionths n ≈ billionths (m + n)
 billionths-sum m n = let p : 0 < 10 ^ 9 = lit< tt in same p (is-⊹ (is-over m p) (is-over n p)) (is-over (m + n) p)
 

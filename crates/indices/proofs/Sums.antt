@@ -13,7 +13,7 @@ use Rattle.records.specs.declared.Ends.{Ends}
 use Rattle.records.specs.declared.Survival.{Survival}
 use Rattle.records.specs.declared.Trio.{Trio}
 use Rattle.survival.specs.Survival.{given, ends}
-use Rattle.indices.specs.Index.{scale, addsOf, trio, at, lost, addsAt, rowAdds, sums, plus, sumAt, partials, Share, RowWeights, Small, Within}
+use Rattle.indices.specs.Index.{scale, addsOf, at, lost, addsAt, rowAdds, sums, plus, sumAt, partials, Share, RowWeights, Small, Within}
 use Rattle.indices.specs.Exact.{Row, rowAt, rowEnds}
 use Rattle.indices.specs.Promises.{SumsAreThese}
 use Rattle.indices.proofs.Rows.{three}
@@ -22,11 +22,7 @@ use Rattle.indices.proofs.Rows.{three}
 adds-at : (r : Row) (i : ℕ) → addsAt (r .shareEnds) (r .vs) (map ends (r .factors)) i ≡ rowEnds (rowAt i r)
 adds-at r i = ap (λ s. addsOf (r .shareEnds) (getD (r .vs) i 0) s) (List·getD-map ends (r .factors) i (given 0))
 
--- ---- one row more, before the others and after them
-pub partials-cons : (t : Trio) (ts : List Trio) → partials (t ∷ ts) ≡ plus t (partials ts)
-unfolding partials plus sums
-partials-cons t ts = refl
-
+-- ---- one row more, after the others
 pub partials-snoc : (ts : List Trio) (t : Trio) → partials (ts ++ t ∷ []) ≡ plus (partials ts) t
 unfolding partials plus sums
 partials-snoc ts t = three (more 0) (more 1) (more 2)
@@ -34,19 +30,6 @@ partials-snoc ts t = three (more 0) (more 1) (more 2)
     more : (i : ℕ) → sumAt (ts ++ t ∷ []) i ≡ record { lower = sumAt ts i .lower + at t i .lower; upper = sumAt ts i .upper + at t i .upper }
     more i =
         both (omega (arith, sumOf-append (λ t. at t i .lower) ts (t ∷ []))) (omega (arith, sumOf-append (λ t. at t i .upper) ts (t ∷ [])))
-
-pub plus-assoc : (t u w : Trio) → plus (plus t u) w ≡ plus t (plus u w)
-unfolding plus sums
-plus-assoc t u w = three (regrouped 0) (regrouped 1) (regrouped 2)
-  where
-    regrouped : (i : ℕ) → _≡_ {A = Ends}
-        (record { lower = at t i .lower + at u i .lower + at w i .lower; upper = at t i .upper + at u i .upper + at w i .upper })
-        (record { lower = at t i .lower + (at u i .lower + at w i .lower); upper = at t i .upper + (at u i .upper + at w i .upper) })
-    regrouped i = both (omega arith) (omega arith)
-
-pub plus-none : (s p l : Ends) → plus (trio s p l) (partials []) ≡ trio s p l
-unfolding partials plus sums
-plus-none s p l = three (both (omega arith) (omega arith)) (both (omega arith) (omega arith)) (both (omega arith) (omega arith))
 
 -- ---- row by row, and draught by draught
 pub sums-are-these : SumsAreThese

@@ -11,7 +11,7 @@ use Rattle.records.specs.declared.Trio.{Trio}
 use Rattle.solas.specs.Height.{v, vAt, rowV}
 use Rattle.solas.specs.Index.{dp, draughts}
 use Rattle.solas.specs.Survival.{k, s⁴}
-use Rattle.survival.specs.Ratio.{ratioOf}
+use Rattle.numbers.specs.Ratio.{ratioOf}
 use Rattle.heights.specs.Height.{rowVs}
 use Rattle.survival.specs.Survival.{factorOf, scaledOf, roundedOf, factorsOf, survivalsOf}
 use Rattle.indices.specs.Index.{addsOf, trio, rowAdds, partials, attainedOf}

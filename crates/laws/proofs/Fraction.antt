@@ -1,7 +1,7 @@
 -- Fractions by common denominators: what sums, differences, products and quotients come to, and how two compare. Assumes nothing.
 use Prim.Native.Nat.{ℕ, suc, _+_, _-_, _*_, _≤_, _<_}
 use mathlib.Core.Path.{_≡_, refl, ap, sym, _∙_}
-use native.Mathlib.Nat.{zero-mul, one-mul, mul-sub, mul-comm, mul-pos, eq-of-mul-eq-mul-right, le-of-mul-le-mul-right, lt-of-mul-lt-mul-right, mul-lt-mul-of-pos-right, mul-le-mul-right, zero-lt-suc, le-refl, le-of-eq, le-antisymm}
+use native.Mathlib.Nat.{zero-mul, one-mul, mul-sub, mul-comm, mul-pos, eq-of-mul-eq-mul-right, le-of-mul-le-mul-right, lt-of-mul-lt-mul-right, mul-lt-mul-of-pos-right, mul-le-mul-right, zero-lt-suc, le-of-eq}
 use native.Mathlib.Omega.{arith, by-contra}
 use Rattle.laws.specs.Fraction.{Fraction, den, _less_over_, _over_, Is, _≈_, _≼_, _≺_, whole, _⊹_, _⊝_, _⊛_, _⊘_}
 
@@ -184,14 +184,8 @@ pub ⊛-≈ : {f f′ g g′ : Fraction} → f ≈ f′ → g ≈ g′ → f ⊛
 ⊛-≈ {f} {f′} {g} {g′} p q = same (mul-pos (positive f′) (positive g′)) (is-⊛ (is-≈ p (is-self f′)) (is-≈ q (is-self g′))) (is-⊛ (is-self f′) (is-self g′))
 
 -- ---- order
-pub ≼-refl : (f : Fraction) → f ≼ f
-≼-refl f = record { cross = le-refl (f .up * den f + f .down * den f) }
-
 pub ≼-of-≈ : {f g : Fraction} → f ≈ g → f ≼ g
 ≼-of-≈ h = record { cross = le-of-eq (h .cross) }
-
-pub ≼-antisym : {f g : Fraction} → f ≼ g → g ≼ f → f ≈ g
-≼-antisym h k = record { cross = le-antisymm (h .cross) (omega (arith, k .cross)) }
 
 pub ≼-trans : {f g h : Fraction} → f ≼ g → g ≼ h → f ≼ h
 ≼-trans {f} {g} {h} p q =

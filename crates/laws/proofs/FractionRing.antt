@@ -16,9 +16,6 @@ pub ⊛-assoc : (f g h : Fraction) → f ⊛ g ⊛ h ≈ f ⊛ (g ⊛ h)
 pub ⊛-nothing : (f : Fraction) → f ⊛ whole 0 ≈ whole 0
 ⊛-nothing f = agree {ρ = parts (f ∷ [])} (first ⊛ᵗ number 0 1 tt) (number 0 1 tt) tt
 
-pub one-⊛ : (f : Fraction) → whole 1 ⊛ f ≈ f
-one-⊛ f = agree {ρ = parts (f ∷ [])} (number 1 1 tt ⊛ᵗ first) first tt
-
 pub ⊛-⊝ : (f g h : Fraction) → f ⊛ (g ⊝ h) ≈ f ⊛ g ⊝ f ⊛ h
 ⊛-⊝ f g h = agree {ρ = parts (f ∷ g ∷ h ∷ [])} (first ⊛ᵗ (second ⊝ᵗ third)) (first ⊛ᵗ second ⊝ᵗ first ⊛ᵗ third) tt
 

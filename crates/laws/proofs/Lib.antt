@@ -5,8 +5,8 @@ pub mod Choice
 -- sums and lists
 pub mod Sums
 pub mod Listed
-pub mod Telescope
 pub mod Lists
+pub mod Rising
 pub mod Bytes
 -- polynomials, by computation
 pub mod Normal

@@ -6,16 +6,13 @@ use mathlib.Core.List.{List, [], _∷_, List·Memᴰ, List·Memᴰ·head, List·
 use mathlib.Core.Logic.{_↔_, ⊎-elim}
 use native.Mathlib.Nat.{eq-or-lt-of-le, le-dest}
 use native.Mathlib.Omega.{arith, sub-cases}
-use Rattle.laws.specs.Sums.{sumOf, sumBelow, Rising}
+use Rattle.laws.specs.Lists.{Rising}
+use Rattle.laws.specs.Sums.{sumOf, sumBelow}
 use Rattle.laws.proofs.Sums.{sumBelow-longer, sumBelow-between, sumBelow-split, sumBelow-zero}
 
 pub rising-from : (a n i : ℕ) (xs : List ℕ) → Rising a n xs → List·Memᴰ i xs → a ≤ i
 rising-from a n i (x ∷ xs) r (List·Memᴰ·head e) = omega arith
 rising-from a n i (x ∷ xs) r (List·Memᴰ·tail m) = omega (arith, rising-from (suc x) n i xs (r .2) m)
-
-pub rising-below : (a n i : ℕ) (xs : List ℕ) → Rising a n xs → List·Memᴰ i xs → i < n
-rising-below a n i (x ∷ xs) r (List·Memᴰ·head e) = omega arith
-rising-below a n i (x ∷ xs) r (List·Memᴰ·tail m) = rising-below (suc x) n i xs (r .2) m
 
 module _ (f : ℕ → ℕ) (n : ℕ) where
   not-above-from : (a : ℕ) (xs : List ℕ) → a ≤ n → Rising a n xs → sumBelow f a + sumOf f xs ≤ sumBelow f n

@@ -1,16 +1,14 @@
--- Lists that are made place by place, parts of lists that the library has no law for, and lists that rise. Assumes nothing.
+-- Lists that are made place by place, and parts of lists that the library has no law for. Assumes nothing.
 use Prim.Native.Nat.{ℕ, zero, suc, _+_, _-_, _≤_, _<_}
 use mathlib.Core.Path.{_≡_, refl, sym, _∙_, ap, ap₂}
 use mathlib.Core.List.{List, [], _∷_, _++_}
 use mathlib.Core.Logic.{⊎-elim}
-use native.Mathlib.Nat.{add-zero, add-suc, suc-add, suc-sub-suc, sub-zero, zero-sub, eq-or-lt-of-le, le-refl}
+use native.Mathlib.Nat.{add-zero, add-suc, suc-add, suc-sub-suc, sub-zero, zero-sub, eq-or-lt-of-le}
 use native.Mathlib.Numerals.{add-one}
 use native.Mathlib.Omega.{arith}
 use lib.ListN.{length, getD, take, drop, set, length-append, length-drop, length-set, List·getD-append}
 use lib.Seq.{take-all, take-take, drop-drop, take-suc-set, getD-at, getD-take, getD-drop, ext-getD, sets, length-take-le, take-nil}
 use Rattle.laws.specs.Lists.{tabulate}
-use Rattle.laws.specs.Sums.{sumOf, sumBelow, last, Linked}
-use Rattle.laws.proofs.Sums.{sumOf-append}
 
 -- ---- a list place by place
 
@@ -42,11 +40,6 @@ module _ {A : Type 0} where
   tabulate-places d xs =
       ext-getD d (tabulate (λ i. getD xs i d) (length xs)) xs (length-tabulate _ (length xs))
       (λ i h. getD-tabulate (λ i. getD xs i d) (length xs) i d (omega (arith, length-tabulate (λ i. getD xs i d) (length xs))))
-
-  pub sumOf-tabulate : (f : A → ℕ) (g : ℕ → A) (n : ℕ) → sumOf f (tabulate g n) ≡ sumBelow (λ i. f (g i)) n
-  unfolding tabulate
-  sumOf-tabulate f g zero = refl
-  sumOf-tabulate f g (suc n) = omega (arith, sumOf-append f (tabulate g n) (g n ∷ []), sumOf-tabulate f g n)
 
   -- ---- an array of n places that a loop fills with g: the first k are there
   pub record Filled (g : ℕ → A) (n : ℕ) (xs : List A) (k : ℕ) : Type 0 where
@@ -96,9 +89,3 @@ module _ {A : Type 0} where
   pub sets-append : (l : List A) (i : ℕ) (vs ws : List A) → sets l i (vs ++ ws) ≡ sets (sets l i vs) (i + length vs) ws
   sets-append l i [] ws = rw (add-zero i) refl
   sets-append l i (v ∷ vs) ws = sets-append (set l i v) (suc i) vs ws ∙ rw (add-suc i (length vs), suc-add i (length vs)) refl
-
--- ---- lists that rise
-
-pub last-rises : (a : ℕ) (xs : List ℕ) → Linked _<_ a xs → a ≤ last a xs
-last-rises a [] l = le-refl a
-last-rises a (x ∷ xs) l = omega (arith, l .0, last-rises x xs (l .1))

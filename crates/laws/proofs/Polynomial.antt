@@ -1,9 +1,7 @@
 -- Polynomial facts by computation: `poly2 (λ a b. sq (C 1) a b ∷ [] ⊢ C 4 :* (a :* b) :≤ (a :+ b) :^ 2) tt`. Assumes nothing.
-use Prim.Native.Nat.{ℕ, zero, suc, _+_, _*_, _^_, _≤_}
+use Prim.Native.Nat.{ℕ, zero, suc, _*_, _^_}
 use mathlib.Core.Path.{_≡_}
 use mathlib.Core.List.{List, [], _∷_, _++_}
-use native.Mathlib.Nat.{le-dest}
-use native.Mathlib.Omega.{arith}
 use Rattle.laws.specs.Polynomial.{X}
 use Rattle.laws.proofs.Claim.{Means, test}
 use Rattle.laws.proofs.Certificate.{claim-holds}
@@ -64,13 +62,6 @@ poly9 = poly 9
 
 pub poly10 : (q : Quoted 10) → Passed (test (claim 10 0 q)) (claim 10 0 q) → Always 10 [] (claim 10 0 q)
 poly10 = poly 10
-
--- (b - a)·(d - c) is not below 0
-pub cross : {a b c d : ℕ} → a ≤ b → c ≤ d → a * d + b * c ≤ b * d + a * c
-cross {a} {b} {c} {d} h k = let (x, e) = le-dest h in let (y, f) = le-dest k in rw (← e, ← f) (apart a x c y)
-  where
-    apart : (a x c y : ℕ) → a * (c + y) + (a + x) * c ≤ (a + x) * (c + y) + a * c
-    apart a x c y = omega arith
 
 -- to `omega` a power is an unknown, a product is not
 pub pow-two : (n : ℕ) → n ^ 2 ≡ n * n

@@ -7,7 +7,7 @@ use native.Mathlib.Omega.{arith}
 use Rattle.laws.specs.Span.{SpanFunction, e2, e3}
 use Rattle.laws.proofs.Polynomial.{C, _:+_, _:*_, _:^_, _:≤_, _⊲_, sq, _⊢_, poly3, poly4}
 
--- ---- powers of what is left of a length are convex
+-- ---- sums of two powers
 
 -- of two pairs of numbers the one that lies wider apart, and is not lower in sum, has the greater sum of squares and of cubes
 pub wider-squares : (w p q u : ℕ) → w ≤ p → w ≤ q → p + q ≤ u + w → p ^ 2 + q ^ 2 ≤ u ^ 2 + w ^ 2
@@ -25,12 +25,6 @@ wider-cubes w p q u h k l =
     let m : w + a + b ≤ u = omega arith in
     let (r, g) = le-dest m in
     rw (← e, ← f, ← g) (poly4 (λ w a b r. [] ⊢ (w :+ a) :^ 3 :+ (w :+ b) :^ 3 :≤ (w :+ a :+ b :+ r) :^ 3 :+ w :^ 3) tt w a b r)
-
-pub squares-convex : (y i j : ℕ) → (y - i) ^ 2 + (y - j) ^ 2 ≤ y ^ 2 + (y - (i + j)) ^ 2
-squares-convex y i j = wider-squares (y - (i + j)) (y - i) (y - j) y (omega arith) (omega arith) (omega arith)
-
-pub cubes-convex : (y i j : ℕ) → (y - i) ^ 3 + (y - j) ^ 3 ≤ y ^ 3 + (y - (i + j)) ^ 3
-cubes-convex y i j = wider-cubes (y - (i + j)) (y - i) (y - j) y (omega arith) (omega arith) (omega arith)
 
 -- ---- e2 and e3: the difference in each is exact
 
@@ -79,9 +73,6 @@ module _ {s : ℕ} {h : ℕ → ℕ} (f : SpanFunction s h) where
   pub rises : {x y : ℕ} → x ≤ y → h x ≤ h y
   rises {x} {y} p = let (d, e) = le-dest p in rw (← e) (omega (arith, superadditive x d))
 
-  pub at-most-line : (x : ℕ) → h x ≤ s * x
-  at-most-line x = omega (arith, f .nothing, rw (zero-add x) at (f .steep 0 x))
-
   -- steep, for any two places
   pub steep-between : {x y : ℕ} → x ≤ y → h y + s * x ≤ h x + s * y
   steep-between {x} {y} p = let (d, e) = le-dest p in rw (← e) (omega (arith, f .steep x d))
@@ -96,18 +87,8 @@ module _ {s : ℕ} {h : ℕ → ℕ} (f : SpanFunction s h) where
 
 -- ---- what is a span function again
 
-pub line-spans : (s : ℕ) → SpanFunction s (λ x. s * x)
-line-spans s = record { nothing = omega arith; steep = λ x i. omega arith; convex = λ x i j. omega arith }
-
 pub steeper : {s t : ℕ} {h : ℕ → ℕ} → s ≤ t → SpanFunction s h → SpanFunction t h
 steeper p f = record { nothing = f .nothing; steep = λ x i. omega (arith, f .steep x i, mul-le-mul-right i p); convex = f .convex }
-
-pub same-function : {s : ℕ} {h g : ℕ → ℕ} → ((x : ℕ) → h x ≡ g x) → SpanFunction s h → SpanFunction s g
-same-function e f = record {
-  nothing = omega (arith, f .nothing, e 0);
-  steep = λ x i. omega (arith, f .steep x i, e (x + i), e x);
-  convex = λ x i j. omega (arith, f .convex x i j, e (x + i), e (x + j), e x, e (x + i + j));
-}
 
 pub sum-spans : {s t : ℕ} {h g : ℕ → ℕ} → SpanFunction s h → SpanFunction t g → SpanFunction (s + t) (λ x. h x + g x)
 sum-spans f k = record {

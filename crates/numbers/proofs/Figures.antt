@@ -1,13 +1,13 @@
 -- What holds of figures with two ends, of billionths, portions and halves: what they enclose, how wide they are, how large, and in what order. Assumes nothing.
 use mathlib.Core.Path.{_≡_}
 use Prim.Native.Nat.{ℕ, _+_, _*_, _/_, _^_, _≤_, _<_}
-use native.Mathlib.Nat.{le-trans, div-mul-le-self, div-le-self, div-le-of-le-mul, le-of-mul-le-mul-right, mul-le-mul-left, mul-le-mul-right}
+use native.Mathlib.Nat.{le-trans, div-mul-le-self, le-of-mul-le-mul-right, mul-le-mul-left, mul-le-mul-right}
 use native.Mathlib.Omega.{arith}
 use Rattle.laws.specs.Rounding.{ceil}
 use Rattle.laws.proofs.Rounding.{ceil-lower, ceil-least, ceil-near-floor, floor-rises, floor-not-above-ceil, floor-product, ceil-product, part-apart, halves-apart}
 use Rattle.laws.proofs.Equal.{same-floor, same-ceil}
 use Rattle.records.specs.declared.Ends.{Ends}
-use Rattle.numbers.specs.Figures.{Proper, Encloses, bothWays, billionthsOf, portionOf, halvesOf}
+use Rattle.numbers.specs.Figures.{Encloses, bothWays, billionthsOf, portionOf, halvesOf}
 
 -- figures with the same ends are the same
 pub both : {a b l u : ℕ} → a ≡ l → b ≡ u → _≡_ {A = Ends} (record { lower = a; upper = b }) (record { lower = l; upper = u })
@@ -18,18 +18,7 @@ both p q = cc
 pub encloses-ordered : {g : Ends} {n d : ℕ} → 0 < d → Encloses g n d → g .lower ≤ g .upper
 encloses-ordered hd h = le-of-mul-le-mul-right (le-trans (h .low) (h .high)) hd
 
--- an equal fraction
-pub encloses-same : {g : Ends} {n d : ℕ} (m c : ℕ) → 0 < d → m * d ≡ n * c → Encloses g n d → Encloses g m c
-encloses-same {g} {n} {d} m c hd e h =
-    let low : g .lower * c * d ≤ m * d = omega (arith, mul-le-mul-right c (h .low)) in
-    let high : m * d ≤ g .upper * c * d = omega (arith, mul-le-mul-right c (h .high)) in
-    record { low = le-of-mul-le-mul-right low hd; high = le-of-mul-le-mul-right high hd }
-
 -- ---- billionths
-
--- every divisor of 01 will do: the widest is 59400 L³, of a span at one end of a ship of 198 m
-pub proper : {n d : ℕ} → 0 < d → n ≤ d → d ≤ 59400 * 19800 ^ 3 → Proper n d
-proper hd hn h = record { positive = hd; at-most-one = hn; narrow = omega arith }
 
 module _ (n : ℕ) {d : ℕ} (hd : 0 < d) where
   pub billionths-enclose : Encloses (billionthsOf n d) (10 ^ 9 * n) d
@@ -75,10 +64,6 @@ module _ (x : ℕ) (g : Ends) {l : ℕ} (hl : 0 < l) where
   unfolding portionOf
   portion-near w hx h = part-apart (g .upper) (g .lower) w x l hl hx h
 
-  pub portion-lower-at-most : x ≤ l → portionOf x g l .lower ≤ g .lower
-  unfolding portionOf
-  portion-lower-at-most hx = div-le-of-le-mul l (mul-le-mul-right (g .lower) hx)
-
   pub portion-upper-at-most : x ≤ l → portionOf x g l .upper ≤ g .upper
   unfolding portionOf
   portion-upper-at-most hx = ceil-least (x * g .upper) l (g .upper) hl .1 (omega (arith, mul-le-mul-right (g .upper) hx))
@@ -101,10 +86,6 @@ module _ (g : Ends) where
   pub halves-near : (w : ℕ) → g .upper ≤ g .lower + w → halvesOf g .upper ≤ halvesOf g .lower + (w / 2 + 1)
   unfolding halvesOf
   halves-near w h = halves-apart (g .upper) (g .lower) w h
-
-  pub halves-lower-at-most : halvesOf g .lower ≤ g .lower
-  unfolding halvesOf
-  halves-lower-at-most = div-le-self (g .lower) 2
 
   pub halves-upper-at-most : halvesOf g .upper ≤ g .upper
   unfolding halvesOf ceil

@@ -1,3 +1,4 @@
 pub mod Quotients
 pub mod Figures
+pub mod Ratios
 pub mod Values

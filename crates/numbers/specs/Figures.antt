@@ -1,14 +1,8 @@
 -- Figures with a lower and an upper end: 01, "Units" and "Rounding". Assumes nothing.
-use Prim.Native.Nat.{ℕ, _*_, _/_, _^_, _≤_, _<_}
+use Prim.Native.Nat.{ℕ, _*_, _/_, _^_, _≤_}
 use Rattle.laws.specs.Fraction.{Fraction, _over_, _≼_}
 use Rattle.laws.specs.Rounding.{ceil}
 use Rattle.records.specs.declared.Ends.{Ends}
-
--- n/d is at most one, and 64 bits hold what its long division makes
-pub record Proper (n d : ℕ) : Type 0 where
-  pub positive : 0 < d
-  pub at-most-one : n ≤ d
-  pub narrow : 40 * d < 2 ^ 64
 
 -- n/d rounded down and up
 unfoldable pub bothWays : ℕ → ℕ → Ends

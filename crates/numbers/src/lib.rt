@@ -8,7 +8,7 @@ ghost use Rattle.laws.specs.Rounding.{ceil};
 ghost use Rattle.numbers.specs.Figures.{bothWays, portionOf, halvesOf};
 
 // The largest number that 64 bits hold.
-const LARGEST: u64 = 18_446_744_073_709_551_615;
+pub const LARGEST: u64 = 18_446_744_073_709_551_615;
 
 // The largest divisor that 64 bits hold four times.
 const FOUR_TIMES: u64 = LARGEST / 4;

@@ -3,16 +3,16 @@ use mathlib.Core.Path.{_≡_, refl, _∙_}
 use Prim.Native.Nat.{ℕ, _-_, _*_, _^_, _≤_, _<_}
 use native.Mathlib.Nat.{mul-le-mul, mul-le-mul-left, mul-pos, mul-sub}
 use native.Mathlib.Omega.{arith}
-use Rattle.laws.specs.Fraction.{Is, _less_over_}
+use Rattle.laws.specs.Fraction.{Is}
 use Rattle.laws.proofs.Fraction.{is-less-over, is-shifted, is-written}
 use Rattle.records.specs.declared.Ends.{Ends}
-use Rattle.numbers.specs.Figures.{Proper, bothWays, halvesOf}
-use Rattle.numbers.proofs.Figures.{proper, billionths-both-ways}
-use Rattle.solas.specs.Penetration.{C, G1, G3}
-use Rattle.penetration.specs.Penetration.{c, d, G1Ends, G3Ends}
+use Rattle.numbers.specs.Figures.{bothWays, halvesOf}
+use Rattle.numbers.proofs.Figures.{billionths-both-ways}
+use Rattle.solas.specs.Penetration.{C, c, d, G1, G3}
+use Rattle.penetration.specs.Penetration.{G1Ends, G3Ends}
 use Rattle.penetration.specs.Layer.{layerOf}
 use Rattle.laws.proofs.Polynomial.{pow-two, cube}
-use Rattle.solas.proofs.Depth.{C-is, c-at-most, c-one}
+use Rattle.solas.proofs.Depth.{C-is, c-at-most}
 use Rattle.spans.proofs.Rounded.{ends-are}
 
 -- products of the breadth and a penetration, in order
@@ -57,11 +57,6 @@ module _ (B b : ℕ) (h : (1 ≤ B) × (B ≤ 6000) × (2 * b ≤ B)) where
   unfolding c d
   C-at-most-one = let q = products B b h in (rw (pow-two B) (omega arith), c-at-most B b (h .2))
 
-  -- at half of the breadth, C is one
-  pub C-whole : 2 * b ≡ B → c B b ≡ d B
-  unfolding c d
-  C-whole e = c-one B b e
-
   pub G1-is : Is (G1 B b) (5500 * b * B - 1089 * b * b) 0 (7500 * B * B)
   unfolding G1
   G1-is = let q = products B b h in rw (pow-two b, pow-two B) (is-written (is-shifted _ 0 (omega arith) (is-less-over (5500 * b * B) (1089 * (b * b)) (omega arith))) refl refl (omega arith))
@@ -70,25 +65,25 @@ module _ (B b : ℕ) (h : (1 ≤ B) × (B ≤ 6000) × (2 * b ≤ B)) where
   unfolding G3
   G3-is = let q = products B b h in rw (pow-two b, cube b, cube B) (is-written (is-shifted _ 0 (omega arith) (is-less-over (1375 * (b * b) * B) (363 * (b * b * b)) (omega arith))) refl refl (omega arith))
 
-  pub G1-proper : Proper (5500 * b * B - 1089 * b * b) (7500 * B * B)
-  G1-proper = let q = products B b h in proper (omega arith) (omega arith) (omega arith)
+  pub G1-proper : (0 < 7500 * B * B) × (5500 * b * B - 1089 * b * b ≤ 7500 * B * B)
+  G1-proper = let q = products B b h in (omega arith, omega arith)
 
-  pub G3-proper : Proper (1375 * b * b * B - 363 * b * b * b) (56250 * B * B * B)
-  G3-proper = let q = products B b h in proper (omega arith) (omega arith) (omega arith)
+  pub G3-proper : (0 < 56250 * B * B * B) × (1375 * b * b * B - 363 * b * b * b ≤ 56250 * B * B * B)
+  G3-proper = let q = products B b h in (omega arith, omega arith)
 
   pub G1-ends : G1Ends B b ≡ bothWays (4400000 * b * (500 * B - 99 * b)) (3 * B * B)
   unfolding G1Ends
   G1-ends =
       let q = products B b h in
       let e : 5500 * b * B - 1089 * b * b ≡ 11 * b * (500 * B - 99 * b) = omega (arith, mul-sub b (500 * B) (99 * b)) in
-      ends-are (G1-proper .positive) G1-is ∙ billionths-both-ways _ _ (G1-proper .positive) (omega arith) (G1-cancelled B b (500 * B - 99 * b) e)
+      ends-are (G1-proper .0) G1-is ∙ billionths-both-ways _ _ (G1-proper .0) (omega arith) (G1-cancelled B b (500 * B - 99 * b) e)
 
   pub G3-ends : G3Ends B b ≡ bothWays (1760000 * b * b * (125 * B - 33 * b)) (9 * B * B * B)
   unfolding G3Ends
   G3-ends =
       let q = products B b h in
       let e : 1375 * b * b * B - 363 * b * b * b ≡ 11 * b * b * (125 * B - 33 * b) = omega (arith, mul-sub (b * b) (125 * B) (33 * b)) in
-      ends-are (G3-proper .positive) G3-is ∙ billionths-both-ways _ _ (G3-proper .positive) (omega arith) (G3-cancelled B b (125 * B - 33 * b) e)
+      ends-are (G3-proper .0) G3-is ∙ billionths-both-ways _ _ (G3-proper .0) (omega arith) (G3-cancelled B b (125 * B - 33 * b) e)
 
   -- 64 bits hold the cancelled numerators
   pub G1-fits : 4400000 * b * (500 * B - 99 * b) ≤ 4400000 * 3000 * 3000000

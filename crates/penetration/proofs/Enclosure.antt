@@ -11,16 +11,16 @@ use Rattle.laws.proofs.Fraction.{≼-trans, is-over, is-⊛, is-shifted, below-
 use Rattle.records.specs.declared.Ends.{Ends}
 use Rattle.numbers.specs.Figures.{Between, halvesOf}
 use Rattle.solas.specs.Span.{Touch, neither, one, both, touch, half, p}
-use Rattle.solas.specs.Penetration.{G1, G3, GAt, G, Q}
+use Rattle.solas.specs.Penetration.{d, G1, G3, GAt, G, Q}
 use Rattle.solas.proofs.Within.{is-half}
 use Rattle.spans.specs.Rounded.{Probable, Near}
-use Rattle.spans.specs.Span.{pEnds, PEnds}
+use Rattle.spans.specs.Span.{pEnds}
 use Rattle.spans.proofs.Rounded.{Enclosed, between, ends-enclose, ends-near, ends-probable}
 use Rattle.spans.proofs.Enclosure.{p-enclosed, p-near, p-probable, P-enclosed, P-near, P-probable}
 use Rattle.penetration.specs.Figures.{plus, minus}
-use Rattle.penetration.specs.Penetration.{d, G1Ends, G3Ends, partEnds, GEndsAt, GEnds, QEnds}
-use Rattle.penetration.proofs.Depth.{products, C-over, C-at-most-one, C-whole, G1-is, G1-proper, G3-is, G3-proper}
-use Rattle.penetration.proofs.Figures.{enclosed-plus, enclosed-minus, enclosed-portion, enclosed-half, enclosed-mixed, near-plus, near-minus, near-portion, near-half, near-mixed, probable-minus, probable-portion, probable-half, probable-halves, probable-mixed, mixed-whole}
+use Rattle.penetration.specs.Penetration.{G1Ends, G3Ends, partEnds, GEndsAt, GEnds, QEnds}
+use Rattle.penetration.proofs.Depth.{products, C-over, C-at-most-one, G1-is, G1-proper, G3-is, G3-proper}
+use Rattle.penetration.proofs.Figures.{enclosed-plus, enclosed-minus, enclosed-portion, enclosed-half, enclosed-mixed, near-plus, near-minus, near-portion, near-half, near-mixed, probable-minus, probable-portion, probable-half, probable-halves, probable-mixed}
 
 -- a figure that is wider is within
 wider : {w v : ℕ} {g : Ends} → w ≤ v → Near w g → Near v g
@@ -34,27 +34,27 @@ module _ (B b : ℕ) (h : (1 ≤ B) × (B ≤ 6000) × (2 * b ≤ B)) where
 
   pub G1-enclosed : Enclosed (G1Ends B b) (G1 B b)
   unfolding G1Ends
-  G1-enclosed = ends-enclose (G1-proper B b h .positive) (G1-is B b h)
+  G1-enclosed = ends-enclose (G1-proper B b h .0) (G1-is B b h)
 
   pub G1-near : Near 1 (G1Ends B b)
   unfolding G1Ends
-  G1-near = ends-near (G1-proper B b h .positive) (G1-is B b h)
+  G1-near = ends-near (G1-proper B b h .0) (G1-is B b h)
 
   pub G1-probable : Probable (G1Ends B b)
   unfolding G1Ends
-  G1-probable = let q = G1-proper B b h in ends-probable (q .positive) (q .at-most-one) (G1-is B b h)
+  G1-probable = let q = G1-proper B b h in ends-probable (q .0) (q .1) (G1-is B b h)
 
   pub G3-enclosed : Enclosed (G3Ends B b) (G3 B b)
   unfolding G3Ends
-  G3-enclosed = ends-enclose (G3-proper B b h .positive) (G3-is B b h)
+  G3-enclosed = ends-enclose (G3-proper B b h .0) (G3-is B b h)
 
   pub G3-near : Near 1 (G3Ends B b)
   unfolding G3Ends
-  G3-near = ends-near (G3-proper B b h .positive) (G3-is B b h)
+  G3-near = ends-near (G3-proper B b h .0) (G3-is B b h)
 
   pub G3-probable : Probable (G3Ends B b)
   unfolding G3Ends
-  G3-probable = let q = G3-proper B b h in ends-probable (q .positive) (q .at-most-one) (G3-is B b h)
+  G3-probable = let q = G3-proper B b h in ends-probable (q .0) (q .1) (G3-is B b h)
 
   module _ (L x : ℕ) (some : 1 ≤ L) (short : L ≤ 19800) (within : x ≤ L) where
     -- ---- x·G1/L
@@ -88,11 +88,11 @@ module _ (B b : ℕ) (h : (1 ≤ B) × (B ≤ 6000) × (2 * b ≤ B)) where
 
     G3-below : b * L ≤ 15 * B * x → G3 B b ≼ (x over L) ⊛ G1 B b
     G3-below l =
-        below-across (G3-is B b h) part-is (G3-proper B b h .positive) (mul-pos some (G1-proper B b h .positive))
+        below-across (G3-is B b h) part-is (G3-proper B b h .0) (mul-pos some (G1-proper B b h .0))
         (omega (arith, cross (5500 * b * B - 1089 * b * b) (1375 * b * b * B - 363 * b * b * b) thirds l))
 
     half-below : b * L ≤ 15 * B * x → half (G3 B b) ≼ (x over L) ⊛ G1 B b
-    half-below l = ≼-trans (half-not-above (G3-proper B b h .positive) (G3-is B b h)) (G3-below l)
+    half-below l = ≼-trans (half-not-above (G3-proper B b h .0) (G3-is B b h)) (G3-below l)
 
     -- ---- G, by the ends that the span touches
 
@@ -143,9 +143,6 @@ module _ (L aft fwd : ℕ) (some : 1 ≤ L) (short : L ≤ 19800) (within : fwd 
   unfolding GEnds G
   G-enclosed = GAt-enclosed B b h L (fwd - aft) some short (omega arith) (touch L aft fwd)
 
-  pub G-between : Between (GEnds L B aft fwd b) (G L B aft fwd b)
-  G-between = between G-enclosed
-
   pub G-near : Near 3 (GEnds L B aft fwd b)
   unfolding GEnds
   G-near = GAt-near B b h L (fwd - aft) some short (omega arith) (touch L aft fwd)
@@ -170,8 +167,3 @@ module _ (L aft fwd : ℕ) (some : 1 ≤ L) (short : L ≤ 19800) (within : fwd 
   pub Q-probable : Probable (QEnds L B aft fwd b)
   unfolding QEnds
   Q-probable = let q = C-at-most-one B b h in probable-mixed (q .0) (q .1) (P-probable L aft fwd some short within) G-probable
-
-  -- at half of the breadth Q's ends are P's, one apart
-  pub Q-whole : 2 * b ≡ B → QEnds L B aft fwd b ≡ PEnds L aft fwd
-  unfolding QEnds
-  Q-whole e = rw (C-whole B b h e) (mixed-whole (d B) (PEnds L aft fwd) (GEnds L B aft fwd b) (C-at-most-one B b h .0))

@@ -1,15 +1,15 @@
 -- Figures made of others: what sums, differences, parts, halves and mixtures enclose, how far their ends lie apart, and that none is above one. Assumes nothing.
 use mathlib.Core.Path.{_≡_, _∙_}
 use Prim.Native.Nat.{ℕ, _+_, _-_, _*_, _/_, _^_, _≤_, _<_}
-use native.Mathlib.Nat.{le-trans, mul-comm, mul-sub, mul-pos, mul-le-mul-left, mul-le-mul-right, div-mul-le-self, sub-self, mul-div-cancel}
+use native.Mathlib.Nat.{le-trans, mul-comm, mul-sub, mul-pos, mul-le-mul-left, mul-le-mul-right, div-mul-le-self}
 use native.Mathlib.Omega.{arith}
 use Rattle.laws.specs.Fraction.{Fraction, Is, _over_, whole, _≼_, _⊹_, _⊝_, _⊛_}
 use Rattle.laws.specs.Rounding.{ceil}
 use Rattle.laws.proofs.Fraction.{is-over, is-widened, is-⊹, is-⊝, is-⊛, is-shifted, numerators-below}
-use Rattle.laws.proofs.Rounding.{ceil-least, ceil-lower, ceil-exact, floor-rises, floor-not-above-ceil, ends-apart}
+use Rattle.laws.proofs.Rounding.{ceil-least, ceil-lower, floor-rises, floor-not-above-ceil, ends-apart}
 use Rattle.records.specs.declared.Ends.{Ends}
 use Rattle.numbers.specs.Figures.{halvesOf, portionOf}
-use Rattle.numbers.proofs.Figures.{both, portion-encloses, portion-near, portion-ordered, portion-upper-at-most, halves-enclose, halves-near, halves-ordered, halves-upper-at-most}
+use Rattle.numbers.proofs.Figures.{portion-encloses, portion-near, portion-ordered, portion-upper-at-most, halves-enclose, halves-near, halves-ordered, halves-upper-at-most}
 use Rattle.solas.specs.Span.{half}
 use Rattle.solas.proofs.Within.{is-half}
 use Rattle.laws.proofs.FractionRing.{is-mixed}
@@ -160,11 +160,3 @@ module _ {c d : ℕ} (p : 0 < d) (l : c ≤ d) where
         ordered = le-trans (floor-rises d (omega arith)) (floor-not-above-ceil (f .upper * c + g .upper * (d - c)) d);
         at-most-one = ceil-least (f .upper * c + g .upper * (d - c)) d (10 ^ 9) p .1 (omega arith);
       }
-
--- where C is one, P alone is left
-pub mixed-whole : (d : ℕ) (f g : Ends) → 0 < d → mixed d d f g ≡ f
-unfolding mixed
-mixed-whole d f g p =
-    let low : f .lower * d + g .lower * (d - d) ≡ f .lower * d = rw (sub-self d) (omega arith) in
-    let high : f .upper * d + g .upper * (d - d) ≡ f .upper * d = rw (sub-self d) (omega arith) in
-    both (rw low (mul-div-cancel (f .lower) p)) (ceil-exact (f .upper) d p high)

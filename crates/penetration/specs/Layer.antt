@@ -5,7 +5,8 @@ use Rattle.records.specs.declared.Ends.{Ends}
 use Rattle.numbers.specs.Figures.{halvesOf}
 use Rattle.penetration.specs.declared.Layer.{Layer}
 use Rattle.spans.specs.Span.{pEnds}
-use Rattle.penetration.specs.Penetration.{c, d, G1Ends, G3Ends}
+use Rattle.solas.specs.Penetration.{c, d}
+use Rattle.penetration.specs.Penetration.{G1Ends, G3Ends}
 
 unfoldable pub layerOf : ℕ → ℕ → Layer
 layerOf B b = record { depth = b; c = c B b; d = d B; g1 = G1Ends B b; g3 = G3Ends B b; half = halvesOf (G3Ends B b) }

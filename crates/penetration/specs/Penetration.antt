@@ -1,12 +1,12 @@
 -- 01, "Penetration", with its rounding: damage within a span and within a depth b of a ship of breadth B, in billionths. Assumes nothing.
-use Prim.Native.Nat.{ℕ, _+_, _-_, _*_, _/_, _^_}
+use Prim.Native.Nat.{ℕ, _+_, _-_, _*_, _/_}
 use mathlib.Core.Bool.{cond}
 use lib.Dec.{leb}
 use Rattle.laws.specs.Rounding.{ceil}
 use Rattle.records.specs.declared.Ends.{Ends}
 use Rattle.numbers.specs.Figures.{portionOf, halvesOf}
 use Rattle.solas.specs.Span.{Touch, neither, one, both, touch}
-use Rattle.solas.specs.Penetration.{G1, G3}
+use Rattle.solas.specs.Penetration.{c, d, G1, G3}
 use Rattle.spans.specs.Rounded.{endsOf}
 use Rattle.penetration.specs.Figures.{plus, minus}
 use Rattle.spans.specs.Span.{pEnds, PEnds}
@@ -31,13 +31,6 @@ GEndsAt neither L B x b = cond (leb (15 * B * x) (b * L)) (pEnds L x) (minus (pa
 
 unfoldable pub GEnds : ℕ → ℕ → ℕ → ℕ → ℕ → Ends
 GEnds L B aft fwd b = GEndsAt (touch L aft fwd) L B (fwd - aft) b
-
--- C is c/d
-unfoldable pub c : ℕ → ℕ → ℕ
-c B b = 16 * b * B - 12 * b ^ 2
-
-unfoldable pub d : ℕ → ℕ
-d B = 5 * B ^ 2
 
 -- "Q's ends come from those of P and G with C exact, rounded once"
 unfoldable pub mixed : ℕ → ℕ → Ends → Ends → Ends

@@ -1,4 +1,4 @@
-// Single figures of the inner crates, for a host in C that compares them with the independent program.
+// Single figures of the other crates, for a host in C that tests and times them: a survival, a height, how an input is judged, rows' shares.
 use casefile::Judgement;
 use records::Finding;
 ghost use mathlib.Core.Path.{_≡_};

@@ -14,8 +14,8 @@ use Rattle.records.specs.declared.Answer.{Answer}
 use Rattle.records.specs.declared.Ends.{Ends}
 use Rattle.records.specs.declared.Trio.{Trio}
 use Rattle.solas.specs.Index.{R, partialMark}
-use Rattle.survival.specs.declared.Ratio.{Ratio}
-use Rattle.survival.specs.Ratio.{ratioOf}
+use Rattle.records.specs.declared.Ratio.{Ratio}
+use Rattle.numbers.specs.Ratio.{ratioOf}
 use Rattle.indices.specs.Index.{attainedOf}
 use Rattle.verdicts.specs.Verdict.{allReach, verdictOf}
 use Rattle.indices.specs.Exact as exact
@@ -30,8 +30,8 @@ use Rattle.casefile.specs.Valid.{Valid}
 use Rattle.casefile.specs.Reading.{Reading, refused, accepted, reading}
 use Rattle.casefile.proofs.Soundness.{sound}
 use Rattle.casefile.proofs.Refusal.{nonzero, is-refusal}
-use Rattle.index.specs.Answer.{partialsOf, figures, answer, refusal, answered}
-use Rattle.promises.specs.Rows.{exactRows, rowsOf, chances}
+use Rattle.index.specs.Answer.{figures, answer, refusal, answered}
+use Rattle.promises.specs.Rows.{exactRows, rowsOf}
 use Rattle.promises.specs.Promises.{Enclosure, Near, Width, Chances, Verdict, Kept, Promise, PromiseOfTheEntry}
 use Rattle.promises.proofs.CaseRows.{sums-are, as-many, all-sound, all-close}
 use Rattle.promises.proofs.Chances.{chances-at-most-one, chances-one}

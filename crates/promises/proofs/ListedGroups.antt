@@ -6,12 +6,10 @@ use mathlib.Core.Bool.{Bool, true, false}
 use mathlib.Core.List.{List, [], _∷_, map, List·Memᴰ, List·Memᴰ·head, List·Memᴰ·tail}
 use mathlib.Core.Logic.{_↔_}
 use native.Mathlib.Omega.{arith}
-use lib.Dec.{eqb}
-use borrow.Author.Tests.{eqb-true}
-use Rattle.laws.specs.Lists.{Every}
-use Rattle.laws.specs.Sums.{sumOf, Rising}
+use Rattle.laws.specs.Lists.{Every, Rising}
+use Rattle.laws.specs.Sums.{sumOf}
 use Rattle.laws.proofs.Listed.{listed-not-above, listed-equal}
-use Rattle.laws.proofs.Tests.{both, holds}
+use Rattle.laws.proofs.Tests.{holds}
 use Rattle.records.specs.declared.Hull.{Hull}
 use Rattle.records.specs.declared.RowHead.{RowHead}
 use Rattle.solas.specs.Ship.{Ship}
@@ -22,9 +20,10 @@ use Rattle.casefile.specs.Limits.{rowFits}
 use Rattle.casefile.specs.Order.{sameGroup}
 use Rattle.casefile.specs.Valid.{SameGroup, Follows, higher, deeper, later, ValidRow, Ordered}
 use Rattle.casefile.proofs.Limits.{row-is}
+use Rattle.casefile.proofs.Order.{same-group, is-same, not-same}
 use Rattle.casefile.proofs.Groups.{After, after-linked}
 use Rattle.promises.proofs.Numbered.{place, place-below, place-rises, place-tells, byPlace, all-places, at-place, has-place}
-use Rattle.promises.proofs.Weighed.{laterGroups, groupsIn, same-told, later-told}
+use Rattle.promises.proofs.Weighed.{laterGroups, groupsIn}
 
 module _ (h : Hull) where
   abbrev s : Ship
@@ -46,20 +45,14 @@ module _ (h : Hull) where
   one-number : (b r : RowHead) → SameGroup b r → numberOf r ≡ numberOf b
   one-number b r (a, n) = rw (a, n) refl
 
-  told-same : (b r : RowHead) → sameGroup b r ≡ true → SameGroup b r
-  unfolding sameGroup
-  told-same b r t =
-      let (a, n) = both (eqb (r .first) (b .first)) (eqb (r .count) (b .count)) t in
-      (eqb-true (r .first) (b .first) a, eqb-true (r .count) (b .count) n)
-
   -- ---- their numbers rise
   abbrev RiseFrom : RowHead → List Row → Type 0
   RiseFrom b rs = Rising (suc (numberOf b)) (s .m * s .m) (map numberOf (laterGroups b rs))
 
   one-row : (b : RowHead) (r : Row) (rs : List Row) → OfGroup b → OfGroup (r .head) → Follows h b (r .head) → RiseFrom (r .head) rs → RiseFrom b (r ∷ rs)
-  one-row b r rs g e (higher k d l t) rest = rw (same-told b (r .head) k, ← one-number b (r .head) k) rest
-  one-row b r rs g e (deeper k d t) rest = rw (same-told b (r .head) k, ← one-number b (r .head) k) rest
-  one-row b r rs g e (later l c) rest = rw (later-told b (r .head) l) (place-rises s g e l, place-below s e, rest)
+  one-row b r rs g e (higher k d l t) rest = rw (is-same b (r .head) k, ← one-number b (r .head) k) rest
+  one-row b r rs g e (deeper k d t) rest = rw (is-same b (r .head) k, ← one-number b (r .head) k) rest
+  one-row b r rs g e (later l c) rest = rw (not-same b (r .head) l) (place-rises s g e l, place-below s e, rest)
 
   numbers-rise : (b : RowHead) (rs : List Row) → OfGroup b → Every (λ (r : Row). OfGroup (r .head)) rs → After h b rs → RiseFrom b rs
   numbers-rise b [] g e a = tt
@@ -74,7 +67,7 @@ module _ (h : Hull) where
   Among k ks = List·Memᴰ k (map numberOf ks)
 
   with-row : (b : RowHead) (x : Row) (rs : List Row) (k : ℕ) (t : Bool) → sameGroup b (x .head) ≡ t → Among k (x .head ∷ laterGroups (x .head) rs) → Among k (b ∷ laterGroups b (x ∷ rs))
-  with-row b x rs k true t (List·Memᴰ·head e) = List·Memᴰ·head (e ∙ one-number b (x .head) (told-same b (x .head) t))
+  with-row b x rs k true t (List·Memᴰ·head e) = List·Memᴰ·head (e ∙ one-number b (x .head) (same-group b (x .head) t))
   with-row b x rs k true t (List·Memᴰ·tail n) = rw t (List·Memᴰ·tail n)
   with-row b x rs k false t n = rw t (List·Memᴰ·tail n)
 

@@ -16,6 +16,7 @@ use Rattle.indices.specs.Exact.{Each}
 use Rattle.casefile.specs.Record.{Row}
 use Rattle.casefile.specs.Order.{sameGroup}
 use Rattle.casefile.specs.Valid.{Follows, higher, deeper, later, Ordered}
+use Rattle.casefile.proofs.Order.{is-same, not-same}
 use Rattle.casefile.proofs.Groups.{After, after-linked}
 use Rattle.casefile.proofs.Soundness.{sound}
 use Rattle.rows.specs.declared.Standing.{Standing}
@@ -25,7 +26,6 @@ use Rattle.rows.proofs.Stands.{inGroup, in-layer, in-next-layer, in-new-group, 
 use Rattle.index.proofs.ValidCase.{hulled, rows-follow}
 use Rattle.promises.specs.Rows.{exactRows}
 use Rattle.promises.specs.OfSolas.{SharesOfSolas}
-use Rattle.promises.proofs.Weighed.{same-told, later-told}
 
 abbrev Deeper : Standing → Type 0
 Deeper y = y .before < y .head .depth
@@ -33,9 +33,9 @@ Deeper y = y .before < y .head .depth
 module _ (h : Hull) (k : Hulled h) (√ : Fraction) (root : IsRoot √ (under√ (h .length))) where
   next-deeper : (y : Standing) (r : Row) → Follows h (y .head) (r .head) → Deeper y → 1 ≤ r .head .depth → Deeper (stands y (r .head))
   unfolding sameGroup
-  next-deeper y r (higher g same up below) d s = subst Deeper (in-layer y (r .head) (same-told (y .head) (r .head) g) same) (omega (arith, d, same))
-  next-deeper y r (deeper g down top) d s = subst Deeper (in-next-layer y (r .head) (same-told (y .head) (r .head) g) (λ e. omega (arith, down, e))) down
-  next-deeper y r (later l c) d s = subst Deeper (in-new-group y (r .head) (later-told (y .head) (r .head) l)) s
+  next-deeper y r (higher g same up below) d s = subst Deeper (in-layer y (r .head) (is-same (y .head) (r .head) g) same) (omega (arith, d, same))
+  next-deeper y r (deeper g down top) d s = subst Deeper (in-next-layer y (r .head) (is-same (y .head) (r .head) g) (λ e. omega (arith, down, e))) down
+  next-deeper y r (later l c) d s = subst Deeper (in-new-group y (r .head) (not-same (y .head) (r .head) l)) s
 
   abbrev Alike : Standing → exact.Row → Type 0
   Alike y r = pi (shipOf h) √ (y .before) (y .head .depth) (y .head .first) (y .head .count) ≈ r .share

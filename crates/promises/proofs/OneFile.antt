@@ -7,7 +7,7 @@ use Rattle.laws.specs.Bytes.{bytes}
 use Rattle.numbers.specs.Figures.{billionthsOf, portionOf, halvesOf}
 use Rattle.roots.specs.Root.{withDigits, rootDown, rootUp}
 use Rattle.solas.specs.Span.{touch, p, P}
-use Rattle.solas.specs.Penetration.{G1, G3}
+use Rattle.solas.specs.Penetration.{c, d, G1, G3}
 use Rattle.solas.specs.Count.{added, taken}
 use Rattle.solas.specs.Height.{v, vAt, rowV}
 use Rattle.solas.specs.Survival.{k, s⁴}
@@ -15,9 +15,9 @@ use Rattle.solas.specs.Index.{dp, R, partialMark}
 use Rattle.spans.specs.Rounded as rounded
 use Rattle.spans.specs.Span.{pEnds, PEnds}
 use Rattle.penetration.specs.Figures.{plus, minus}
-use Rattle.penetration.specs.Penetration.{G1Ends, G3Ends, partEnds, GEnds, c, d, mixed, QEnds}
+use Rattle.penetration.specs.Penetration.{G1Ends, G3Ends, partEnds, GEnds, mixed, QEnds}
 use Rattle.chances.specs.Share.{withinEnds, sumsOf, lowest, highest, rowOf, rowEnds}
-use Rattle.survival.specs.Ratio.{ratioOf}
+use Rattle.numbers.specs.Ratio.{ratioOf}
 use Rattle.heights.specs.Height.{rowVs}
 use Rattle.survival.specs.Survival.{factorOf, scaledOf, roundedOf, factorsOf, survivalsOf}
 use Rattle.indices.specs.Index.{addsOf, rowAdds, partials, attainedOf}

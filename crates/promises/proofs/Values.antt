@@ -1,5 +1,5 @@
--- Document 01's table of proved values, by computation from the definitions. Assumes nothing.
-use Prim.Native.Nat.{ℕ, _-_}
+-- Document 01's table of proved values: those of single figures as solas has them, the others by computation from the definitions. Assumes nothing.
+use Prim.Native.Nat.{ℕ}
 use mathlib.Core.Path.{refl}
 use native.Mathlib.Omega.{arith}
 use lib.Dec.{lit<}
@@ -10,11 +10,10 @@ use Rattle.roots.specs.Root.{withDigits, rootDown, rootUp}
 use Rattle.solas.specs.Span.{touch, p, P}
 use Rattle.solas.specs.Penetration.{C, G1, G3, G, Q}
 use Rattle.solas.specs.Share.{within, share, rowShare}
-use Rattle.solas.specs.Height.{v}
 use Rattle.solas.specs.Survival.{k, s⁴}
-use Rattle.solas.specs.Index.{R}
+use Rattle.solas.proofs.Values as values
 use Rattle.solas.proofs.Survival.{is-s⁴, s⁴-not-negative, s⁴-at-most-one}
-use Rattle.survival.specs.Ratio.{ratioOf}
+use Rattle.numbers.specs.Ratio.{ratioOf}
 use Rattle.survival.specs.Survival.{factorOf, scaledOf, roundedOf, survivalOf}
 use Rattle.survival.proofs.Bounds.{ends-same}
 use Rattle.promises.specs.Values.{gives, ProvedValues}
@@ -28,20 +27,20 @@ unfolding survivalOf factorOf scaledOf roundedOf ratioOf rootDown rootUp withDig
 heeled g t = ends-same (none g t) (s⁴-not-negative g t 3000, s⁴-at-most-one g t 3000)
 
 pub proved-values : ProvedValues
-unfolding p P Q G touch C G1 G3 within share rowShare v R survivalOf factorOf s⁴ k ratioOf scaledOf roundedOf rootDown rootUp withDigits ceil _⊹_ _⊝_ _⊛_ _less_over_
+unfolding p P Q G touch C G1 G3 within share rowShare survivalOf factorOf s⁴ k ratioOf scaledOf roundedOf rootDown rootUp withDigits ceil _⊹_ _⊝_ _⊛_ _less_over_
 proved-values = record {
   p-1500 = record { cross = refl };
   p-3000 = record { cross = refl };
   first-share = record { cross = refl };
   second-share = record { cross = refl };
   third-share = record { cross = refl };
-  C-160 = record { cross = refl };
-  G1-160 = record { cross = refl };
-  C-800 = record { cross = refl };
-  v-7800 = refl;
-  v-7801 = refl;
-  R-8000 = record { cross = refl };
-  R-10000 = record { cross = refl };
+  C-160 = values.C-160;
+  G1-160 = values.G1-160;
+  C-800 = values.C-800;
+  v-7800 = values.v-7800;
+  v-7801 = values.v-7801;
+  R-8000 = values.R-8000;
+  R-10000 = values.R-10000;
   s-30-400-0 = refl;
   s-60-800-0 = refl;
   s-120-1600-2995 = refl;

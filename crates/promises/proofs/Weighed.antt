@@ -1,11 +1,10 @@
 -- What the rows of a case weigh at a draught, in whole numbers: each listed group weighs what it gives down to B/2, times the whole of v. Assumes nothing.
 use Prim.Native.Nat.{ℕ, _+_, _*_, _/_, _≤_, zero-le}
 use mathlib.Core.Path.{_≡_, refl, _∙_, ap}
-use mathlib.Core.Bool.{true, false, cond}
+use mathlib.Core.Bool.{false, cond}
 use mathlib.Core.List.{List, [], _∷_}
-use mathlib.Core.Logic.{inl, inr}
 use native.Mathlib.Omega.{arith}
-use borrow.Author.Tests.{eq-eqb, ne-eqb}
+use borrow.Author.Tests.{ne-eqb}
 use Rattle.laws.specs.Sums.{sumOf}
 use Rattle.records.specs.declared.Hull.{Hull}
 use Rattle.records.specs.declared.RowHead.{RowHead}
@@ -17,6 +16,7 @@ use Rattle.spans.specs.Hull.{shipOf}
 use Rattle.casefile.specs.Record.{Row}
 use Rattle.casefile.specs.Order.{sameGroup}
 use Rattle.casefile.specs.Valid.{SameGroup, LaterGroup, ClosesGroup, Follows, higher, deeper, later, Ordered}
+use Rattle.casefile.proofs.Order.{is-same, not-same}
 use Rattle.casefile.proofs.Groups.{After, after-linked}
 use Rattle.rows.specs.declared.Standing.{Standing}
 use Rattle.rows.specs.Standing.{nowhere, stands}
@@ -34,19 +34,7 @@ abbrev pub groupsIn : List Row → List RowHead
 groupsIn [] = []
 groupsIn (r ∷ rs) = r .head ∷ laterGroups (r .head) rs
 
-pub same-told : (b r : RowHead) → SameGroup b r → sameGroup b r ≡ true
-unfolding sameGroup
-same-told b r (a, n) = rw (eq-eqb (r .first) (b .first) a, eq-eqb (r .count) (b .count) n) refl
-
-pub later-told : (b r : RowHead) → LaterGroup b r → sameGroup b r ≡ false
-unfolding sameGroup
-later-told b r (inl l) = let n = ne-eqb (r .first) (b .first) (λ e. omega (arith, l, e)) in rw n refl
-later-told b r (inr (a, l)) = rw (eq-eqb (r .first) (b .first) a, ne-eqb (r .count) (b .count) (λ e. omega (arith, l, e))) refl
-
--- ---- over plain numbers: c has been given above the layer, x is the layer's own, v and v′ what is below the row and below the next
-in-one-layer : (c x v w v′ rest all : ℕ) → v + w ≡ v′ → c * 916500 + x * v′ + rest ≡ all → c * 916500 + x * v + (x * w + rest) ≡ all
-in-one-layer c x v w v′ rest all e h = omega (arith, ap (λ t. x * t) e, h)
-
+-- ---- the rows at a draught, each at its standing
 module _ (h : Hull) (sound : Sound (shipOf h)) (d : ℕ) (afloat : d ≤ h .deepest) where
   abbrev s : Ship
   s = shipOf h
@@ -95,7 +83,7 @@ module _ (h : Hull) (sound : Sound (shipOf h)) (d : ℕ) (afloat : d ≤ h .deep
         y .head .height ≤ r .head .height → soFar z + rowsWeigh z rs ≡ fromGroup z rs → soFar y + (weighs z + rowsWeigh z rs) ≡ fromGroup y (r ∷ rs)
     unfolding soFar
     after-higher z e (a, n) same up ih =
-        let told = same-told (y .head) (r .head) (a, n) in
+        let told = is-same (y .head) (r .head) (a, n) in
         let v = row-adds {H′ = y .head .height} {H = r .head .height} d up in
         rw (told, ← e, a, n, same) (omega (arith, ap (λ t. layerGives y * t) v, rw (← e, a, n, same) at ih))
 
@@ -103,14 +91,14 @@ module _ (h : Hull) (sound : Sound (shipOf h)) (d : ℕ) (afloat : d ≤ h .deep
         h .deepest + 12500 ≤ y .head .height → soFar z + rowsWeigh z rs ≡ fromGroup z rs → soFar y + (weighs z + rowsWeigh z rs) ≡ fromGroup y (r ∷ rs)
     unfolding soFar
     after-deeper z e (a, n) top ih =
-        let told = same-told (y .head) (r .head) (a, n) in
+        let told = is-same (y .head) (r .head) (a, n) in
         rw (told, layer-full y st top, ← e, a, n, fresh (r .head .height)) (omega (arith, rw (← e, a, n) at ih))
 
     after-later : (z : Standing) → record { head = r .head; before = 0; below = 0 } ≡ z → Group s (r .head .first) (r .head .count) → LaterGroup (y .head) (r .head) → ClosesGroup h (y .head) →
         soFar z + rowsWeigh z rs ≡ fromGroup z rs → soFar y + (weighs z + rowsWeigh z rs) ≡ fromGroup y (r ∷ rs)
     unfolding soFar
     after-later z e g l (deep, top) ih =
-        let told = later-told (y .head) (r .head) l in
+        let told = not-same (y .head) (r .head) l in
         rw (told, group-full y st top deep, ← e, fresh (r .head .height))
         (omega (arith, rw (← e, no-layer s sound (r .head .first) (r .head .count) g) at ih))
 
@@ -118,11 +106,11 @@ module _ (h : Hull) (sound : Sound (shipOf h)) (d : ℕ) (afloat : d ≤ h .deep
         soFar y + rowsWeigh y (r ∷ rs) ≡ fromGroup y (r ∷ rs)
     unfolding rowsWeigh sameGroup
     one-more (higher g same up below) sz ih =
-        after-higher (stands y (r .head)) (in-layer y (r .head) (same-told (y .head) (r .head) g) same) g same (omega (arith, up)) ih
+        after-higher (stands y (r .head)) (in-layer y (r .head) (is-same (y .head) (r .head) g) same) g same (omega (arith, up)) ih
     one-more (deeper g down top) sz ih =
-        after-deeper (stands y (r .head)) (in-next-layer y (r .head) (same-told (y .head) (r .head) g) (λ e. omega (arith, down, e))) g top ih
+        after-deeper (stands y (r .head)) (in-next-layer y (r .head) (is-same (y .head) (r .head) g) (λ e. omega (arith, down, e))) g top ih
     one-more (later l closes) sz ih =
-        after-later (stands y (r .head)) (in-new-group y (r .head) (later-told (y .head) (r .head) l)) (rw (head-is y (r .head)) at (sz .group)) l closes ih
+        after-later (stands y (r .head)) (in-new-group y (r .head) (not-same (y .head) (r .head) l)) (rw (head-is y (r .head)) at (sz .group)) l closes ih
 
   -- ---- all rows
   all-weigh : (y : Standing) (rs : List Row) → Stood h y → After h (y .head) rs → Follow h y rs → soFar y + rowsWeigh y rs ≡ fromGroup y rs

@@ -11,7 +11,7 @@ use Rattle.records.specs.declared.Ends.{Ends}
 use Rattle.records.specs.declared.Finding.{Finding}
 use Rattle.records.specs.declared.Hull.{Hull}
 use Rattle.solas.specs.Span.{touch, p, P}
-use Rattle.solas.specs.Penetration.{G1, G3}
+use Rattle.solas.specs.Penetration.{c, d, G1, G3}
 use Rattle.solas.specs.Count.{added, taken}
 use Rattle.solas.specs.Height.{v, vAt, rowV}
 use Rattle.solas.specs.Survival.{k, s⁴}
@@ -19,9 +19,9 @@ use Rattle.solas.specs.Index.{dp, R, partialMark}
 use Rattle.spans.specs.Rounded as rounded
 use Rattle.spans.specs.Span.{pEnds, PEnds}
 use Rattle.penetration.specs.Figures.{plus, minus}
-use Rattle.penetration.specs.Penetration.{G1Ends, G3Ends, partEnds, GEnds, c, d, mixed, QEnds}
+use Rattle.penetration.specs.Penetration.{G1Ends, G3Ends, partEnds, GEnds, mixed, QEnds}
 use Rattle.chances.specs.Share.{withinEnds, sumsOf, lowest, highest, rowOf, rowEnds}
-use Rattle.survival.specs.Ratio.{ratioOf}
+use Rattle.numbers.specs.Ratio.{ratioOf}
 use Rattle.heights.specs.Height.{rowVs}
 use Rattle.survival.specs.Survival.{factorOf, scaledOf, roundedOf, factorsOf, survivalsOf}
 use Rattle.indices.specs.Index.{addsOf, rowAdds, partials, attainedOf}
@@ -29,7 +29,7 @@ use Rattle.verdicts.specs.Verdict.{reaches, allReach, verdictOf}
 use Rattle.casefile.specs.Record.{Row, Case}
 use Rattle.casefile.specs.Order.{sameGroup, sameLayer}
 use Rattle.rows.specs.Standing.{stands}
-use Rattle.rows.specs.Work.{shareAt, addsAt, sharesFrom, addsFrom}
+use Rattle.rows.specs.Work.{shareAt, addsAt, addsFrom}
 use Rattle.index.specs.Answer.{partialsOf, figures, answer}
 
 -- 100 m long, 16 m broad, draughts of 6 and 4 m, with at most three zones, which end here

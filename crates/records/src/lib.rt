@@ -36,6 +36,12 @@ pub struct Ends {
     pub upper: u64,
 }
 
+// A fraction from 0 to 1, as a numerator and a denominator.
+pub struct Ratio {
+    pub num: u64,
+    pub den: u64,
+}
+
 // A survival factor in ten-thousandths: the exact one is not below the bottom and not above the top.
 pub struct Survival {
     pub bottom: u64,

@@ -1,8 +1,7 @@
--- What holds of the fourth roots, rounded down and up: each is one number, and they are at most one apart. Assumes nothing.
-use mathlib.Core.Path.{_≡_, sym}
-use mathlib.Core.Logic.{_↔_}
+-- What holds of the fourth roots, rounded down and up: each is one number, and those of a fraction are those of its quotient. Assumes nothing.
+use mathlib.Core.Path.{_≡_}
 use Prim.Native.Nat.{ℕ, _+_, _*_, _/_, _^_, _≤_, _<_}
-use native.Mathlib.Nat.{le-of-lt, le-of-eq, lt-of-not-le, le-antisymm, le-trans, le-div-iff-mul-le}
+use native.Mathlib.Nat.{lt-of-not-le, le-antisymm, le-trans, le-div-iff-mul-le}
 use native.Mathlib.Omega.{arith}
 use Rattle.laws.specs.Rounding.{ceil}
 use Rattle.laws.proofs.Roots.{powers-ordered, powers-strict}
@@ -49,22 +48,6 @@ up-next n s p q e =
 
 pub up-unique : {n s t : ℕ} → RootUp n s → RootUp n t → s ≡ t
 up-unique {n} {s} {t} p q = le-antisymm (p .least t (q .reaches)) (q .least s (p .reaches))
-
--- ---- both
-
-module _ {n s t : ℕ} (p : RootDown n s) (q : RootUp n t) where
-  pub roots-ordered : s ≤ t
-  roots-ordered = within-of-fourth (le-trans (p .within) (q .reaches))
-
-  pub roots-near : t ≤ s + 1
-  roots-near = q .least (s + 1) (le-of-lt (below-next p))
-
-  -- they meet exactly where n is a fourth power
-  pub roots-meet : (s ≡ t) ↔ ((k : ℕ) × (k ^ 4 ≡ n))
-  roots-meet = (
-    λ e. (s, le-antisymm (p .within) (rw e (q .reaches))),
-    λ f. le-antisymm roots-ordered (le-trans (q .least (f .0) (le-of-eq (sym (f .1)))) (p .greatest (f .0) (le-of-eq (f .1)))),
-  )
 
 -- ---- the roots of a fraction n/d are those of its quotient, rounded the same way
 

@@ -10,7 +10,7 @@ use lib.Dec.{leb, lit<}
 use Rattle.laws.specs.Fraction.{_less_over_, Is}
 use Rattle.laws.proofs.Fraction.{is-crossed}
 use Rattle.laws.proofs.Polynomial.{C, _:+_, _:*_, _:^_, _:≤_, _:=_, _⊲_, eq, _⊢_, poly2, poly3, poly5, poly6}
-use Rattle.solas.specs.Penetration.{C as chance}
+use Rattle.solas.specs.Penetration.{C as chance, c, d}
 use Rattle.solas.specs.General.{Falling, Rising, unit, common, law, layer}
 
 -- ---- C: (16bB - 12b²)/(5B²), at most one up to the half breadth
@@ -62,7 +62,7 @@ unfolding law
 shallow L B b h = omega (arith, mul-le-mul-right L h)
 
 pub layer-rises : (L B b′ b : ℕ) → 0 < B → b′ ≤ b → 2 * b ≤ B → Rising (law L B) (layer L B b′ b)
-unfolding layer
+unfolding layer c d
 layer-rises L B b′ b k g h = record {
   cut = omega (arith, mul-le-mul-right L g);
   shallow = shallow L B b h;
@@ -73,11 +73,11 @@ layer-rises L B b′ b k g h = record {
 
 -- the layer from no penetration
 pub no-cut : (L B b : ℕ) → layer L B 0 b .U′ ≡ 0
-unfolding layer
+unfolding layer c d
 no-cut L B b = omega arith
 
 pub no-chance : (L B b : ℕ) → layer L B 0 b .c′ ≡ 0
-unfolding layer
+unfolding layer c d
 no-chance L B b = omega arith
 
 -- ---- what p and Q are over is not 0
@@ -89,5 +89,5 @@ module _ {L B : ℕ} (hL : 0 < L) (hB : 0 < B) where
       mul-pos (mul-pos (mul-pos (lit< tt) square) square) (omega (arith, mul-pos hB hL))
 
   pub common-positive : (b′ b : ℕ) → 0 < common (law L B) (layer L B b′ b) L
-  unfolding layer
+  unfolding layer c d
   common-positive b′ b = mul-pos (lit< tt) (rw (mul-assoc (5 * B ^ 2) (unit (law L B)) (law L B .λx * L)) (mul-pos (mul-pos (lit< tt) (one-le-pow 2 B hB)) full-positive))

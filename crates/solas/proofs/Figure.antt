@@ -4,11 +4,12 @@ use mathlib.Core.Path.{_≡_}
 use mathlib.Core.List.{List, [], _∷_}
 use native.Mathlib.Omega.{arith}
 use Rattle.laws.specs.Fraction.{Is, total}
-use Rattle.laws.specs.Sums.{last, Linked}
+use Rattle.laws.specs.Lists.{last, Linked}
 use Rattle.laws.proofs.Fraction.{is-nothing, is-shifted, is-⊹, is-⊝}
-use Rattle.laws.proofs.Lists.{last-rises}
+use Rattle.laws.proofs.Rising.{last-rises}
 use Rattle.solas.specs.Ship.{Ship, Sound}
 use Rattle.solas.specs.Share.{within, share, rowShare, layerShares}
+use Rattle.solas.specs.Penetration.{c, d}
 use Rattle.solas.specs.General.{Falling, Rising, inSpan, law, layer, unit}
 use Rattle.solas.specs.Count.{added, taken, Group}
 use Rattle.solas.proofs.Count.{added-adds, taken-adds}
@@ -34,12 +35,12 @@ module _ (s : Ship) (h : Sound s) where
   rises b′ b = layer-rises (s .L) (s .B) b′ b (h .broad)
 
   pub over-positive : 0 < over s
-  unfolding layer
+  unfolding layer c d
   over-positive = common-positive some-length (h .broad) 0 0
 
   -- Q of the zones from a to e
   pub within-is : (b : ℕ) → 2 * b ≤ s .B → (a e : ℕ) → Is (within s a e b) (figure s 0 b a e) 0 (over s)
-  unfolding within layer
+  unfolding within layer c d
   within-is b p a e = Q-is some-length (h .broad) (s .aft a) (s .fwd e) b p
 
   -- the share of a group at one b

@@ -6,6 +6,7 @@ use native.Mathlib.Omega.{arith}
 use Rattle.laws.specs.Span.{SpanFunction}
 use Rattle.laws.proofs.Span.{e2-spans, e3-spans, steeper, sum-spans, multiple-spans, later-spans}
 use Rattle.solas.specs.Span.{Touch, neither, one, both, touch}
+use Rattle.solas.specs.Penetration.{c, d}
 use Rattle.solas.specs.General.{Law, Falling, fall, density, between, mass, beyond, unit, Layer, Rising, inLayer, slope, twice, inSpan, layer}
 use Rattle.solas.proofs.General.{between-adds, mass-adds, mass-one}
 
@@ -121,11 +122,11 @@ module _ {l : Law} {y : Layer} (f : Falling l) (r : Rising l y) where
 -- ---- document 01's layers, from one penetration to the next
 module _ (L B b₀ b₁ b₂ : ℕ) where
   pub depths-meet : Meeting (layer L B b₀ b₁) (layer L B b₁ b₂)
-  unfolding layer
+  unfolding layer c d
   depths-meet = record { cut = refl; chance = refl; over = refl }
 
   pub depths-join : joined (layer L B b₀ b₁) (layer L B b₁ b₂) ≡ layer L B b₀ b₂
-  unfolding layer
+  unfolding layer c d
   depths-join = refl
 
   pub depths-add : {l : Law} → Falling l → Rising l (layer L B b₀ b₁) → Rising l (layer L B b₁ b₂) → (aft fwd : ℕ) →

@@ -1,14 +1,14 @@
--- Spans of a ship under the general damage length law: no share is negative, a span has at most what one around it has, the whole ship at most one. Assumes nothing.
-use Prim.Native.Nat.{ℕ, _+_, _-_, _*_, _≤_, _<_, zero-le}
+-- Spans of a ship under the general damage length law: no share is negative, and the whole ship has at most one. Assumes nothing.
+use Prim.Native.Nat.{ℕ, _+_, _-_, _*_, _≤_, _<_}
 use mathlib.Core.Bool.{cond}
 use mathlib.Core.Path.{_≡_, refl, ap, _∙_}
-use native.Mathlib.Nat.{le-refl, le-trans, mul-le-mul-left, mul-le-mul-right, mul-assoc, zero-add, add-zero, sub-zero, mul-zero, sub-eq-zero-of-le}
+use native.Mathlib.Nat.{mul-le-mul-right, zero-add, add-zero, sub-zero, mul-zero, sub-eq-zero-of-le}
 use native.Mathlib.Omega.{arith}
 use lib.Dec.{eqb}
-use borrow.Author.Tests.{eqb-true, eqb-false, eq-eqb, ne-eqb}
+use borrow.Author.Tests.{eq-eqb, ne-eqb}
 use Rattle.laws.specs.Span.{SpanFunction}
 use Rattle.laws.proofs.Choice.{either-way}
-use Rattle.laws.proofs.Span.{rises, at-most-line, unit-spans, share-not-negative}
+use Rattle.laws.proofs.Span.{unit-spans, share-not-negative}
 use Rattle.solas.specs.Span.{touch}
 use Rattle.solas.specs.General.{Law, Falling, Layer, Rising, inLayer, slope, inSpan, common}
 use Rattle.solas.proofs.GeneralLayer.{layer-spans, slope-at-most-one, slope-one}
@@ -30,11 +30,6 @@ reaches-itself end = rw (eq-eqb end end refl)
 pub reaches-not : {place end : ℕ} → (place ≡ end → ⊥) → reaches place end ≡ 0
 unfolding reaches
 reaches-not {place} {end} h = rw (ne-eqb place end h)
-
--- q is that end wherever p is
-pub reaches-rises : {p q e : ℕ} → (p ≡ e → q ≡ e) → reaches p e ≤ reaches q e
-reaches-rises {p} {q} {e} h =
-    either-way (eqb p e) (λ t. rw (h (eqb-true p e t), reaches-itself e) (reaches-at-most-one p e)) (λ t. rw (reaches-not (eqb-false p e t)) zero-le)
 
 -- for two ends less those that a span touches it has what an inner one has, and for each that it touches its share of the ship
 pub by-ends : (l : Law) (y : Layer) (L aft fwd : ℕ) →
@@ -96,36 +91,3 @@ module _ (l : Law) (y : Layer) (L : ℕ) where
   -- at the half breadth, where C is one
   pub whole-ship-one : Falling l → Rising l y → y .U′ ≡ 0 → y .c′ ≡ 0 → y .c ≡ y .d → inSpan l y L 0 L ≡ common l y L
   whole-ship-one f r a b e = whole-ship ∙ ap (λ s. 2 * (s * (l .λx * L))) (slope-one f r a b e)
-
--- ---- a span has at most what one around it has
-
--- a longer span, which touches all that the shorter one does
-longer-touches : (a f a′ f′ h h′ s x x′ : ℕ) → a ≤ a′ → f ≤ f′ → a′ ≤ 1 → f′ ≤ 1 → h ≤ h′ → h ≤ s * x → x ≤ x′ →
-    (2 - a - f) * h + (a + f) * s * x ≤ (2 - a′ - f′) * h′ + (a′ + f′) * s * x′
-longer-touches a f a′ f′ h h′ s x x′ p q u w t line v =
-    let fewer : 2 - a - f ≡ a′ - a + (f′ - f) + (2 - a′ - f′) = omega arith in
-    let more : a′ + f′ ≡ a + f + (a′ - a + (f′ - f)) = omega arith in
-    let long : s * x ≤ s * x′ = mul-le-mul-left s v in
-    rw (fewer, more, mul-assoc (a + f) s x, mul-assoc (a + f + (a′ - a + (f′ - f))) s x′)
-    (plain (a + f) (a′ - a + (f′ - f)) (2 - a′ - f′) h h′ (s * x) (s * x′) t (le-trans line long) long)
-  where
-    plain : (n i k h h′ m m′ : ℕ) → h ≤ h′ → h ≤ m′ → m ≤ m′ → (i + k) * h + n * m ≤ k * h′ + (n + i) * m′
-    plain n i k h h′ m m′ p q r = omega (arith, mul-le-mul-left k p, mul-le-mul-left i q, mul-le-mul-left n r)
-
-module _ (l : Law) (y : Layer) (L : ℕ) where
-  pub span-rises : (aft′ aft fwd fwd′ : ℕ) → aft′ ≤ aft → fwd ≤ fwd′ → fwd′ ≤ L → inSpan l y L aft fwd ≤ inSpan l y L aft′ fwd′
-  span-rises aft′ aft fwd fwd′ p q r =
-      rw (by-ends l y L aft fwd, by-ends l y L aft′ fwd′)
-      (longer-touches (reaches aft 0) (reaches fwd L) (reaches aft′ 0) (reaches fwd′ L) (inLayer l y (l .λx * (fwd - aft))) (inLayer l y (l .λx * (fwd′ - aft′)))
-      (l .λx * slope l y) (fwd - aft) (fwd′ - aft′)
-      (reaches-rises (λ e. omega arith)) (reaches-rises (λ e. omega arith)) (reaches-at-most-one aft′ 0) (reaches-at-most-one fwd′ L)
-      (rises (scaled-spans l y) {x = fwd - aft} {y = fwd′ - aft′} longer) (at-most-line (scaled-spans l y) (fwd - aft)) longer)
-    where
-      longer : fwd - aft ≤ fwd′ - aft′
-      longer = omega arith
-
-  pub span-at-most-ship : (aft fwd : ℕ) → fwd ≤ L → inSpan l y L aft fwd ≤ inSpan l y L 0 L
-  span-at-most-ship aft fwd h = span-rises 0 aft fwd L zero-le h (le-refl L)
-
-  pub span-at-most-one : Falling l → Rising l y → (aft fwd : ℕ) → fwd ≤ L → inSpan l y L aft fwd ≤ common l y L
-  span-at-most-one f r aft fwd h = le-trans (span-at-most-ship aft fwd h) (whole-ship-at-most-one l y L f r)

@@ -1,4 +1,4 @@
--- Heights: v rises from 0 to 916,500, the rows of a complete layer share the whole of it at each draught, and dp is between dl and ds.
+-- Heights: v rises from 0 to 916,500, the rows of a complete layer share the whole of it at each draught, and dp is at most ds.
 -- Assumes nothing.
 use Prim.Native.Nat.{ℕ, _+_, _-_, _*_, _/_, _%_, _≤_, _<_, min}
 use mathlib.Core.Path.{_≡_, refl, _∙_}
@@ -6,7 +6,8 @@ use mathlib.Core.List.{List, [], _∷_}
 use native.Mathlib.Nat.{div-eq-of-eq-mul-right}
 use native.Mathlib.Omega.{arith}
 use lib.Dec.{lit<}
-use Rattle.laws.specs.Sums.{sum, last, Linked}
+use Rattle.laws.specs.Lists.{last, Linked}
+use Rattle.laws.specs.Sums.{sum}
 use Rattle.laws.proofs.Choice.{chosen}
 use Rattle.solas.specs.Height.{v, vAt, rowV, top}
 use Rattle.solas.specs.Index.{dp}
@@ -16,10 +17,6 @@ use Rattle.solas.specs.Layers.{rowsV, layerV, LayersShareAll, LayersShar
 pub dp-whole : (ds dl : ℕ) → (ds - dl) % 5 ≡ 0 → 5 * dp ds dl ≡ 5 * dl + 3 * (ds - dl)
 unfolding dp
 dp-whole ds dl p = let e : 3 * (ds - dl) / 5 ≡ 3 * ((ds - dl) / 5) = div-eq-of-eq-mul-right (lit< tt) (omega arith) in omega arith
-
-pub light-below-dp : (ds dl : ℕ) → dl ≤ dp ds dl
-unfolding dp
-light-below-dp ds dl = omega arith
 
 pub dp-below-deepest : {ds dl : ℕ} → dl ≤ ds → dp ds dl ≤ ds
 unfolding dp
@@ -31,10 +28,6 @@ unfolding v
 v-slopes h =
     chosen (λ n. n ≡ 94 * min h 7800 + 39 * (min h 12500 - 7800)) h 7800 (λ l. omega arith)
     (λ l. chosen (λ n. n ≡ 94 * min h 7800 + 39 * (min h 12500 - 7800)) h 12500 (λ u. omega arith) (λ u. omega arith))
-
-pub v-nothing : v 0 ≡ 0
-unfolding v
-v-nothing = refl
 
 pub v-full : {h : ℕ} → 12500 ≤ h → v h ≡ 916500
 v-full {h} p = omega (arith, v-slopes h)
@@ -49,11 +42,6 @@ v-rises {h} {k} p = omega (arith, v-slopes h, v-slopes k)
 pub vAt-rises : {H′ H : ℕ} (d : ℕ) → H′ ≤ H → vAt H′ d ≤ vAt H d
 unfolding vAt
 vAt-rises {H′} {H} d p = v-rises {h = H′ - d} {k = H - d} (omega arith)
-
--- a ship that lies deeper has less of a height above its draught
-pub vAt-sinks : (H : ℕ) {d d′ : ℕ} → d ≤ d′ → vAt H d′ ≤ vAt H d
-unfolding vAt
-vAt-sinks H {d} {d′} p = v-rises {h = H - d′} {k = H - d} (omega arith)
 
 pub vAt-at-most : (H d : ℕ) → vAt H d ≤ 916500
 unfolding vAt
@@ -95,9 +83,6 @@ rows-add H′ (H ∷ Hs) d r = omega (arith, row-adds {H′ = H′} {H = H} d (o
 -- ---- layers: their rows share what the last height has
 pub layer-adds : (Hs : List ℕ) (d : ℕ) → Linked _<_ 0 Hs → sum (layerV Hs d) ≡ vAt (last 0 Hs) d
 layer-adds Hs d r = omega (arith, rows-add 0 Hs d r, vAt-waterline {H = 0} {d = d} (omega arith))
-
-pub layer-at-most : (Hs : List ℕ) (d : ℕ) → Linked _<_ 0 Hs → sum (layerV Hs d) ≤ 916500
-layer-at-most Hs d r = omega (arith, layer-adds Hs d r, vAt-at-most (last 0 Hs) d)
 
 pub layers-share-all : LayersShareAll
 layers-share-all ds d Hs c p = layer-adds Hs d (c .rising) ∙ vAt-top {ds = ds} (c .closed) p

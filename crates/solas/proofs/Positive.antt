@@ -8,6 +8,7 @@ use Rattle.laws.proofs.Fraction.{is-≈, ≈-sym}
 use Rattle.laws.proofs.FractionOrder.{numerator-above-0}
 use Rattle.solas.specs.Ship.{Ship, Sound}
 use Rattle.solas.specs.Share.{within}
+use Rattle.solas.specs.Penetration.{c, d}
 use Rattle.solas.specs.General.{inSpan, law, layer}
 use Rattle.solas.specs.Count.{added, taken, Group}
 use Rattle.solas.proofs.Count.{excess-not-above}
@@ -15,7 +16,7 @@ use Rattle.solas.proofs.Ship.{aft-next, fwd-next, span, ends-within}
 use Rattle.solas.proofs.GeneralSpan.{group-share-not-negative, pair-share-not-negative, whole-ship-at-most-one, whole-ship-one}
 use Rattle.solas.proofs.Figure.{figure, over, over-positive, falls, rises, within-is}
 use Rattle.solas.proofs.Depth.{no-cut, no-chance, c-one}
-use Rattle.solas.proofs.Chances.{Q-half-breadth}
+use Rattle.solas.proofs.HalfBreadth.{Q-half-breadth}
 use Rattle.solas.proofs.SpanChance.{P-above}
 
 module _ (s : Ship) (h : Sound s) (b′ b : ℕ) where
@@ -40,7 +41,7 @@ module _ (s : Ship) (h : Sound s) (b′ b : ℕ) where
 
   module _ (q : b′ ≤ b) (p : 2 * b ≤ s .B) where
     pub ship-not-above : figure s b′ b 1 (s .m) ≤ over s
-    unfolding layer
+    unfolding layer c d
     ship-not-above = rw figure-of-ship (whole-ship-at-most-one (law (s .L) (s .B)) (layer (s .L) (s .B) b′ b) (s .L) (falls s h) (rises s h b′ b q p))
 
     pub added-not-above : (a n : ℕ) → Group s a n → added (figure s b′ b) a n ≤ taken (figure s b′ b) a n + over s
@@ -53,7 +54,7 @@ module _ (s : Ship) (h : Sound s) (b′ b : ℕ) where
 
 -- at the half breadth the whole ship is one
 pub ship-is-one : (s : Ship) (h : Sound s) (b : ℕ) → 2 * b ≡ s .B → figure s 0 b 1 (s .m) ≡ over s
-unfolding layer
+unfolding layer c d
 ship-is-one s h b e =
     figure-of-ship s h 0 b
     ∙ whole-ship-one (law (s .L) (s .B)) (layer (s .L) (s .B) 0 b) (s .L) (falls s h) (rises s h 0 b (omega arith) (omega arith)) (no-cut (s .L) (s .B) b) (no-chance (s .L) (s .B) b) (c-one (s .B) b e)

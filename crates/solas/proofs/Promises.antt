@@ -3,7 +3,7 @@ use Prim.Native.Nat.{ℕ, _*_, _≤_}
 use native.Mathlib.Nat.{le-of-eq}
 use native.Mathlib.Omega.{arith}
 use Rattle.laws.specs.Fraction.{Is}
-use Rattle.laws.specs.Sums.{last}
+use Rattle.laws.specs.Lists.{last}
 use Rattle.laws.proofs.Fraction.{is-nothing, is-one, is-≈, same, below}
 use Rattle.solas.specs.Ship.{Ship, Sound}
 use Rattle.solas.specs.Share.{within, share}

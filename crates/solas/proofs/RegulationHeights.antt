@@ -4,7 +4,7 @@ use mathlib.Core.Path.{_≡_, refl}
 use mathlib.Core.List.{[], _∷_}
 use native.Mathlib.Omega.{arith}
 use lib.Dec.{lit<}
-use Rattle.laws.specs.Fraction.{Fraction, _less_over_, _over_, whole, Is, _≈_, _≺_, _≼?_, _⊹_, _⊝_, _⊛_, _⊘_}
+use Rattle.laws.specs.Fraction.{Fraction, _over_, whole, Is, _≈_, _≺_, _⊝_}
 use Rattle.laws.specs.Polynomial.{X, C, _:+_, _:*_}
 use Rattle.laws.proofs.Choice.{split}
 use Rattle.laws.proofs.Fraction.{is-over, is-nothing, is-one, is-widened, is-shifted, is-⊝, same, below, strictly-below}
@@ -136,8 +136,3 @@ last-row-is-01's ds d H′ H p q =
     (split H′ (d + 12500) (λ l. is-shifted _ 0 (omega arith) (is-held (lit< tt) (is-⊝ (is-uppermost H d) (is-counted H′ d l))))
     (λ l. rw (above-counts {H = H′} {d = d} (omega arith), vAt-full {H = H′} d (omega arith))
     (is-shifted _ 0 (omega arith) (is-held (lit< tt) (is-⊝ (is-uppermost H d) (is-v-high H′ d (omega arith)))))))) (in-parts (vAt H d - vAt H′ d))
-
--- what the cap is for: without it boundaries 12 and 14 m above the waterline and the uppermost would share more than the whole
-pub uncapped-shares-too-much : whole 1 ≺ vm none (at (whole 12)) (whole 0) ⊹ vm (at (whole 12)) (at (whole 14)) (whole 0) ⊹ vm (at (whole 14)) (uppermost (whole 15)) (whole 0)
-unfolding vm held vOf regulation.v _≼?_ _⊹_ _⊝_ _⊛_ _⊘_ _less_over_
-uncapped-shares-too-much = record { cross = lit< tt }

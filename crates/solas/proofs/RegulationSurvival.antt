@@ -1,17 +1,15 @@
 -- Survival is that of the regulation: document 01's s⁴ is the fourth power of whatever 002, 2.7.3, gives for s. Assumes nothing.
 use Prim.Native.Nat.{ℕ, _-_, _*_, _^_, _≤_, _<_, min}
-use mathlib.Core.Path.{refl}
 use mathlib.Core.List.{[], _∷_}
 use native.Mathlib.Nat.{mul-pos}
 use native.Mathlib.Omega.{arith}
 use lib.Dec.{lit<}
-use Rattle.laws.specs.Fraction.{Fraction, _less_over_, _over_, whole, Is, _≈_, _≼?_, lesser, _⊝_, _⊛_, _⊘_}
+use Rattle.laws.specs.Fraction.{Fraction, whole, Is, _≈_, lesser, _⊝_, _⊛_, _⊘_}
 use Rattle.laws.specs.Polynomial.{X, C}
 use Rattle.laws.proofs.Choice.{split}
 use Rattle.laws.proofs.Polynomial.{pow-two}
-use Rattle.laws.proofs.Fraction.{is-over, is-whole, is-widened, is-shifted, is-recast, is-⊛, is-⊘, same, below, strictly-below, ≈-refl, ≈-sym, ≈-trans, ⊛-≈}
+use Rattle.laws.proofs.Fraction.{is-over, is-whole, is-widened, is-shifted, is-recast, is-⊛, is-⊘, same, below, strictly-below}
 use Rattle.laws.proofs.FractionTerm.{number, ratio, _⊝ᵗ_, also, quotient-by}
-use Rattle.laws.proofs.FractionRing.{⊛-comm, ⊛-assoc}
 use Rattle.laws.proofs.FractionOrder.{is-lesser}
 use Rattle.solas.specs.Survival.{s⁴}
 use Rattle.solas.specs.RegulationIndex.{millimetres, hundredths, θmin, θmax, underRoot, Numbers, square, fourth, Final}
@@ -106,58 +104,3 @@ module _ (N : Numbers) where
 
 pub survival-is-01's : SurvivalIs01's
 survival-is-01's N g t e s f = fourth-power N g t e f
-
--- ---- the fractions are such numbers themselves
-abbrev pub fractions : Numbers
-fractions = record {
-  Number = Fraction;
-  _≐_ = _≈_;
-  _·_ = _⊛_;
-  fraction = λ f. f;
-  same-refl = ≈-refl;
-  same-sym = ≈-sym;
-  same-trans = ≈-trans;
-  same-product = ⊛-≈;
-  commutes = ⊛-comm;
-  associates = ⊛-assoc;
-  same-fraction = λ p. p;
-  fraction-product = λ f g. ≈-refl (f ⊛ g);
-}
-
--- three of document 01's proved values, from the regulation's own formula, one for each case of K: 1/2 upright, 1/10 at a heel of 29.95 degrees, and
--- 0 at 30 degrees
-pub half-survives : Final fractions (millimetres 30) (hundredths 400) (hundredths 0) (1 over 2)
-unfolding lesser _≼?_ _⊝_ _⊛_ _⊘_ _less_over_
-half-survives = record {
-  K = whole 1;
-  root = 1 over 2;
-  upright = λ p. record { cross = refl };
-  lost = λ p. absurd (omega (arith, p .cross));
-  heeled = λ p q. absurd (omega (arith, p .cross));
-  fourth-root = record { cross = refl };
-  product = record { cross = refl };
-}
-
-pub tenth-survives : Final fractions (millimetres 120) (hundredths 1600) (hundredths 2995) (1 over 10)
-unfolding lesser _≼?_ _⊝_ _⊛_ _⊘_ _less_over_
-tenth-survives = record {
-  K = 1 over 10;
-  root = whole 1;
-  upright = λ p. absurd (omega (arith, p .cross));
-  lost = λ p. absurd (omega (arith, p .cross));
-  heeled = λ p q. record { cross = refl };
-  fourth-root = record { cross = refl };
-  product = record { cross = refl };
-}
-
-pub none-survives : Final fractions (millimetres 30) (hundredths 400) (hundredths 3000) (whole 0)
-unfolding lesser _≼?_ _⊝_ _⊛_ _⊘_ _less_over_
-none-survives = record {
-  K = whole 0;
-  root = 1 over 2;
-  upright = λ p. absurd (omega (arith, p .cross));
-  lost = λ p. record { cross = refl };
-  heeled = λ p q. absurd (omega (arith, q .cross));
-  fourth-root = record { cross = refl };
-  product = record { cross = refl };
-}

@@ -1,21 +1,9 @@
 -- The places of a ship's zones: they rise, and lie within the ship. Assumes nothing.
-use Prim.Native.Nat.{ℕ, zero, suc, _+_, _≤_, _<_}
-use mathlib.Core.Path.{_≡_, ap}
-use native.Mathlib.Nat.{le-dest, le-refl, add-zero}
+use Prim.Native.Nat.{ℕ, _+_, _≤_, _<_}
+use native.Mathlib.Nat.{le-refl}
 use native.Mathlib.Omega.{arith}
+use Rattle.laws.proofs.Rising.{places-rise}
 use Rattle.solas.specs.Ship.{Ship, Zoned}
-
--- what rises from each zone to the next rises from any zone to a later one
-rises : (g : ℕ → ℕ) {m : ℕ} → ((a : ℕ) → 1 ≤ a → a < m → g a < g (a + 1)) → {a e : ℕ} → 1 ≤ a → a ≤ e → e ≤ m → g a ≤ g e
-rises g {m} next {a} p q r =
-    let (k, f) = le-dest q in
-    rw (← f) (by-steps k (omega arith))
-  where
-    by-steps : (k : ℕ) → a + k ≤ m → g a ≤ g (a + k)
-    by-steps zero h = rw (add-zero a) (le-refl (g a))
-    by-steps (suc k) h =
-        let e : g (a + suc k) ≡ g (a + k + 1) = ap g (omega arith) in
-        omega (arith, by-steps k (omega arith), next (a + k) (omega arith) (omega arith))
 
 module _ {s : Ship} (h : Zoned s) where
   -- a zone ends where the next begins, or before
@@ -25,11 +13,8 @@ module _ {s : Ship} (h : Zoned s) where
   pub fwd-next : (a : ℕ) → 1 ≤ a → a < s .m → s .fwd a < s .fwd (a + 1)
   fwd-next a p q = omega (arith, h .zone (a + 1) (omega arith) (omega arith), h .next a p q)
 
-  pub aft-rises : {a e : ℕ} → 1 ≤ a → a ≤ e → e ≤ s .m → s .aft a ≤ s .aft e
-  aft-rises = rises (λ a. s .aft a) aft-next
-
   pub fwd-rises : {a e : ℕ} → 1 ≤ a → a ≤ e → e ≤ s .m → s .fwd a ≤ s .fwd e
-  fwd-rises = rises (λ a. s .fwd a) fwd-next
+  fwd-rises = places-rise (λ a. s .fwd a) fwd-next
 
   -- the zones from a to e are a span within the ship
   pub span : {a e : ℕ} → 1 ≤ a → a ≤ e → e ≤ s .m → s .aft a < s .fwd e

@@ -11,7 +11,7 @@ use Rattle.laws.proofs.Fraction.{is-over, is-one, is-widened, is-shifted, is-wr
 use Rattle.laws.proofs.FractionRing.{is-mixed}
 use Rattle.laws.proofs.FractionOrder.{is-chosen}
 use Rattle.solas.specs.Span.{Touch, neither, one, both, touch, half, PAt, P}
-use Rattle.solas.specs.Penetration.{GAt, G, Q}
+use Rattle.solas.specs.Penetration.{c, d, GAt, G, Q}
 use Rattle.solas.specs.General.{Law, Falling, Layer, Rising, between, mass, beyond, unit, inLayer, slope, twice, inSpan, common, law, layer}
 use Rattle.solas.proofs.General.{between-adds, mass-adds, mass-one}
 use Rattle.solas.proofs.Bands.{full, inner, p-is}
@@ -111,7 +111,7 @@ module _ {l : Law} {y : Layer} (f : Falling l) (r : Rising l y) (none : y .U′ 
 
 -- the chance of damage within the span from aft to fwd and within b
 pub Q-is : {L B : ℕ} → 0 < L → 0 < B → (aft fwd b : ℕ) → 2 * b ≤ B → Is (Q L B aft fwd b) (inSpan (law L B) (layer L B 0 b) L aft fwd) 0 (common (law L B) (layer L B 0 b) L)
-unfolding Q inSpan layer
+unfolding Q inSpan layer c d
 Q-is {L} {B} hL hB aft fwd b h =
     rw (← twice-from-nothing (law-falls hL hB) (layer-rises L B 0 b hB zero-le h) (no-cut L B b) (no-chance L B b) (touch L aft fwd) (fwd - aft), denominators (unit (law L B)) (law L B .λx * L) (5 * B ^ 2))
     (is-mixed (layer-rises L B 0 b hB zero-le h .positive) (P-is hL hB aft fwd) (G-is hL hB b h aft fwd) (C-is B b hB h) (c-at-most B b h))

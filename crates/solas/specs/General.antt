@@ -2,6 +2,7 @@
 use Prim.Native.Nat.{ℕ, _+_, _-_, _*_, _^_, _≤_, _<_}
 use Rattle.laws.specs.Span.{e2, e3}
 use Rattle.solas.specs.Span.{Touch, neither, one, both, touch}
+use Rattle.solas.specs.Penetration.{c, d}
 
 -- on the scale on which a span of length x is λ·x, damage lengths end at κ + W, and their density has its knuckle at κ
 pub record Law : Type 0 where
@@ -80,4 +81,4 @@ unfoldable pub law : ℕ → ℕ → Law
 law L B = record { κ = 15 * B * (5 * L); W = 15 * B * (5 * L); λx = 15 * B * 33 }
 
 unfoldable pub layer : ℕ → ℕ → ℕ → ℕ → Layer
-layer L B b′ b = record { U′ = 33 * b′ * L; U = 33 * b * L; c′ = 16 * b′ * B - 12 * b′ ^ 2; c = 16 * b * B - 12 * b ^ 2; d = 5 * B ^ 2 }
+layer L B b′ b = record { U′ = 33 * b′ * L; U = 33 * b * L; c′ = c B b′; c = c B b; d = d B }

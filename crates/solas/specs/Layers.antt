@@ -2,7 +2,8 @@
 use Prim.Native.Nat.{ℕ, _<_, _≤_}
 use mathlib.Core.Path.{_≡_}
 use mathlib.Core.List.{List, [], _∷_, map}
-use Rattle.laws.specs.Sums.{sum, last, Linked}
+use Rattle.laws.specs.Lists.{last, Linked}
+use Rattle.laws.specs.Sums.{sum}
 use Rattle.solas.specs.Height.{rowV, top}
 use Rattle.solas.specs.Index.{draughts}
 

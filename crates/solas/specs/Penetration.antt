@@ -9,6 +9,13 @@ use Rattle.solas.specs.Span.{Touch, neither, one, both, touch, half, p, 
 unfoldable pub C : ℕ → ℕ → Fraction
 C B b = (16 * b * B) less (12 * b ^ 2) over (5 * B ^ 2)
 
+-- C is c/d at a penetration of up to half of the breadth
+unfoldable pub c : ℕ → ℕ → ℕ
+c B b = 16 * b * B - 12 * b ^ 2
+
+unfoldable pub d : ℕ → ℕ
+d B = 5 * B ^ 2
+
 -- G of the whole ship; and what an inner span longer than b/15B of the ship lacks of its part of that
 unfoldable pub G1 : ℕ → ℕ → Fraction
 G1 B b = (5500 * b * B) less (1089 * b ^ 2) over (7500 * B ^ 2)

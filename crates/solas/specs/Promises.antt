@@ -3,7 +3,7 @@ use Prim.Native.Nat.{ℕ, _*_, _≤_, _<_}
 use mathlib.Core.Path.{_≡_}
 use mathlib.Core.List.{List, _∷_}
 use Rattle.laws.specs.Fraction.{whole, _≈_, _≼_, _≺_, _⊹_, total}
-use Rattle.laws.specs.Sums.{last, Linked}
+use Rattle.laws.specs.Lists.{last, Linked}
 use Rattle.solas.specs.Ship.{Ship, Sound}
 use Rattle.solas.specs.Share.{within, share, rowShare, layerShares}
 use Rattle.solas.specs.Count.{Group}

@@ -3,11 +3,10 @@ use Prim.Native.Nat.{ℕ, _-_, _≤_}
 use native.Mathlib.Omega.{arith}
 use Rattle.laws.specs.Fraction.{Fraction, Is}
 use Rattle.laws.proofs.Fraction.{is-whole}
-use Rattle.numbers.specs.Figures.{Between}
 use Rattle.solas.specs.Span.{Touch, neither, one, both, touch, p, PAt, P}
 use Rattle.spans.specs.Rounded.{endsOf, Probable, Near}
 use Rattle.spans.specs.Span.{pEnds, PEnds}
-use Rattle.spans.proofs.Rounded.{Enclosed, between, ends-enclose, ends-near, ends-probable}
+use Rattle.spans.proofs.Rounded.{Enclosed, ends-enclose, ends-near, ends-probable}
 use Rattle.bands.proofs.Bands.{ratio-of}
 use Rattle.spans.proofs.Span.{one-end-is, one-end-proper}
 
@@ -40,9 +39,6 @@ module _ (L x : ℕ) (some : 1 ≤ L) (short : L ≤ 19800) (within : x ≤ L) w
   unfolding pEnds
   p-enclosed = proportion-enclosed p-proportion
 
-  pub p-between : Between (pEnds L x) (p L x)
-  p-between = between p-enclosed
-
   pub p-near : Near 1 (pEnds L x)
   unfolding pEnds
   p-near = ends-near (p-proportion .some) (p-proportion .is)
@@ -61,9 +57,6 @@ module _ (L aft fwd : ℕ) (some : 1 ≤ L) (short : L ≤ 19800) (within : fwd 
   pub P-enclosed : Enclosed (PEnds L aft fwd) (P L aft fwd)
   unfolding PEnds
   P-enclosed = proportion-enclosed P-proportion
-
-  pub P-between : Between (PEnds L aft fwd) (P L aft fwd)
-  P-between = between P-enclosed
 
   pub P-near : Near 1 (PEnds L aft fwd)
   unfolding PEnds

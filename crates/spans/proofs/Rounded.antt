@@ -1,13 +1,13 @@
 -- A fraction's ends go by its value alone, enclose it, and lie at most one apart. Assumes nothing.
 use mathlib.Core.Path.{_≡_, _∙_}
 use Prim.Native.Nat.{ℕ, _+_, _-_, _*_, _^_, _≤_, _<_}
-use native.Mathlib.Nat.{mul-comm, mul-sub, mul-pos, mul-zero}
+use native.Mathlib.Nat.{mul-comm, mul-sub}
 use native.Mathlib.Omega.{arith}
 use Rattle.laws.specs.Fraction.{Fraction, Is, _less_over_, _over_, _≼_}
 use Rattle.laws.proofs.Fraction.{positive, is-less-over, is-widened, below, numerators-below}
 use Rattle.records.specs.declared.Ends.{Ends}
 use Rattle.numbers.specs.Figures.{billionthsOf, Encloses, Between}
-use Rattle.numbers.proofs.Figures.{billionths-same, billionths-enclose, billionths-near, billionths-ordered, billionths-at-most, encloses-same}
+use Rattle.numbers.proofs.Figures.{billionths-same, billionths-enclose, billionths-near, billionths-ordered, billionths-at-most}
 use Rattle.spans.specs.Rounded.{endsOf, Probable, Near}
 
 -- ---- a fraction that is n/d
@@ -61,13 +61,3 @@ between {g} h = record {
 
 pub ends-enclose : {f : Fraction} {n d : ℕ} → 0 < d → Is f n 0 d → Enclosed (endsOf f) f
 ends-enclose {n = n} {d = d} p e = record { n = n; d = d; some = p; is = e; held = rw (ends-are p e) (billionths-enclose n p) }
-
--- over another denominator
-pub enclosed-over : {g : Ends} {f : Fraction} (k : ℕ) → 0 < k → Enclosed g f → Enclosed g f
-enclosed-over {g} k p h = record {
-  n = k * h .n;
-  d = k * h .d;
-  some = mul-pos p (h .some);
-  is = rw (mul-zero k) at (is-widened k (h .is));
-  held = encloses-same (10 ^ 9 * (k * h .n)) (k * h .d) (h .some) (omega arith) (h .held);
-}

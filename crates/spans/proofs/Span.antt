@@ -3,12 +3,13 @@ use mathlib.Core.Path.{_≡_, refl}
 use Prim.Native.Nat.{ℕ, _+_, _-_, _*_, _^_, _≤_}
 use native.Mathlib.Omega.{arith}
 use native.Mathlib.Nat.{mul-le-mul-right}
-use Rattle.laws.specs.Fraction.{_less_over_, _over_, _⊹_, _⊛_, Is}
+use Rattle.laws.specs.Fraction.{_less_over_, _over_, _⊹_, Is}
 use Rattle.laws.specs.Rounding.{ceil}
 use Rattle.laws.proofs.Fraction.{is-over, is-widened, is-⊹, is-⊛, is-shifted}
 use Rattle.records.specs.declared.Ends.{Ends}
-use Rattle.numbers.specs.Figures.{Proper, billionthsOf}
-use Rattle.numbers.proofs.Figures.{proper}
+use Rattle.numbers.specs.Figures.{billionthsOf}
+use Rattle.division.specs.Division.{Proper}
+use Rattle.division.proofs.Division.{proper}
 use Rattle.solas.specs.Span.{Touch, neither, one, both, touch, half, p, PAt, P}
 use Rattle.bands.specs.declared.Ratio.{Ratio}
 use Rattle.spans.specs.Rounded.{endsOf}
@@ -32,9 +33,6 @@ module _ (L x : ℕ) {r : Ratio} (some : 1 ≤ L) (c : Chance (p L x) L r) where
 
   pub part-at-most : x ≤ L → x * r .cm ≤ r .den
   part-at-most h = omega (arith, mul-le-mul-right (r .cm) h, c .centimetre)
-
-  pub inner-proper : Proper (r .num) (r .den)
-  inner-proper = proper (c .positive) (c .at-most-one) (omega (arith, c .narrow))
 
   pub one-end-proper : x ≤ L → Proper (r .num + x * r .cm) (2 * r .den)
   one-end-proper h = proper (omega (arith, c .positive)) (omega (arith, c .at-most-one, part-at-most h)) (omega (arith, c .narrow))

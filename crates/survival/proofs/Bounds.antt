@@ -1,20 +1,29 @@
 -- Bottom and top: they are what 01 says, one number each, by the value of s⁴ alone, at most one apart, and they enclose every survival. Assumes nothing.
 use Prim.Native.Nat.{ℕ, _+_, _*_, _/_, _^_, _≤_, _<_}
-use mathlib.Core.Path.{_≡_}
+use mathlib.Core.List.{[]}
+use mathlib.Core.Path.{_≡_, refl}
 use native.Mathlib.Nat.{le-refl, le-antisymm, le-trans, le-of-lt, lt-of-not-le, le-of-mul-le-mul-right, mul-le-mul-left}
 use native.Mathlib.Omega.{arith}
 use lib.Dec.{lit<}
 use Rattle.laws.specs.Fraction.{Fraction, whole, Is, _≈_, _≼_, _⊛_}
 use Rattle.laws.specs.Rounding.{ceil}
-use Rattle.laws.proofs.Fraction.{is-over, is-whole, ≈-refl, ≈-sym, ⊛-≈, ≼-of-≈, ≼-trans, below-across}
+use Rattle.laws.proofs.Polynomial.{_:^_, _:=_, _⊢_, poly1}
+use Rattle.laws.proofs.Fraction.{is-over, is-whole, is-written, ≈-refl, ≈-sym, ⊛-≈, ≼-of-≈, ≼-trans, below-across}
 use Rattle.laws.proofs.Roots.{powers-ordered, root-below, root-above}
-use Rattle.laws.proofs.FractionCompare.{across-below, is-times}
+use Rattle.laws.proofs.FractionCompare.{across-below, is-times, is-square}
 use Rattle.roots.proofs.Root.{down-of-fraction, up-of-fraction}
 use Rattle.roots.proofs.RootValue.{down-root, up-root}
-use Rattle.survival.specs.Ratio.{ratioOf}
-use Rattle.survival.specs.Survival.{Factor, root, given, ends, Sensible, Bottom, Top, BottomAndTop, scaledOf, roundedOf, tenThousandths, fourthPower, NotAbove, NotBelow}
-use Rattle.survival.proofs.Compare.{ratio-positive, is-ratio, is-fourth}
+use Rattle.numbers.specs.Ratio.{ratioOf}
+use Rattle.numbers.proofs.Ratios.{ratio-positive, is-ratio}
+use Rattle.survival.specs.Survival.{fourthPower, Factor, root, given, ends, Sensible, Bottom, Top, BottomAndTop, scaledOf, roundedOf, tenThousandths, NotAbove, NotBelow}
 use Rattle.survival.proofs.Factors.{same-survival, times-down, times-up}
+
+-- ---- fourth powers
+is-fourth : {x : Fraction} {n d : ℕ} → Is x n 0 d → Is (fourthPower x) (n ^ 4) 0 (d ^ 4)
+is-fourth {x} {n} {d} h = is-written (is-square (is-square h)) (twice n) refl (twice d)
+  where
+    twice : (n : ℕ) → (n ^ 2) ^ 2 ≡ n ^ 4
+    twice = poly1 (λ n. [] ⊢ (n :^ 2) :^ 2 := n :^ 4) tt
 
 -- ---- over numbers: the bottom and the top of the root of N/M
 module _ {f : Fraction} (h : Sensible (root f)) where
@@ -115,23 +124,6 @@ not-below-bottom (root f) {x} h p l =
     let k = across-below (is-ratio (h .0)) (is-fourth i) l in
     below-across (is-over (ends (root f) .bottom) {d = 10 ^ 4} (lit< tt)) i (lit< tt) (ratio-positive x)
     (omega (arith, root-above (ratioOf x .num) (ratioOf x .den) (ratioOf f .num) (ratioOf f .den) (ends (root f) .bottom) (10 ^ 4) (ratio-positive f) (omega arith) (omega (arith, bottom-of h .0))))
-
--- a given survival counts as itself: by fourth powers it is compared alike
-pub given-not-above : (n : ℕ) {x : Fraction} → whole 0 ≼ x → fourthPower x ≼ fourthPower (tenThousandths n) → NotAbove (given n) x
-given-not-above n {x} p l =
-    let i = is-ratio p in
-    let g = is-over n {d = 10 ^ 4} (lit< tt) in
-    let k = across-below (is-fourth i) (is-fourth g) l in
-    below-across i g (ratio-positive x) (lit< tt)
-    (omega (arith, root-below (ratioOf x .num) (ratioOf x .den) (n ^ 4) ((10 ^ 4) ^ 4) n (10 ^ 4) (lit< tt) (omega arith) (omega arith)))
-
-pub given-not-below : (n : ℕ) {x : Fraction} → whole 0 ≼ x → fourthPower (tenThousandths n) ≼ fourthPower x → NotBelow (given n) x
-given-not-below n {x} p l =
-    let i = is-ratio p in
-    let g = is-over n {d = 10 ^ 4} (lit< tt) in
-    let k = across-below (is-fourth g) (is-fourth i) l in
-    below-across g i (lit< tt) (ratio-positive x)
-    (omega (arith, root-above (ratioOf x .num) (ratioOf x .den) (n ^ 4) ((10 ^ 4) ^ 4) n (10 ^ 4) (lit< tt) (omega arith) (omega arith)))
 
 -- ---- at most one apart, and at most one
 pub ends-near : (s : Factor) → Sensible s → ends s .top ≤ ends s .bottom + 1

@@ -13,9 +13,10 @@ use Rattle.records.specs.declared.Finding.{Finding}
 use Rattle.records.specs.declared.Survival.{Survival}
 use Rattle.solas.specs.Survival.{s⁴}
 use Rattle.solas.proofs.Survival.{s⁴-not-negative, s⁴-at-most-one}
-use Rattle.survival.specs.Ratio.{ratioOf, Capped}
+use Rattle.numbers.specs.Ratio.{ratioOf}
+use Rattle.survival.specs.Caps.{Capped}
 use Rattle.survival.specs.Survival.{root, given, Sensible, factorOf, scaledOf, roundedOf, survivalOf}
-use Rattle.survival.specs.declared.Ratio.{Ratio}
+use Rattle.records.specs.declared.Ratio.{Ratio}
 use Rattle.survival.specs.declared.finding.Multiple.{Multiple}
 use Rattle.survival.proofs.Ratios.{caps-positive}
 

@@ -1,47 +1,18 @@
--- Fractions and their numerators and denominators: products, s⁴ and its bounds. Assumes nothing.
-use Prim.Native.Nat.{ℕ, _+_, _-_, _*_, _≤_, _<_, min}
+-- k and s⁴ by numerator and denominator, and their bounds. Assumes nothing.
+use Prim.Native.Nat.{ℕ, _-_, _*_, _≤_, _<_, min}
 use mathlib.Core.Bool.{Bool, true, false, cond}
 use mathlib.Core.Logic.{_⊎_, inl, inr, ⊎-elim}
 use mathlib.Core.Path.{_≡_, refl, ap, _∙_}
-use native.Mathlib.Nat.{mul-pos, mul-le-mul, min-le-right}
+use native.Mathlib.Nat.{mul-le-mul, min-le-right}
 use native.Mathlib.Omega.{arith}
 use lib.Dec.{leb, lit<}
 use borrow.Author.Tests.{le-leb, lt-leb}
-use Rattle.laws.specs.Fraction.{Fraction, den, _less_over_, _over_, whole, _⊛_}
-use Rattle.laws.proofs.Fraction.{positive}
+use Rattle.laws.specs.Fraction.{Fraction, _over_, whole, _⊛_}
 use Rattle.solas.specs.Survival.{k, s⁴}
 use Rattle.laws.proofs.Choice.{split}
-use Rattle.survival.specs.Ratio.{ratioOf, OfCaps, Capped}
-use Rattle.survival.specs.declared.Ratio.{Ratio}
-
-pub same-ratio : {a b c d : ℕ} → a ≡ c → b ≡ d → _≡_ {A = Ratio} (record { num = a; den = b }) (record { num = c; den = d })
-same-ratio p q = cc
-
-abbrev pub product : Ratio → Ratio → Ratio
-product r s = record { num = r .num * s .num; den = r .den * s .den }
-
-pub ratio-over : (n : ℕ) {d : ℕ} → 0 < d → ratioOf (n over d) ≡ record { num = n; den = d }
-unfolding ratioOf _less_over_
-ratio-over n h = same-ratio (omega arith) (omega arith)
-
--- of fractions that are written with no minus
-pub ratio-product : (f g : Fraction) → f .down ≡ 0 → g .down ≡ 0 → ratioOf (f ⊛ g) ≡ product (ratioOf f) (ratioOf g)
-unfolding ratioOf _⊛_ _less_over_
-ratio-product f g p q = same-ratio (rw (p, q) (upper (f .up) (g .up))) (omega (arith, mul-pos (positive f) (positive g)))
-  where
-    upper : (u w : ℕ) → u * w + 0 * 0 - (u * 0 + 0 * w) ≡ (u - 0) * (w - 0)
-    upper u w =
-        let a : u - 0 ≡ u = omega arith in
-        let b : w - 0 ≡ w = omega arith in
-        rw (a, b) (omega arith)
-
-pub over-plain : (n d : ℕ) → (n over d) .down ≡ 0
-unfolding _less_over_
-over-plain n d = refl
-
-pub product-plain : (f g : Fraction) → f .down ≡ 0 → g .down ≡ 0 → (f ⊛ g) .down ≡ 0
-unfolding _⊛_ _less_over_
-product-plain f g p q = rw (p, q) (omega arith)
+use Rattle.numbers.specs.Ratio.{ratioOf}
+use Rattle.numbers.proofs.Ratios.{product, ratio-over, ratio-product, over-plain, product-plain}
+use Rattle.survival.specs.Caps.{OfCaps, Capped}
 
 -- ---- k of a heel
 pub k-upright : (e : ℕ) → e ≤ 2500 → ratioOf (k e) ≡ record { num = 1; den = 1 }

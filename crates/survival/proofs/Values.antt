@@ -7,7 +7,7 @@ use Rattle.roots.specs.Root.{withDigits, rootDown, rootUp}
 use Rattle.records.specs.declared.Finding.{Finding}
 use Rattle.records.specs.declared.Survival.{Survival}
 use Rattle.solas.specs.Survival.{k, s⁴}
-use Rattle.survival.specs.Ratio.{ratioOf}
+use Rattle.numbers.specs.Ratio.{ratioOf}
 use Rattle.survival.specs.Survival.{factorOf, scaledOf, roundedOf, survivalOf}
 
 abbrev found : ℕ → ℕ → ℕ → Finding

@@ -1,2 +1,2 @@
-pub mod Ratio
+pub mod Caps
 pub mod Survival

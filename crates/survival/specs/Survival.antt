@@ -10,8 +10,8 @@ use Rattle.roots.specs.Root.{rootDown, rootUp}
 use Rattle.records.specs.declared.Finding.{Finding}
 use Rattle.records.specs.declared.Survival.{Survival}
 use Rattle.solas.specs.Survival.{s⁴}
-use Rattle.survival.specs.Ratio.{ratioOf}
-use Rattle.survival.specs.declared.Ratio.{Ratio}
+use Rattle.numbers.specs.Ratio.{ratioOf}
+use Rattle.records.specs.declared.Ratio.{Ratio}
 use Rattle.survival.specs.declared.finding.Multiple.{Multiple}
 
 -- the fourth root of a fraction, or so many ten-thousandths

@@ -1,14 +1,15 @@
 // The survival of a row's results: s⁴ as one fraction, and from it the bottom and the top in ten-thousandths.
-use crate::Ratio;
 use numbers::ceiling;
 use records::Finding;
+use records::Ratio;
 use records::Survival;
 use roots::root_down;
 use roots::root_up;
 ghost use mathlib.Core.Path.{_≡_};
 ghost use Prim.Native.Nat.{_*_, _^_, min};
 ghost use Rattle.solas.specs.Survival.{k, s⁴};
-ghost use Rattle.survival.specs.Ratio.{Capped, OfCaps, ratioOf};
+ghost use Rattle.numbers.specs.Ratio.{ratioOf};
+ghost use Rattle.survival.specs.Caps.{Capped, OfCaps};
 ghost use Rattle.survival.specs.Survival.{scaledOf, roundedOf, survivalOf, survivalsOf};
 
 // The caps of lever (mm) and range (hundredths of a degree), and the heels between which survival falls to nothing.

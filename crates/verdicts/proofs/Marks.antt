@@ -10,10 +10,10 @@ use Rattle.laws.specs.Fraction.{_over_, whole, _≼_}
 use Rattle.solas.specs.Index.{R, partialMark}
 use Rattle.laws.proofs.Choice.{split}
 use Rattle.laws.proofs.FractionCompare.{plain-not-negative}
-use Rattle.survival.specs.Ratio.{ratioOf, Proper}
+use Rattle.numbers.specs.Ratio.{ratioOf, Proper}
 use Rattle.verdicts.specs.Verdict.{reaches}
-use Rattle.survival.specs.declared.Ratio.{Ratio}
-use Rattle.survival.proofs.Ratios.{same-ratio, ratio-over, ratio-product, over-plain, product-plain}
+use Rattle.records.specs.declared.Ratio.{Ratio}
+use Rattle.numbers.proofs.Ratios.{same-ratio, ratio-over, ratio-product, over-plain, product-plain}
 
 -- ---- R and half of it
 pub required-long : (L : ℕ) → 10000 < L → ratioOf (R L) ≡ record { num = L + 2400; den = L + 15200 }

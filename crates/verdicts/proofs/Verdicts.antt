@@ -16,8 +16,8 @@ use Rattle.records.specs.declared.Ends.{Ends}
 use Rattle.records.specs.declared.Trio.{Trio}
 use Rattle.solas.specs.Index.{R, partialMark}
 use Rattle.solas.proofs.Required.{R-positive}
-use Rattle.survival.specs.Ratio.{ratioOf}
-use Rattle.survival.proofs.Compare.{ratio-positive, is-ratio}
+use Rattle.numbers.specs.Ratio.{ratioOf}
+use Rattle.numbers.proofs.Ratios.{ratio-positive, is-ratio}
 use Rattle.indices.specs.Index.{partials, attainedOf}
 use Rattle.indices.specs.Exact.{partialsOf}
 use Rattle.indices.proofs.Enclosure.{billionths-none, no-more-than-upper, no-less-than-lower, attained-no-more, attained-no-less}

@@ -8,7 +8,7 @@ use Rattle.laws.specs.Fraction.{Fraction, whole, _≼_, _≺_}
 use Rattle.numbers.specs.Figures.{billionths}
 use Rattle.records.specs.declared.Ends.{Ends}
 use Rattle.records.specs.declared.Trio.{Trio}
-use Rattle.survival.specs.Ratio.{ratioOf}
+use Rattle.numbers.specs.Ratio.{ratioOf}
 use Rattle.indices.specs.Index.{at, attainedOf}
 use Rattle.indices.specs.Exact.{RowAt, Sound, NoneAbove, NoneBelow, weightedSum, Thrice, AtAll, AtEach, partialsOf, exactA}
 use Rattle.verdicts.specs.Verdict.{verdictOf}

@@ -6,7 +6,7 @@ use lib.Dec.{leb}
 use lib.ListN.{getD}
 use Rattle.records.specs.declared.Ends.{Ends}
 use Rattle.records.specs.declared.Trio.{Trio}
-use Rattle.survival.specs.declared.Ratio.{Ratio}
+use Rattle.records.specs.declared.Ratio.{Ratio}
 
 -- is an end not below the mark? "All compared exactly"
 unfoldable pub reaches : ℕ → Ratio → Bool

@@ -1,11 +1,11 @@
 // The required index by a ship's length, the mark of each partial index, and the verdict from ends that reach them or do not.
 use records::Ends;
+use records::Ratio;
 use records::Trio;
-use survival::Ratio;
 ghost use mathlib.Core.Path.{_≡_};
 ghost use Prim.Native.Nat.{_^_, _≤_};
 ghost use Rattle.solas.specs.Index.{R, partialMark};
-ghost use Rattle.survival.specs.Ratio.{Proper, ratioOf};
+ghost use Rattle.numbers.specs.Ratio.{Proper, ratioOf};
 ghost use Rattle.verdicts.specs.Verdict.{reaches, allReach, verdictOf};
 
 // What a whole comes to in billionths.

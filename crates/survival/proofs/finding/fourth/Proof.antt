@@ -6,8 +6,8 @@ use Prim.Native.Nat.{ℕ, _≤_}
 use native.Mathlib.Nat.{mul-le-mul}
 use native.Mathlib.Omega.{arith}
 use Rattle.solas.specs.Survival.{k}
-use Rattle.survival.specs.Ratio.{ratioOf}
-use Rattle.survival.specs.declared.Ratio.{Ratio}
+use Rattle.numbers.specs.Ratio.{ratioOf}
+use Rattle.records.specs.declared.Ratio.{Ratio}
 use Rattle.survival.proofs.Ratios.{k-bounds, fourth-ratio}
 use Rattle.survival.proofs.finding.fourth.Statement.{statement}
 use Rattle.survival.proofs.finding.fourth.Tie as tie

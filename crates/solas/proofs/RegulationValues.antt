@@ -1,9 +1,12 @@
--- Figures worked out twice, by document 01's definitions and by the regulation's own, which must not differ; and the regulation's letters for a ship
--- that document 01 leaves out. Assumes nothing.
+-- Figures worked out twice, by document 01's definitions and by the regulation's own, which must not differ; the regulation's letters for a ship
+-- that document 01 leaves out, its survival, and its heights where nothing caps them. Assumes nothing.
 use mathlib.Core.Path.{_≡_, refl}
 use mathlib.Core.List.{[], _∷_}
-use lib.Dec.{leb→le}
-use Rattle.laws.specs.Fraction.{_less_over_, _over_, whole, _≈_, _≼?_, lesser, _⊹_, _⊝_, _⊛_, _⊘_}
+use native.Mathlib.Omega.{arith}
+use lib.Dec.{leb→le, lit<}
+use Rattle.laws.specs.Fraction.{Fraction, _less_over_, _over_, whole, _≈_, _≺_, _≼?_, lesser, _⊹_, _⊝_, _⊛_, _⊘_}
+use Rattle.laws.proofs.Fraction.{≈-refl, ≈-sym, ≈-trans, ⊛-≈}
+use Rattle.laws.proofs.FractionRing.{⊛-comm, ⊛-assoc}
 use Rattle.solas.specs.Span as span
 use Rattle.solas.specs.Penetration as penetration
 use Rattle.solas.specs.Ship.{Ship, abutting}
@@ -12,7 +15,7 @@ use Rattle.solas.specs.Height.{v, vAt}
 use Rattle.solas.specs.Index.{dp, attained, R}
 use Rattle.solas.specs.Regulation.{IsRoot, Jmax, Jkn, pk, lmax, b0, Jm, under√, Jk, b11, b12, b21, b22, J, Jn, p1, p2, p1or2, p, Jb, C, G1, J0, G2, G, r, pr, pi}
 use Rattle.solas.specs.RegulationIndex as regulation
-use Rattle.solas.specs.RegulationIndex.{millimetres, centimetres}
+use Rattle.solas.specs.RegulationIndex.{millimetres, centimetres, hundredths, Numbers, Final, none, at, uppermost, vOf, held, vm}
 use Rattle.solas.proofs.Values.{printed}
 
 abbrev short : Ship
@@ -56,3 +59,63 @@ index = (record { cross = refl }, record { cross = refl })
 pub required : (R 15000 ≈ 87 over 151) × (regulation.R (centimetres 15000) ≈ 87 over 151)
 unfolding R regulation.R regulation.R₀ _≼?_ _⊹_ _⊝_ _⊛_ _⊘_ _less_over_
 required = (record { cross = refl }, record { cross = refl })
+
+-- the fractions are numbers such as survival asks for
+abbrev pub fractions : Numbers
+fractions = record {
+  Number = Fraction;
+  _≐_ = _≈_;
+  _·_ = _⊛_;
+  fraction = λ f. f;
+  same-refl = ≈-refl;
+  same-sym = ≈-sym;
+  same-trans = ≈-trans;
+  same-product = ⊛-≈;
+  commutes = ⊛-comm;
+  associates = ⊛-assoc;
+  same-fraction = λ p. p;
+  fraction-product = λ f g. ≈-refl (f ⊛ g);
+}
+
+-- three of document 01's proved values, from the regulation's own formula, one for each case of K: 1/2 upright, 1/10 at a heel of 29.95 degrees, and
+-- 0 at 30 degrees
+pub half-survives : Final fractions (millimetres 30) (hundredths 400) (hundredths 0) (1 over 2)
+unfolding lesser _≼?_ _⊝_ _⊛_ _⊘_ _less_over_
+half-survives = record {
+  K = whole 1;
+  root = 1 over 2;
+  upright = λ p. record { cross = refl };
+  lost = λ p. absurd (omega (arith, p .cross));
+  heeled = λ p q. absurd (omega (arith, p .cross));
+  fourth-root = record { cross = refl };
+  product = record { cross = refl };
+}
+
+pub tenth-survives : Final fractions (millimetres 120) (hundredths 1600) (hundredths 2995) (1 over 10)
+unfolding lesser _≼?_ _⊝_ _⊛_ _⊘_ _less_over_
+tenth-survives = record {
+  K = 1 over 10;
+  root = whole 1;
+  upright = λ p. absurd (omega (arith, p .cross));
+  lost = λ p. absurd (omega (arith, p .cross));
+  heeled = λ p q. record { cross = refl };
+  fourth-root = record { cross = refl };
+  product = record { cross = refl };
+}
+
+pub none-survives : Final fractions (millimetres 30) (hundredths 400) (hundredths 3000) (whole 0)
+unfolding lesser _≼?_ _⊝_ _⊛_ _⊘_ _less_over_
+none-survives = record {
+  K = whole 0;
+  root = 1 over 2;
+  upright = λ p. absurd (omega (arith, p .cross));
+  lost = λ p. record { cross = refl };
+  heeled = λ p q. absurd (omega (arith, q .cross));
+  fourth-root = record { cross = refl };
+  product = record { cross = refl };
+}
+
+-- what the cap is for: without it boundaries 12 and 14 m above the waterline and the uppermost would share more than the whole
+pub uncapped-shares-too-much : whole 1 ≺ vm none (at (whole 12)) (whole 0) ⊹ vm (at (whole 12)) (at (whole 14)) (whole 0) ⊹ vm (at (whole 14)) (uppermost (whole 15)) (whole 0)
+unfolding vm held vOf regulation.v _≼?_ _⊹_ _⊝_ _⊛_ _⊘_ _less_over_
+uncapped-shares-too-much = record { cross = lit< tt }

@@ -1,9 +1,7 @@
 -- Fractions as the code carries them, by numerator and denominator. Assumes nothing.
-use mathlib.Core.Logic.{_⊎_}
-use mathlib.Core.Path.{_≡_}
 use Prim.Native.Nat.{ℕ, _-_, _*_, _^_, _≤_, _<_}
 use Rattle.laws.specs.Fraction.{Fraction, den}
-use Rattle.survival.specs.declared.Ratio.{Ratio}
+use Rattle.records.specs.declared.Ratio.{Ratio}
 
 -- the numerator and the denominator of a fraction that is not negative
 unfoldable pub ratioOf : Fraction → Ratio
@@ -14,12 +12,3 @@ pub record Proper (times : ℕ) (r : Ratio) : Type 0 where
   pub positive : 0 < r .den
   pub at-most-one : r .num ≤ r .den
   pub narrow : times * r .den < 2 ^ 64
-
--- what s⁴ is divided by: the caps of lever and range, and where the heel counts the square of its fall
-abbrev pub OfCaps : ℕ → Type 0
-OfCaps d = (d ≡ 192000) ⊎ (d ≡ 192000 * 250000)
-
--- a fraction from 0 to 1 over such a denominator
-pub record Capped (r : Ratio) : Type 0 where
-  pub at-most-one : r .num ≤ r .den
-  pub of-caps : OfCaps (r .den)

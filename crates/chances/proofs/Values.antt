@@ -7,6 +7,7 @@ use lib.Dec.{T, eqb}
 use Rattle.laws.specs.Fraction.{_less_over_, _⊹_, _⊛_}
 use Rattle.laws.specs.Rounding.{ceil}
 use Rattle.laws.proofs.Table.{every}
+use Rattle.records.specs.declared.Ends.{Ends}
 use Rattle.numbers.specs.Figures.{billionthsOf, portionOf, halvesOf}
 use Rattle.solas.specs.Span.{touch, p, P}
 use Rattle.solas.specs.Penetration.{c, d, G1, G3}
@@ -29,15 +30,12 @@ right s (row a n b′ b lower upper) = eqb (rowEnds s a n b′ b .lower) lower &
 abbrev pub printed : Ship
 printed = abutting 9900 1600 2 (0 ∷ 1500 ∷ 9900 ∷ [])
 
-pub first-row : rowEnds printed 1 1 0 800 ≡ record { lower = 0x072648b6; upper = 0x072648b7 }
-unfolding rowEnds rowOf lowest highest sumsOf withinEnds added taken QEnds mixed c d PEnds GEnds pEnds partEnds G1Ends G3Ends minus plus endsOf billionthsOf portionOf halvesOf ceil touch P p G1 G3 _⊹_ _⊛_ _less_over_
-first-row = refl
+abbrev ends : ℕ → ℕ → Ends
+ends lower upper = record { lower = lower; upper = upper }
 
-in-full :
-    T (every (right printed)
-    (row 1 1 0 800 0x072648b6 0x072648b7 ∷ row 1 2 0 800 0x03e36aea 0x03e36aec ∷ row 2 1 0 800 0x3091165e 0x3091165f ∷ []))
+pub in-full : (rowEnds printed 1 1 0 800 ≡ ends 0x072648b6 0x072648b7) × (rowEnds printed 1 2 0 800 ≡ ends 0x03e36aea 0x03e36aec) × (rowEnds printed 2 1 0 800 ≡ ends 0x3091165e 0x3091165f)
 unfolding rowEnds rowOf lowest highest sumsOf withinEnds added taken QEnds mixed c d PEnds GEnds pEnds partEnds G1Ends G3Ends minus plus endsOf billionthsOf portionOf halvesOf ceil touch P p G1 G3 _⊹_ _⊛_ _less_over_
-in-full = tt
+in-full = (refl, refl, refl)
 
 -- five zones; the first row's ends lie as far apart as any
 abbrev five : Ship

@@ -14,8 +14,8 @@ use Rattle.laws.specs.Bytes.{Octets, bytes}
 use Rattle.laws.proofs.Lists.{length-tabulate, getD-tabulate, tabulate-same, length-part, getD-part}
 use Rattle.laws.proofs.Bytes.{octets-cons, octets-append}
 use Rattle.records.specs.declared.Hull.{Hull}
-use Rattle.frames.specs.Fields.{byteAt, wordAt}
-use Rattle.frames.proofs.Fields.{octets-drop, word-drop, bytes-of-word}
+use Rattle.fields.specs.Fields.{byteAt, wordAt}
+use Rattle.fields.proofs.Fields.{octets-drop, word-drop, bytes-of-word}
 use Rattle.casefile.specs.Layout.{kindOf, fieldsOf, hullLength, placeOf, placesOf, hullOf, words, innerOf, hullBytes}
 use Rattle.casefile.specs.Valid.{Placed}
 use Rattle.casefile.proofs.Limits.{Sizes, Zones, rising-below}

@@ -11,7 +11,7 @@ use lib.Seq.{sets, sets-eq}
 use Rattle.laws.specs.Lists.{tabulate}
 use Rattle.laws.proofs.Lists.{part-of-part, tabulate-places, length-part}
 use Rattle.lines.specs.Lines.{Line}
-use Rattle.frames.specs.Fields.{wordAt}
+use Rattle.fields.specs.Fields.{wordAt}
 use Rattle.frames.specs.Hex.{pairs, bytesOf, proper}
 use Rattle.frames.proofs.Pairs.{proper-parts}
 use Rattle.frames.proofs.Decode.{bytes-pairs}

@@ -9,7 +9,7 @@ use Rattle.laws.proofs.Tests.{picked}
 use Rattle.records.specs.declared.Hull.{Hull}
 use Rattle.lines.specs.Lines.{Line}
 use Rattle.frames.specs.Hex.{pairs}
-use Rattle.frames.specs.Fields.{wordAt}
+use Rattle.fields.specs.Fields.{wordAt}
 use Rattle.casefile.specs.declared.Frame.{Frame}
 use Rattle.casefile.specs.declared.Progress.{Progress}
 use Rattle.casefile.specs.Layout.{kindOf, fieldsOf, isRow, headOf, rowOf, countOf}

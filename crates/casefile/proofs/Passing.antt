@@ -15,9 +15,9 @@ use Rattle.records.specs.declared.Hull.{Hull}
 use Rattle.lines.specs.Lines.{Line}
 use Rattle.lines.proofs.Lines.{written}
 use Rattle.frames.specs.Hex.{pairs, proper, badlyWritten, lineOf}
-use Rattle.frames.specs.Fields.{byteAt}
+use Rattle.fields.specs.Fields.{byteAt}
 use Rattle.frames.proofs.Pairs.{hex-pairs, pairs-octets}
-use Rattle.frames.proofs.Fields.{octets-drop}
+use Rattle.fields.proofs.Fields.{octets-drop}
 use Rattle.casefile.specs.Layout.{kindOf, fieldsOf, isHull, isRow, isEnd, frameLength, hullLength, shortestHull, hullOf, headOf, findingOf, resultsOf, rowOf, countOf, hullBytes, rowBytes, endBytes}
 use Rattle.casefile.specs.Limits.{sizesFit, zonesFit, rowFits}
 use Rattle.casefile.specs.Table.{wrongHullFrame, wrongFrame, wrongZones}

@@ -16,7 +16,7 @@ use Rattle.laws.proofs.Tests.{holds, picked}
 use Rattle.records.specs.declared.Finding.{Finding}
 use Rattle.records.specs.declared.RowHead.{RowHead}
 use Rattle.records.specs.declared.Hull.{Hull}
-use Rattle.frames.specs.Fields.{wordAt}
+use Rattle.fields.specs.Fields.{wordAt}
 use Rattle.casefile.specs.Record.{Row}
 use Rattle.casefile.specs.Limits.{rowFits}
 use Rattle.casefile.specs.Valid.{Formed, found, given, ValidRow}

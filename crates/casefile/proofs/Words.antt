@@ -12,8 +12,8 @@ use Rattle.laws.specs.Lists.{tabulate}
 use Rattle.laws.specs.Bytes.{Octets, bytes}
 use Rattle.laws.proofs.Lists.{length-tabulate, getD-tabulate, length-part, getD-part}
 use Rattle.laws.proofs.Bytes.{octets-append, bytes-octets}
-use Rattle.frames.specs.Fields.{byteAt, wordAt}
-use Rattle.frames.proofs.Fields.{bytes-of-word, word-of-bytes}
+use Rattle.fields.specs.Fields.{byteAt, wordAt}
+use Rattle.fields.proofs.Fields.{bytes-of-word, word-of-bytes}
 use Rattle.casefile.specs.Layout.{words}
 
 words-append : (xs ys : List ℕ) → words (xs ++ ys) ≡ words xs ++ words ys

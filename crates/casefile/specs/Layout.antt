@@ -9,7 +9,7 @@ use Rattle.laws.specs.Bytes.{bytes}
 use Rattle.records.specs.declared.Hull.{Hull}
 use Rattle.records.specs.declared.Finding.{Finding}
 use Rattle.records.specs.declared.RowHead.{RowHead}
-use Rattle.frames.specs.Fields.{byteAt, wordAt}
+use Rattle.fields.specs.Fields.{byteAt, wordAt}
 use Rattle.casefile.specs.Record.{Row}
 
 -- ---- kinds and lengths

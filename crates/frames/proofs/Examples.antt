@@ -8,7 +8,6 @@ use lib.ListN.{getD}
 use Rattle.laws.proofs.Table.{everyBelow}
 use Rattle.lines.specs.Lines.{Line}
 use Rattle.frames.specs.Hex.{digitOf, refusalOf, valueOf, pairOf, pairs, byteOf, bytesOf, digitsOnly, proper, badlyWritten, digit, hex}
-use Rattle.frames.specs.Fields.{wordAt}
 
 -- 0123456789abcdef
 abbrev digits : List ℕ
@@ -42,10 +41,6 @@ no-digit = refl
 end-digits : hex (15 ∷ 0 ∷ 3 ∷ []) ≡ endLine
 unfolding hex digit
 end-digits = refl
-
-count-high-first : wordAt (15 ∷ 1 ∷ 3 ∷ []) 1 ≡ 259
-unfolding wordAt
-count-high-first = refl
 
 abbrev line : List ℕ → Bool → Line
 line s c = record { text = s; closed = c }

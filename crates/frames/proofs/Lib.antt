@@ -4,6 +4,5 @@ pub mod Decode
 pub mod Marks
 pub mod CodeDecoding
 pub mod CodeEights
-pub mod Fields
 pub mod Examples
 pub mod Text

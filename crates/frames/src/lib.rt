@@ -1,14 +1,13 @@
-// What stands in a line of the case file: hexadecimal digits, and the fields that are read from a place of their bytes on.
+// What stands in a line of the case file: hexadecimal digits, decoded to bytes.
 ghost use mathlib.Core.Path.{_≡_};
 ghost use mathlib.Core.Bool.{cond, not, _&&_};
-ghost use Prim.Native.Nat.{_+_, _-_, _*_, _≤_, _<_, min};
+ghost use Prim.Native.Nat.{_+_, _-_, _*_, _≤_, min};
 ghost use lib.Dec.{leb};
 ghost use lib.ListN.{length, take, drop};
 ghost use lib.Seq.{sets};
 ghost use Rattle.laws.specs.Lists.{tabulate};
 ghost use Rattle.frames.specs.Hex.{digitOf, markOf, markAt, otherBelow, digitsOnly, bytesOf};
 ghost use Rattle.frames.specs.Decoding.{writtenOf};
-ghost use Rattle.frames.specs.Fields.{byteAt, wordAt};
 
 // What a pair of bytes is in a line of digits: the byte that it writes, or no pair of digits.
 pub enum Digit {
@@ -150,44 +149,4 @@ pub fn decode_text(text: &[u8], out: &mut [u8]) -> Written
         return Written::Badly;
     }
     Written::Bytes(n)
-}
-
-// A byte of a part of a line, 0 past its end.
-pub fn byte_at(f: &[u8], at: usize) -> u64
-    ensures value { λ r. ⌜ r ≡ byteAt (now (f .entry)) at ⌝ }
-    ensures small { λ r. ⌜ r < 256 ⌝ }
-{
-    if at < f.len() {
-        return f[at] as u64;
-    }
-    0
-}
-
-// Two bytes of a part of a line, the high one first.
-pub fn word_at(f: &[u8], at: usize) -> u64
-    ensures value { λ r. ⌜ r ≡ wordAt (now (f .entry)) at ⌝ }
-    ensures small { λ r. ⌜ r < 65536 ⌝ }
-{
-    if f.len() <= at {
-        return 0;
-    }
-    byte_at(f, at) * 256 + byte_at(f, at + 1)
-}
-
-// A byte of a part of a line that has it: it is read without a test.
-pub fn byte_in(f: &[u8], at: usize) -> u64
-    requires { ⌜ at < length (now f) ⌝ }
-    ensures value { λ r. ⌜ r ≡ byteAt (now (f .entry)) at ⌝ }
-    ensures small { λ r. ⌜ r < 256 ⌝ }
-{
-    f[at] as u64
-}
-
-// Two bytes of a part of a line that has both, the high one first.
-pub fn word_in(f: &[u8], at: usize) -> u64
-    requires { ⌜ at + 2 ≤ length (now f) ⌝ }
-    ensures value { λ r. ⌜ r ≡ wordAt (now (f .entry)) at ⌝ }
-    ensures small { λ r. ⌜ r < 65536 ⌝ }
-{
-    f[at] as u64 * 256 + f[at + 1] as u64
 }

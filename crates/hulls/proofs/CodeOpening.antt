@@ -15,7 +15,7 @@ use Rattle.lines.specs.Lines.{Line}
 use Rattle.frames.specs.declared.Written.the-variants.{Bytes}
 use Rattle.frames.specs.Hex.{pairs, proper, badlyWritten}
 use Rattle.frames.specs.Decoding.{writtenOf}
-use Rattle.frames.specs.Fields.{byteAt, wordAt}
+use Rattle.fields.specs.Fields.{byteAt, wordAt}
 use Rattle.frames.proofs.CodeDecoding.{well-written, byte-stored}
 use Rattle.casefile.specs.declared.Judgement.{Judgement}
 use Rattle.casefile.specs.Layout.{kindOf, fieldsOf, placeOf, hullOf}

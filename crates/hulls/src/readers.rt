@@ -1,7 +1,7 @@
 // The hull's record from the fields of its frame: the part of its bytes after the kind byte.
 ghost use mathlib.Core.Path.{_≡_};
 ghost use Prim.Native.Nat.{_+_, _*_, _<_};
-ghost use Rattle.frames.specs.Fields.{wordAt};
+ghost use Rattle.fields.specs.Fields.{wordAt};
 ghost use Rattle.casefile.specs.Layout.{placeOf, placesOf, hullOf};
 use records::Hull;
 
@@ -14,7 +14,7 @@ fn place(f: &[u8], m: usize, ls: u64, k: usize) -> u64
         return 0;
     }
     if k < m {
-        return frames::word_at(f, 7 + 2 * k);
+        return fields::word_at(f, 7 + 2 * k);
     }
     if k == m {
         return ls;
@@ -38,11 +38,11 @@ fn places(f: &[u8], m: usize, ls: u64) -> [u64; 21]
 pub fn hull(f: &[u8]) -> Hull
     ensures { λ r. ⌜ r ≡ hullOf (now (f .entry)) ⌝ }
 {
-    let ls = frames::word_at(f, 0);
-    let breadth = frames::word_at(f, 2);
-    let deepest = frames::word_at(f, 4);
-    let light = frames::word_at(f, 6);
-    let zones = frames::byte_at(f, 8) as usize;
+    let ls = fields::word_at(f, 0);
+    let breadth = fields::word_at(f, 2);
+    let deepest = fields::word_at(f, 4);
+    let light = fields::word_at(f, 6);
+    let zones = fields::byte_at(f, 8) as usize;
     let bulkheads = places(f, zones, ls);
     Hull {
         length: ls,

@@ -15,7 +15,7 @@ use Rattle.frames.specs.declared.Written.the-variants.{Bytes}
 use Rattle.frames.specs.Hex.{pairs, proper, badlyWritten}
 use Rattle.frames.specs.Decoding.{writtenOf}
 use Rattle.frames.proofs.CodeDecoding.{well-written}
-use Rattle.frames.specs.Fields.{wordAt}
+use Rattle.fields.specs.Fields.{wordAt}
 use Rattle.casefile.specs.declared.Frame.{Frame}
 use Rattle.casefile.specs.declared.Progress.{Progress}
 use Rattle.casefile.specs.Record.{Row}

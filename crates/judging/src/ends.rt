@@ -1,6 +1,6 @@
 // The end, judged after the rows before it by the table's order: refusals 6 and 9.
 ghost use mathlib.Core.Path.{_≡_};
-ghost use Rattle.frames.specs.Fields.{wordAt};
+ghost use Rattle.fields.specs.Fields.{wordAt};
 ghost use Rattle.casefile.specs.Table.{firstHolds, endChecks};
 ghost use Rattle.casefile.specs.Judging.{endJudged};
 use casefile::Frame;
@@ -25,7 +25,7 @@ pub fn end_number(h: Hull, p: Progress, count: u64) -> u64
 pub fn judge_end(f: &[u8], h: Hull, p: Progress) -> Frame
     ensures { λ r. ⌜ r ≡ endJudged h p (wordAt (now (f .entry)) 0) ⌝ }
 {
-    let count = frames::word_at(f, 0);
+    let count = fields::word_at(f, 0);
     let number = end_number(h, p, count);
     if number != 0 {
         return Frame::Wrong(number);

@@ -20,7 +20,7 @@ fn judge_frame(frame: &[u8], h: Hull, p: Progress) -> Frame
     requires { ⌜ 0 < length (now frame) ⌝ }
     ensures { λ r. ⌜ r ≡ frameJudged h p (now (frame .entry)) ⌝ }
 {
-    let kind = frames::byte_at(frame, 0);
+    let kind = fields::byte_at(frame, 0);
     if frame.len() != frame_length(kind) {
         return Frame::Wrong(3);
     }

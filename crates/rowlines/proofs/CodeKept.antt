@@ -11,7 +11,7 @@ use lib.Seq.{drop-drop}
 use Rattle.laws.proofs.Lists.{drop-take, getD-part}
 use Rattle.records.specs.declared.Finding.{Finding}
 use Rattle.records.specs.declared.RowHead.{RowHead}
-use Rattle.frames.specs.Fields.{byteAt}
+use Rattle.fields.specs.Fields.{byteAt}
 use Rattle.casefile.specs.Layout.{kindOf, fieldsOf, setLength, headOf, resultsOf}
 use Rattle.casefile.specs.Kept.{keptRow}
 

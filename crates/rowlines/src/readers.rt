@@ -12,10 +12,10 @@ pub fn head(kind: u64, f: &[u8]) -> RowHead
 {
     RowHead {
         kind,
-        first: frames::byte_in(f, 0),
-        count: frames::byte_in(f, 1),
-        depth: frames::word_in(f, 2),
-        height: frames::word_in(f, 4),
+        first: fields::byte_in(f, 0),
+        count: fields::byte_in(f, 1),
+        depth: fields::word_in(f, 2),
+        height: fields::word_in(f, 4),
     }
 }
 
@@ -26,9 +26,9 @@ fn finding(kind: u64, f: &[u8]) -> Finding
 {
     if kind == 2 {
         return Finding {
-            lever: frames::word_in(f, 0),
-            range: frames::word_in(f, 2),
-            heel: frames::word_in(f, 4),
+            lever: fields::word_in(f, 0),
+            range: fields::word_in(f, 2),
+            heel: fields::word_in(f, 4),
             given: 0,
         };
     }
@@ -36,7 +36,7 @@ fn finding(kind: u64, f: &[u8]) -> Finding
         lever: 0,
         range: 0,
         heel: 0,
-        given: frames::word_in(f, 0),
+        given: fields::word_in(f, 0),
     }
 }
 

@@ -1,7 +1,7 @@
 -- `places` meets its contract: the places passed are filled. Assumes nothing.
 use Prim.Native.Nat.{_+_, _-_, _*_}
 use mathlib.Core.Path.{refl}
-use Rattle.frames.specs.Fields.{wordAt}
+use Rattle.fields.specs.Fields.{wordAt}
 use Rattle.casefile.specs.Layout.{placeOf}
 use Rattle.laws.proofs.Lists.{Filled, none-filled, one-filled, all-filled}
 use borrow.Author.Needs.{needs}

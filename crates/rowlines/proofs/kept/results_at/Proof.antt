@@ -1,7 +1,7 @@
 -- `results_at` meets its contract. Assumes nothing.
 use Prim.Native.Nat.{_*_}
 use denote.Ref.{now}
-use Rattle.frames.specs.Fields.{byteAt}
+use Rattle.fields.specs.Fields.{byteAt}
 use Rattle.rowlines.proofs.CodeKept.{longest-fields, results-kept}
 use borrow.Author.Needs.{needs}
 use native.Mathlib.Omega.{arith}

@@ -3,11 +3,11 @@ use mathlib.Core.Path.{ap₂}
 use Prim.Native.Nat.{_+_, _*_}
 use lib.ListN.{List·getD-eq-default}
 use denote.Ref.{now}
-use Rattle.frames.specs.Fields.{wordAt}
+use Rattle.fields.specs.Fields.{wordAt}
 use borrow.Author.Needs.{needs}
 use native.Mathlib.Omega.{arith}
-use Rattle.frames.proofs.word_at.Statement.{statement}
-use Rattle.frames.proofs.word_at.Tie as tie
+use Rattle.fields.proofs.word_at.Statement.{statement}
+use Rattle.fields.proofs.word_at.Tie as tie
 
 returns : tie.Need-returns
 unfolding wordAt

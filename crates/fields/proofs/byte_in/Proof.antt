@@ -2,8 +2,8 @@
 use mathlib.Core.Path.{refl}
 use borrow.Author.Needs.{needs}
 use native.Mathlib.Omega.{arith}
-use Rattle.frames.proofs.byte_in.Statement.{statement}
-use Rattle.frames.proofs.byte_in.Tie as tie
+use Rattle.fields.proofs.byte_in.Statement.{statement}
+use Rattle.fields.proofs.byte_in.Tie as tie
 
 shared-slice-read-result : tie.Need-shared-slice-read-result
 shared-slice-read-result c = search needs

@@ -1,11 +1,11 @@
 -- `word_in` meets its contract. Assumes nothing.
 use Prim.Native.Nat.{_+_}
 use mathlib.Core.Path.{refl}
-use Rattle.frames.specs.Fields.{wordAt}
+use Rattle.fields.specs.Fields.{wordAt}
 use borrow.Author.Needs.{needs}
 use native.Mathlib.Omega.{arith}
-use Rattle.frames.proofs.word_in.Statement.{statement}
-use Rattle.frames.proofs.word_in.Tie as tie
+use Rattle.fields.proofs.word_in.Statement.{statement}
+use Rattle.fields.proofs.word_in.Tie as tie
 
 shared-slice-read-result : tie.Need-shared-slice-read-result
 shared-slice-read-result c = search needs

@@ -7,7 +7,7 @@ use lib.ListN.{drop}
 use lib.Seq.{getD-drop}
 use Rattle.laws.specs.Bytes.{Octets, bytes}
 use Rattle.laws.proofs.Bytes.{two-bytes}
-use Rattle.frames.specs.Fields.{byteAt, wordAt}
+use Rattle.fields.specs.Fields.{byteAt, wordAt}
 
 pub octets-drop : (k : ℕ) (f : List ℕ) → Octets f → Octets (drop k f)
 octets-drop k f o i = rw (getD-drop k f i 0) (o (k + i))

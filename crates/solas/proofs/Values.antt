@@ -1,34 +1,18 @@
 -- Values that refuse a slip in the definitions of this crate at once; document 01's own table is crates/promises/specs/Values.antt. Assumes nothing.
-use Prim.Native.Nat.{_+_}
 use mathlib.Core.Path.{_≡_, refl}
 use mathlib.Core.List.{[], _∷_}
-use lib.Dec.{ltb, leb→le, ltb→lt}
-use lib.ListN.{getD}
 use Rattle.laws.specs.Fraction.{_less_over_, _over_, whole, _⊹_, _⊝_, _⊛_, _≈_}
-use Rattle.laws.proofs.Table.{every-number}
 use Rattle.solas.specs.Span.{touch, p, P}
 use Rattle.solas.specs.Penetration.{C, G1, G3, G, Q}
-use Rattle.solas.specs.Ship.{Ship, Sound, abutting}
-use Rattle.solas.specs.Layers.{Complete}
+use Rattle.solas.specs.Ship.{Ship, abutting}
 use Rattle.solas.specs.Share.{within, share}
 use Rattle.solas.specs.Height.{v, top}
 use Rattle.solas.specs.Survival.{k, s⁴}
 use Rattle.solas.specs.Index.{dp, draughts, R}
-use Rattle.solas.proofs.Sound.{abutting-sound}
 
 -- the hull of "One file in full": two zones that meet at 1,500
 abbrev pub printed : Ship
 printed = abutting 9900 1600 2 (0 ∷ 1500 ∷ 9900 ∷ [])
-
--- it is a sound ship
-pub printed-sound : Sound printed
-printed-sound =
-    abutting-sound 9900 1600 2 (0 ∷ 1500 ∷ 9900 ∷ []) (leb→le 8000 9900 tt) (leb→le 9900 19800 tt) (ltb→lt 0 1600 tt) (leb→le 1 2 tt) refl refl
-    (λ k h. ltb→lt (getD (0 ∷ 1500 ∷ 9900 ∷ []) k 0) (getD (0 ∷ 1500 ∷ 9900 ∷ []) (k + 1) 0) (every-number (λ k. ltb (getD (0 ∷ 1500 ∷ 9900 ∷ []) k 0) (getD (0 ∷ 1500 ∷ 9900 ∷ []) (k + 1) 0)) 2 tt k h))
-
--- its one layer of one height is complete
-pub printed-complete : Complete 6000 (18500 ∷ [])
-printed-complete = record { rising = (ltb→lt 0 18500 tt, tt); closed = leb→le 18500 18500 tt }
 
 pub p-1500 : p 9900 1500 ≈ 35 over 396
 unfolding p _less_over_

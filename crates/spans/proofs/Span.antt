@@ -16,6 +16,8 @@ use Rattle.spans.specs.Rounded.{endsOf}
 use Rattle.bands.specs.Bands.{Chance}
 use Rattle.spans.specs.Span.{pEnds, PEnds, spanEnds, touches}
 use Rattle.spans.proofs.Rounded.{ends-are}
+-- checked first, so that a definition that gives another number is refused there
+use Rattle.spans.proofs.Values.{chance}
 
 module _ (L x : ℕ) {r : Ratio} (some : 1 ≤ L) (c : Chance (p L x) L r) where
   -- p, and a part of the ship, over one denominator

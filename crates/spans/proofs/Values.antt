@@ -18,7 +18,7 @@ unfolding pEnds endsOf billionthsOf ceil p _less_over_
 inner = (refl, refl)
 
 -- 95/792 at either end of the ship, and the whole ship
-chance :
+pub chance :
     (PEnds 9900 0 1500 ≡ ends 119949494 119949495)
     × (PEnds 9900 8400 9900 ≡ ends 119949494 119949495)
     × (PEnds 9900 1000 2500 ≡ ends 88383838 88383839)

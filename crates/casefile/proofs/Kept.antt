@@ -1,11 +1,12 @@
 -- The rows that are kept: how many, by the bytes before a place alone, and one more from its line. Assumes nothing.
 use Prim.Native.Nat.{ℕ, zero, suc, _+_, _*_, _≤_}
 use mathlib.Core.Path.{_≡_, refl, sym, _∙_, ap}
-use mathlib.Core.Bool.{true}
+use mathlib.Core.Bool.{Bool, true, false, cond}
 use mathlib.Core.List.{List, [], _∷_, _++_}
 use mathlib.Core.Logic.{_⊎_, inl, inr}
 use native.Mathlib.Nat.{zero-add, add-zero}
 use native.Mathlib.Omega.{arith}
+use lib.Dec.{eqb}
 use lib.ListN.{length, getD, take, drop}
 use lib.Seq.{sets, sets-eq}
 use Rattle.laws.specs.Lists.{tabulate}
@@ -72,13 +73,14 @@ row-in-front bs rest k n = by (of-row-kind (kindOf bs) k)
     by (inl e) = rw (as-table 25 (rw e at n)) at (found-in-front (λ i. getD bs i 0) rest e)
     by (inr e) = rw (as-table 13 (rw e at n)) at (given-in-front (λ i. getD bs i 0) rest e)
 
-short-frame : (bs : List ℕ) → isRow (kindOf bs) ≡ true → length bs ≡ frameLength (kindOf bs) → length bs ≤ 25
+pub longest-frame : (k : ℕ) → frameLength k ≤ 25
 unfolding frameLength
-short-frame bs k n = by (of-row-kind (kindOf bs) k)
+longest-frame k = by (eqb k 2) (eqb k 3)
   where
-    by : (kindOf bs ≡ 2) ⊎ (kindOf bs ≡ 3) → length bs ≤ 25
-    by (inl e) = omega (arith, rw e at n)
-    by (inr e) = omega (arith, rw e at n)
+    by : (t u : Bool) → cond t 25 (cond u 13 3) ≤ 25
+    by true u = omega arith
+    by false true = omega arith
+    by false false = omega arith
 
 -- ---- a line's bytes written to place i of a buffer that was
 
@@ -96,5 +98,5 @@ row-placed kept was i p l w room q k =
     let good : proper (l .text) ≡ true = well-written l (q .written) .0 in
     let n : length bs ≡ frameLength (kindOf bs) = fits l (q .written) (q .frame) .1 in
     let wide : length place ≡ 25 = length-part (25 * i) 25 was room in
-    let e : take 25 (drop (25 * i) kept) ≡ bs ++ drop (0 + length bs) place = w .here ∙ ap (sets place 0) (bytes-pairs (l .text) (proper-parts (l .text) good .2)) ∙ sets-eq bs place 0 (omega (arith, wide, short-frame bs k n)) in
+    let e : take 25 (drop (25 * i) kept) ≡ bs ++ drop (0 + length bs) place = w .here ∙ ap (sets place 0) (bytes-pairs (l .text) (proper-parts (l .text) good .2)) ∙ sets-eq bs place 0 (omega (arith, wide, n, longest-frame (kindOf bs))) in
     ap rowOf e ∙ row-in-front bs (drop (0 + length bs) place) k n

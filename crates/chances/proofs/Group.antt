@@ -18,6 +18,7 @@ use Rattle.penetration.specs.Layer.{layerOf}
 use Rattle.chances.specs.declared.Bulkheads.{Bulkheads}
 use Rattle.chances.specs.Lent.{Lent, Layered, bulkheadsOf, across, sumsAcross}
 use Rattle.chances.specs.Share.{withinEnds, sumsOf, nothing, Few, lowest, highest, rowOf, rowEnds}
+-- checked first, so that a definition that gives another number is refused there
 use Rattle.chances.proofs.Values.{in-full}
 use Rattle.chances.proofs.Within.{zones-within}
 use Rattle.spans.specs.Hull.{shipOf, Hulled}

@@ -13,6 +13,7 @@ use Rattle.solas.specs.Span.{touch, p, P}
 use Rattle.solas.specs.Penetration.{c, d, G1, G3}
 use Rattle.solas.specs.Ship.{Ship, abutting}
 use Rattle.solas.specs.Count.{added, taken}
+use Rattle.solas.proofs.Values.{printed}
 use Rattle.spans.specs.Rounded.{endsOf}
 use Rattle.penetration.specs.Figures.{plus, minus}
 use Rattle.spans.specs.Span.{pEnds, PEnds}
@@ -26,10 +27,7 @@ data Row : Type 0 where
 abbrev right : Ship → Row → Bool
 right s (row a n b′ b lower upper) = eqb (rowEnds s a n b′ b .lower) lower && eqb (rowEnds s a n b′ b .upper) upper
 
--- "One file in full": two zones that meet at 1,500, each row down to B/2
-abbrev pub printed : Ship
-printed = abutting 9900 1600 2 (0 ∷ 1500 ∷ 9900 ∷ [])
-
+-- "One file in full"
 abbrev ends : ℕ → ℕ → Ends
 ends lower upper = record { lower = lower; upper = upper }
 

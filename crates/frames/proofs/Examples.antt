@@ -1,4 +1,4 @@
--- Digits and fields, computed: every byte as a digit, a line of document 01's printed file, and lines that are badly written. Assumes nothing.
+-- Digits worked out, at which a wrong definition is refused. Assumes nothing.
 use Prim.Native.Nat.{ℕ}
 use mathlib.Core.Path.{_≡_, refl}
 use mathlib.Core.Bool.{Bool, true, false, cond, _||_}

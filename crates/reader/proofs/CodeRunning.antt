@@ -1,4 +1,4 @@
--- What the loop over the lines keeps: the reading of the whole is the reading of the rest in the present state. Assumes nothing.
+-- What the loop over the lines keeps: the reading of the whole is that of the rest in the present state, after the rows that are kept. Assumes nothing.
 use Prim.Native.Nat.{ℕ, _+_, _-_, _*_, _≤_, _<_}
 use mathlib.Core.Path.{_≡_, refl, sym, _∙_, ap}
 use mathlib.Core.Bool.{Bool, true, false}

@@ -1,4 +1,4 @@
-// The lines after the hull in turn, and the entry: any bytes whatever are refused or counted.
+// The lines after the hull in turn, and the entry: any bytes whatever are refused, or counted and their rows kept.
 ghost use mathlib.Core.Path.{_≡_};
 ghost use Prim.Native.Nat.{_+_, _*_, _≤_};
 ghost use lib.ListN.{length, drop};

@@ -10,6 +10,7 @@ use borrow.Author.Tests.{eq-eqb, ne-eqb, eqb-false}
 use Rattle.laws.proofs.Lists.{rest-of}
 use Rattle.casefile.specs.Layout.{kindOf, isRow, isEnd, frameLength, setLength}
 use Rattle.casefile.specs.Table.{wrongFrame}
+use Rattle.casefile.proofs.Kept.{longest-frame}
 
 pub row-kind : (k : ℕ) → 2 ≤ k → k ≤ 3 → isRow k ≡ true
 row-kind k a b = by (eqb k 2) refl
@@ -53,15 +54,6 @@ module _ (bs : List ℕ) (k : ℕ) (e : k ≡ kindOf bs) where
             let other : k ≡ 2 → ⊥ = eqb-false k 2 g in
             let three : eqb k 3 ≡ true = eq-eqb k 3 (omega arith) in
             omega (arith, rw three at m)
-
-longest-frame : (k : ℕ) → frameLength k ≤ 25
-unfolding frameLength
-longest-frame k = by (eqb k 2) (eqb k 3)
-  where
-    by : (t u : Bool) → cond t 25 (cond u 13 3) ≤ 25
-    by true u = omega arith
-    by false true = omega arith
-    by false false = omega arith
 
 pub frame-too-long : (bs : List ℕ) → 25 < length bs → wrongFrame bs ≡ true
 frame-too-long bs l = wrong-length bs (kindOf bs) refl (λ f. omega (arith, longest-frame (kindOf bs)))

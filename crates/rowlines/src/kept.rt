@@ -13,10 +13,10 @@ pub fn head_at(kept: &[u8], i: usize) -> RowHead
     ensures { λ r. ⌜ r ≡ keptRow (now (kept .entry)) i .head ⌝ }
 {
     let place = 25 * i;
-    let fields = place + 1;
+    let after = place + 1;
     let next = place + 25;
     let kind = kept[place] as u64;
-    readers::head(kind, &kept[fields..next])
+    readers::head(kind, &kept[after..next])
 }
 
 // Its three results.
@@ -25,8 +25,8 @@ pub fn results_at(kept: &[u8], i: usize) -> [Finding; 3]
     ensures { λ r. ⌜ r ≡ keptRow (now (kept .entry)) i .results ⌝ }
 {
     let place = 25 * i;
-    let fields = place + 1;
+    let after = place + 1;
     let next = place + 25;
     let kind = kept[place] as u64;
-    readers::results(kind, &kept[fields..next])
+    readers::results(kind, &kept[after..next])
 }

@@ -1,4 +1,4 @@
--- What s⁴ is a fraction of. Assumes nothing.
+-- The denominators of s⁴: both caps, and with the fall between two heels. Assumes nothing.
 use mathlib.Core.Logic.{_⊎_}
 use mathlib.Core.Path.{_≡_}
 use Prim.Native.Nat.{ℕ, _*_, _≤_}

@@ -61,7 +61,7 @@ enum-told : tie.Need-enum-told Inv-loop μ-loop
 enum-told c = search needs
 
 same-length : tie.Need-same-length Inv-loop μ-loop
-same-length c = (place-written _ _ _ _ _ _ _ _ _ (c .before .before .before .before .before .before .before .before .before .before .loop .inv) _ _ (c .before .before .before .before .before .judge-line .ensures .1)) .long ∙ c .before .before .before .before .before .before .before .before .before .before .loop .inv .long
+same-length c = omega (arith, c .before .before .before .before .before .before .before .before .before .before .loop .inv .long)
 
 returns : tie.Need-returns Inv-loop μ-loop
 returns c = run-stops _ _ _ _ _ _ _ _ _ (c .before .before .before .before .before .before .before .before .before .before .loop .inv) _ (c .before .before .before .before .before .before .before .before .line-end .ensures) (omega arith) _ _ (c .before .before .before .before .before .judge-line .ensures .0) (c .before .before .step .ensures) _ (place-written _ _ _ _ _ _ _ _ _ (c .before .before .before .before .before .before .before .before .before .before .loop .inv) _ _ (c .before .before .before .before .before .judge-line .ensures .1)) _ _ (c .enum-told .given .1)

@@ -10,8 +10,8 @@ use Rattle.rowlines.proofs.kept.head_at.Tie as tie
 mul-place : tie.Need-mul-place
 mul-place c = search needs
 
-add-fields : tie.Need-add-fields
-add-fields c = search needs
+add-after : tie.Need-add-after
+add-after c = search needs
 
 add-next : tie.Need-add-next
 add-next c = search needs
@@ -42,7 +42,7 @@ head-at-spec =
     tie.close
     (tie.spec
     mul-place
-    add-fields
+    add-after
     add-next
     shared-slice-read-kind
     cast-kind

@@ -1,4 +1,4 @@
--- Document 01's table of proved values: those of single figures as solas has them, the others by computation from the definitions. Assumes nothing.
+-- Document 01's table of proved values: C, G1, v and R as solas has them, the others by computation from the definitions. Assumes nothing.
 use Prim.Native.Nat.{ℕ}
 use mathlib.Core.Path.{refl}
 use native.Mathlib.Omega.{arith}

@@ -1,13 +1,23 @@
 -- What the code says of a line's text: the bytes that it writes, or refusal 2. Assumes nothing.
-use Prim.Native.Nat.{ℕ, _/_}
+use Prim.Native.Nat.{ℕ, zero, suc, _/_}
 use mathlib.Core.Path.{_≡_}
-use mathlib.Core.Bool.{true, false, cond}
+use mathlib.Core.Bool.{Bool, true, false, cond, _||_}
 use mathlib.Core.List.{List}
-use lib.ListN.{length}
+use lib.Dec.{eqb}
+use lib.ListN.{length, getD}
 use Rattle.lines.specs.Lines.{Line}
 use Rattle.frames.specs.declared.Written.{Written}
 use Rattle.frames.specs.declared.Written.the-variants.{Bytes, Badly}
-use Rattle.frames.specs.Hex.{pairs, proper, badlyWritten}
+use Rattle.frames.specs.Hex.{digitOf, markOf, pairs, proper, badlyWritten}
+
+-- the mark of a line's byte at a place
+abbrev pub markAt : List ℕ → ℕ → ℕ
+markAt s i = markOf (digitOf (getD s i 0))
+
+-- one of the first so many marks is that of no digit
+unfoldable pub otherBelow : List ℕ → ℕ → Bool
+otherBelow marks zero = false
+otherBelow marks (suc k) = otherBelow marks k || eqb (getD marks k 0) 16
 
 -- two digits a byte
 unfoldable pub writtenOf : List ℕ → Written

@@ -1,8 +1,8 @@
 -- Document 01, "The case file": lower-case hexadecimal, two digits a byte, the high one first. Assumes nothing.
-use Prim.Native.Nat.{ℕ, zero, suc, _+_, _-_, _*_, _/_, _%_}
-use mathlib.Core.Bool.{Bool, true, false, cond, not, _&&_, _||_}
+use Prim.Native.Nat.{ℕ, _+_, _-_, _*_, _/_, _%_}
+use mathlib.Core.Bool.{Bool, true, cond, not, _&&_, _||_}
 use mathlib.Core.List.{List, [], _∷_, _++_}
-use lib.ListN.{length, getD}
+use lib.ListN.{length}
 use lib.Dec.{leb, ltb, eqb}
 use Rattle.lines.specs.Lines.{Line}
 use Rattle.frames.specs.declared.Digit.{Digit}
@@ -25,15 +25,6 @@ valueOf Bad = 0
 abbrev pub markOf : Digit → ℕ
 markOf (Value v) = v
 markOf Bad = 16
-
--- the mark of a line's byte at a place
-abbrev pub markAt : List ℕ → ℕ → ℕ
-markAt s i = markOf (digitOf (getD s i 0))
-
--- one of the first so many marks is that of no digit
-unfoldable pub otherBelow : List ℕ → ℕ → Bool
-otherBelow marks zero = false
-otherBelow marks (suc k) = otherBelow marks k || eqb (getD marks k 0) 16
 
 abbrev pub joined : Digit → Digit → Digit
 joined (Value h) (Value l) = Value (h * 16 + l)

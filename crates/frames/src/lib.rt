@@ -6,8 +6,8 @@ ghost use lib.Dec.{leb};
 ghost use lib.ListN.{length, take, drop};
 ghost use lib.Seq.{sets};
 ghost use Rattle.laws.specs.Lists.{tabulate};
-ghost use Rattle.frames.specs.Hex.{digitOf, markOf, markAt, otherBelow, digitsOnly, bytesOf};
-ghost use Rattle.frames.specs.Decoding.{writtenOf};
+ghost use Rattle.frames.specs.Hex.{digitOf, markOf, digitsOnly, bytesOf};
+ghost use Rattle.frames.specs.Decoding.{markAt, otherBelow, writtenOf};
 
 // What a pair of bytes is in a line of digits: the byte that it writes, or no pair of digits.
 pub enum Digit {

@@ -2,7 +2,7 @@
 use Prim.Native.Nat.{_+_, _-_}
 use mathlib.Core.Path.{refl}
 use Rattle.laws.proofs.Lists.{Filled, none-filled, one-filled, all-filled}
-use Rattle.frames.specs.Hex.{markAt}
+use Rattle.frames.specs.Decoding.{markAt}
 use borrow.Author.Needs.{needs}
 use native.Mathlib.Omega.{arith}
 use Rattle.frames.proofs.sixteen.Statement.{statement}

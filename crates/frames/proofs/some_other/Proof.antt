@@ -3,7 +3,7 @@ use mathlib.Core.Path.{_≡_}
 use Prim.Native.Nat.{_-_, _≤_}
 use native.Mathlib.Omega.{arith}
 use borrow.Author.Needs.{needs}
-use Rattle.frames.specs.Hex.{otherBelow}
+use Rattle.frames.specs.Decoding.{otherBelow}
 use Rattle.frames.proofs.CodeEights.{other-none, other-more}
 use Rattle.frames.proofs.some_other.Statement.{statement}
 use Rattle.frames.proofs.some_other.Tie as tie

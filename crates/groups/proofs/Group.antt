@@ -9,15 +9,15 @@ use Rattle.records.specs.declared.Hull.{Hull}
 use Rattle.solas.specs.Ship.{Ship}
 use Rattle.solas.specs.Count.{added, taken, Group}
 use Rattle.penetration.specs.declared.Layer.{Layer}
 use Rattle.chances.specs.declared.Sums.{Sums}
 use Rattle.spans.specs.Rounded.{Probable}
 use Rattle.penetration.specs.Figures.{plus}
 use Rattle.penetration.specs.Layer.{layerOf}
-use Rattle.chances.specs.declared.Bulkheads.{Bulkheads}
-use Rattle.chances.specs.Lent.{Lent, Layered, bulkheadsOf, across, sumsAcross}
+use Rattle.groups.specs.declared.Bulkheads.{Bulkheads}
+use Rattle.groups.specs.Lent.{Lent, Layered, bulkheadsOf, across, sumsAcross}
 use Rattle.chances.specs.Share.{withinEnds, sumsOf, nothing, Few, rowOf, rowEnds}
 use Rattle.chances.proofs.Ends.{few-none}
-use Rattle.chances.proofs.Within.{zones-within}
+use Rattle.groups.proofs.Within.{zones-within}
 use Rattle.spans.specs.Hull.{shipOf, Hulled}
 use Rattle.spans.specs.Table.{tableOf}
 

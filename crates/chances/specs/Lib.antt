@@ -1,3 +1,2 @@
 pub mod Share
-pub mod Lent
 pub mod Promises

@@ -83,7 +83,7 @@ fn share_in(t: &[u64], h: Hull, a: u64, n: u64, b1: u64, b2: u64) -> Ends
     if !row_fits(h, a, n, b1, b2) {
         return Ends { lower: 0, upper: 0 };
     }
-    chances::share_ends(t, h, a as usize, n as usize, b1, b2)
+    groups::share_ends(t, h, a as usize, n as usize, b1, b2)
 }
 
 // The share of the row whose four numbers stand at a place.

@@ -14,7 +14,7 @@ use Rattle.records.specs.declared.Trio.{Trio}
 use Rattle.solas.specs.Count.{added, taken}
 use Rattle.solas.specs.Index.{draughts}
 use Rattle.chances.specs.Share.{withinEnds, sumsOf, nothing, Few, lowest, highest, rowOf, rowEnds}
-use Rattle.chances.proofs.Group.{few-none}
+use Rattle.chances.proofs.Ends.{few-none}
 use Rattle.indices.specs.Index.{partials, plus, Share, Given, Within}
 use Rattle.indices.proofs.Rows.{row-weights}
 use Rattle.indices.proofs.Sums.{partials-snoc, row-within, plus-within, none-within, within-wider}

@@ -10,7 +10,7 @@ use Rattle.records.specs.declared.Ends.{Ends}
 use Rattle.spans.specs.Hull.{shipOf}
 use Rattle.chances.specs.declared.Sums.{Sums}
 use Rattle.chances.specs.Share.{sumsOf, nothing, rowOf, rowEnds}
-use Rattle.chances.proofs.Group.{no-sums}
+use Rattle.groups.proofs.Group.{no-sums}
 use Rattle.casefile.specs.Order.{sameGroup, sameLayer}
 use Rattle.rows.specs.declared.Standing.{Standing}
 use Rattle.rows.specs.declared.Part.{Part}

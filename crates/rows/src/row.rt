@@ -16,7 +16,7 @@ use super::Running;
 use super::Standing;
 use chances::Sums;
 use chances::row_ends;
-use chances::sums_at;
+use groups::sums_at;
 use records::Ends;
 use records::Finding;
 use records::Hull;

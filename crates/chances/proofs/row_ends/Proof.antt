@@ -1,7 +1,7 @@
 -- `chances::row_ends` meets its contract. Assumes nothing.
 use borrow.Author.Needs.{needs}
 use Rattle.chances.specs.Share.{lowest, highest}
-use Rattle.chances.proofs.Group.{row-free, row-held}
+use Rattle.chances.proofs.Ends.{row-free, row-held}
 use Rattle.chances.proofs.row_ends.Statement.{statement}
 use Rattle.chances.proofs.row_ends.Tie as tie
 

@@ -1,8 +1,8 @@
--- `chances::span_within` meets its contract. Assumes nothing.
-use Rattle.chances.specs.Lent.{alone}
-use Rattle.chances.proofs.Within.{at-none, mixes, at-some}
-use Rattle.chances.proofs.span_within.Statement.{statement}
-use Rattle.chances.proofs.span_within.Tie as tie
+-- `groups::span_within` meets its contract. Assumes nothing.
+use Rattle.groups.specs.Lent.{alone}
+use Rattle.groups.proofs.Within.{at-none, mixes, at-some}
+use Rattle.groups.proofs.span_within.Statement.{statement}
+use Rattle.groups.proofs.span_within.Tie as tie
 
 returns : tie.Need-returns
 returns c =

@@ -1,9 +1,9 @@
--- `chances::sums_at` meets its contract: by the bulkheads of the group. Assumes nothing.
+-- `groups::sums_at` meets its contract: by the bulkheads of the group. Assumes nothing.
 use borrow.Author.Needs.{needs}
 use native.Mathlib.Omega.{arith}
-use Rattle.chances.proofs.Group.{lent, sums-by-bulkheads}
-use Rattle.chances.proofs.sums_at.Statement.{statement}
-use Rattle.chances.proofs.sums_at.Tie as tie
+use Rattle.groups.proofs.Group.{lent, sums-by-bulkheads}
+use Rattle.groups.proofs.sums_at.Statement.{statement}
+use Rattle.groups.proofs.sums_at.Tie as tie
 
 group-at-requires : tie.Need-group-at-requires
 group-at-requires c κs = search needs

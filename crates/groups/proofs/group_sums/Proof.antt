@@ -1,7 +1,7 @@
--- `chances::group_sums` meets its contract, by the number of zones. Assumes nothing.
+-- `groups::group_sums` meets its contract, by the number of zones. Assumes nothing.
 use native.Mathlib.Omega.{arith}
-use Rattle.chances.proofs.group_sums.Statement.{statement}
-use Rattle.chances.proofs.group_sums.Tie as tie
+use Rattle.groups.proofs.group_sums.Statement.{statement}
+use Rattle.groups.proofs.group_sums.Tie as tie
 
 one-zone-requires : tie.Need-one-zone-requires
 one-zone-requires c κs = let s = c .before .before in (rw (c .if1 .taken) at (s .pre .0), s .pre .1)

@@ -1,8 +1,8 @@
--- `chances::sums_to` meets its contract: nothing at no penetration, and else the sums at the layer. Assumes nothing.
+-- `groups::sums_to` meets its contract: nothing at no penetration, and else the sums at the layer. Assumes nothing.
 use native.Mathlib.Omega.{arith}
-use Rattle.chances.proofs.Group.{layered, sums-at, sums-at-none}
-use Rattle.chances.proofs.sums_to.Statement.{statement}
-use Rattle.chances.proofs.sums_to.Tie as tie
+use Rattle.groups.proofs.Group.{layered, sums-at, sums-at-none}
+use Rattle.groups.proofs.sums_to.Statement.{statement}
+use Rattle.groups.proofs.sums_to.Tie as tie
 
 returns : tie.Need-returns
 returns c = let a = c .before .before .args in sums-at-none (a .l) (a .breadth) (a .k) (a .b) (a .n) (c .if1 .taken)

@@ -11,8 +11,8 @@ use Rattle.spans.specs.Span.{PEnds}
 use Rattle.solas.specs.Penetration.{c, d}
 use Rattle.penetration.specs.Penetration.{GEnds, mixed, QEnds}
 use Rattle.penetration.specs.Layer.{layerOf, Reached}
-use Rattle.chances.specs.Lent.{alone, across}
+use Rattle.groups.specs.Lent.{alone, across}
 use Rattle.chances.specs.Share.{withinEnds}
 use Rattle.laws.proofs.Polynomial.{pow-two}
 use Rattle.penetration.proofs.Depth.{products, C-at-most-one}
 use Rattle.spans.proofs.Enclosure.{P-probable}

@@ -1,9 +1,9 @@
--- `chances::group_at` meets its contract: four places of the hull. Assumes nothing.
+-- `groups::group_at` meets its contract: four places of the hull. Assumes nothing.
 use borrow.Author.Needs.{needs}
 use mathlib.Core.Path.{refl}
-use Rattle.chances.specs.Lent.{bulkheadsOf}
-use Rattle.chances.proofs.group_at.Statement.{statement}
-use Rattle.chances.proofs.group_at.Tie as tie
+use Rattle.groups.specs.Lent.{bulkheadsOf}
+use Rattle.groups.proofs.group_at.Statement.{statement}
+use Rattle.groups.proofs.group_at.Tie as tie
 
 add-end : tie.Need-add-end
 add-end c = search needs

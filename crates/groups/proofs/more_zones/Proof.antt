@@ -1,12 +1,12 @@
--- `chances::more_zones` meets its contract. Assumes nothing.
+-- `groups::more_zones` meets its contract. Assumes nothing.
 use borrow.Author.Needs.{needs}
 use mathlib.Core.Path.{refl}
 use Prim.Native.Nat.{ℕ, _+_, _-_, _≤_}
 use native.Mathlib.Omega.{arith}
-use Rattle.chances.proofs.Lent.{aft-is, first-is, last-is, fwd-is, Part, in-table, span-lent}
-use Rattle.chances.proofs.Group.{more-across, few, two-of}
-use Rattle.chances.proofs.more_zones.Statement.{statement}
-use Rattle.chances.proofs.more_zones.Tie as tie
+use Rattle.groups.proofs.Lent.{aft-is, first-is, last-is, fwd-is, Part, in-table, span-lent}
+use Rattle.groups.proofs.Group.{more-across, few, two-of}
+use Rattle.groups.proofs.more_zones.Statement.{statement}
+use Rattle.groups.proofs.more_zones.Tie as tie
 
 all-zones : (a n : ℕ) → 3 ≤ n → Part a n a (a + n - 1)
 all-zones a n l = record { after = omega arith; order = omega arith; before = omega arith }

@@ -1,26 +1,23 @@
--- A group's sums, put together from the Q of its spans, and the row between two layers. Assumes nothing.
+-- A group's sums, put together from the Q of its spans by its bulkheads, and the row between two of its layers. Assumes nothing.
 use mathlib.Core.Path.{_≡_, refl, sym, ap, _∙_}
 use mathlib.Core.List.{List}
-use Prim.Native.Nat.{ℕ, zero, suc, _+_, _-_, _*_, _^_, _≤_, _<_}
-use native.Mathlib.Nat.{min-eq-left, min-eq-right, le-of-lt}
+use Prim.Native.Nat.{ℕ, zero, suc, _+_, _-_, _*_, _^_, _≤_}
 use native.Mathlib.Omega.{arith}
 use lib.ListN.{getD}
 use Rattle.records.specs.declared.Ends.{Ends}
 use Rattle.records.specs.declared.Hull.{Hull}
-use Rattle.numbers.proofs.Figures.{both}
 use Rattle.solas.specs.Ship.{Ship}
 use Rattle.solas.specs.Count.{added, taken, Group}
 use Rattle.penetration.specs.declared.Layer.{Layer}
 use Rattle.chances.specs.declared.Sums.{Sums}
 use Rattle.spans.specs.Rounded.{Probable}
 use Rattle.penetration.specs.Figures.{plus}
 use Rattle.penetration.specs.Layer.{layerOf}
-use Rattle.chances.specs.declared.Bulkheads.{Bulkheads}
-use Rattle.chances.specs.Lent.{Lent, Layered, bulkheadsOf, across, sumsAcross}
-use Rattle.chances.specs.Share.{withinEnds, sumsOf, nothing, Few, lowest, highest, rowOf, rowEnds}
--- checked first, so that a definition that gives another number is refused there
-use Rattle.chances.proofs.Values.{in-full}
-use Rattle.chances.proofs.Within.{zones-within}
+use Rattle.groups.specs.declared.Bulkheads.{Bulkheads}
+use Rattle.groups.specs.Lent.{Lent, Layered, bulkheadsOf, across, sumsAcross}
+use Rattle.chances.specs.Share.{withinEnds, sumsOf, nothing, Few, rowOf, rowEnds}
+use Rattle.chances.proofs.Ends.{few-none}
+use Rattle.groups.proofs.Within.{zones-within}
 use Rattle.spans.specs.Hull.{shipOf, Hulled}
 use Rattle.spans.specs.Table.{tableOf}
 
@@ -87,17 +84,6 @@ pub two-of : {q f g : Ends} → Probable f → Probable g → q ≡ plus f g →
 unfolding plus
 two-of h k e = rw e (record { order = omega (arith, h .ordered, k .ordered); most = omega (arith, h .at-most-one, k .at-most-one) })
 
--- ---- the row
-
-module _ (before at : Sums) {l u : ℕ} (e : l ≡ lowest before at) (f : u ≡ highest before at) where
-  pub row-free : u ≤ 10 ^ 9 → record { lower = l; upper = u } ≡ rowOf before at
-  unfolding rowOf
-  row-free h = both e (sym (rw (← f) (min-eq-right h)))
-
-  pub row-held : 10 ^ 9 < u → record { lower = l; upper = 10 ^ 9 } ≡ rowOf before at
-  unfolding rowOf
-  row-held h = both e (sym (rw (← f) (min-eq-left (le-of-lt h))))
-
 -- ---- a group of a hull's zones, and a layer of it
 
 pub lent : {t : List ℕ} {h : Hull} {k : Bulkheads} {a n : ℕ} → Hulled h → t ≡ tableOf h → Group (shipOf h) a n → k ≡ bulkheadsOf h a n →
@@ -121,9 +107,6 @@ sums-none L B k zero = refl
 sums-none L B k (suc zero) = refl
 sums-none L B k (suc (suc zero)) = refl
 sums-none L B k (suc (suc (suc n))) = refl
-
-pub few-none : Few nothing
-few-none = record { added-order = omega arith; added-few = omega arith; taken-order = omega arith; taken-few = omega arith }
 
 pub no-sums : (h : Hull) (a n : ℕ) → 1 ≤ n → nothing ≡ sumsOf (shipOf h) 0 a n
 no-sums h a n o = sums-none (h .length) (h .breadth) (bulkheadsOf h a n) n ∙ hull-sums h 0 a n o

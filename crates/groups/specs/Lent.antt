@@ -12,9 +12,9 @@ use Rattle.spans.specs.Table.{tableOf}
 use Rattle.penetration.specs.declared.Layer.{Layer}
 use Rattle.penetration.specs.Figures.{plus}
 use Rattle.penetration.specs.Layer.{layerOf}
-use Rattle.chances.specs.declared.Bulkheads.{Bulkheads}
+use Rattle.groups.specs.declared.Bulkheads.{Bulkheads}
 use Rattle.chances.specs.declared.Sums.{Sums}
 use Rattle.chances.specs.Share.{withinEnds}
 
 -- the bulkheads of the group of n zones from zone a of a hull
 unfoldable pub bulkheadsOf : Hull → ℕ → ℕ → Bulkheads

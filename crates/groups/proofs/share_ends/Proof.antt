@@ -1,9 +1,9 @@
--- `chances::share_ends` meets its contract, from the sums down to both penetrations. Assumes nothing.
+-- `groups::share_ends` meets its contract, from the sums down to both penetrations. Assumes nothing.
 use borrow.Author.Needs.{needs}
 use native.Mathlib.Omega.{arith}
-use Rattle.chances.proofs.Group.{lent, row-between}
-use Rattle.chances.proofs.share_ends.Statement.{statement}
-use Rattle.chances.proofs.share_ends.Tie as tie
+use Rattle.groups.proofs.Group.{lent, row-between}
+use Rattle.groups.proofs.share_ends.Statement.{statement}
+use Rattle.groups.proofs.share_ends.Tie as tie
 
 group-at-requires : tie.Need-group-at-requires
 group-at-requires c κs = search needs

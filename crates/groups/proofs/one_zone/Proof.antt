@@ -1,11 +1,11 @@
--- `chances::one_zone` meets its contract. Assumes nothing.
+-- `groups::one_zone` meets its contract. Assumes nothing.
 use Prim.Native.Nat.{ℕ}
 use native.Mathlib.Omega.{arith}
-use Rattle.chances.specs.Lent.{sumsAcross}
-use Rattle.chances.proofs.Lent.{aft-is, fwd-is, Part, in-table, span-lent}
-use Rattle.chances.proofs.Group.{few}
-use Rattle.chances.proofs.one_zone.Statement.{statement}
-use Rattle.chances.proofs.one_zone.Tie as tie
+use Rattle.groups.specs.Lent.{sumsAcross}
+use Rattle.groups.proofs.Lent.{aft-is, fwd-is, Part, in-table, span-lent}
+use Rattle.groups.proofs.Group.{few}
+use Rattle.groups.proofs.one_zone.Statement.{statement}
+use Rattle.groups.proofs.one_zone.Tie as tie
 
 the-zone : (a : ℕ) → Part a 1 a a
 the-zone a = record { after = omega arith; order = omega arith; before = omega arith }

@@ -10,8 +10,8 @@ use Rattle.spans.specs.Span.{pEnds, PEnds, spanEnds}
 use Rattle.spans.specs.Hull.{shipOf}
 use Rattle.spans.specs.Table.{spanIn}
 use Rattle.penetration.specs.Layer.{Reached}
-use Rattle.chances.specs.declared.Bulkheads.{Bulkheads}
-use Rattle.chances.specs.Lent.{Lent, Layered, bulkheadsOf}
+use Rattle.groups.specs.declared.Bulkheads.{Bulkheads}
+use Rattle.groups.specs.Lent.{Lent, Layered, bulkheadsOf}
 use Rattle.spans.proofs.Places.{place-below, place-within}
 use Rattle.spans.proofs.Table.{table-long, span-read}
 

@@ -1,12 +1,12 @@
--- `chances::two_zones` meets its contract. Assumes nothing.
+-- `groups::two_zones` meets its contract. Assumes nothing.
 use borrow.Author.Needs.{needs}
 use Prim.Native.Nat.{ℕ, _+_}
 use native.Mathlib.Omega.{arith}
-use Rattle.chances.specs.Lent.{sumsAcross}
-use Rattle.chances.proofs.Lent.{aft-is, first-is, last-is, fwd-is, Part, in-table, span-lent}
-use Rattle.chances.proofs.Group.{few, two-of}
-use Rattle.chances.proofs.two_zones.Statement.{statement}
-use Rattle.chances.proofs.two_zones.Tie as tie
+use Rattle.groups.specs.Lent.{sumsAcross}
+use Rattle.groups.proofs.Lent.{aft-is, first-is, last-is, fwd-is, Part, in-table, span-lent}
+use Rattle.groups.proofs.Group.{few, two-of}
+use Rattle.groups.proofs.two_zones.Statement.{statement}
+use Rattle.groups.proofs.two_zones.Tie as tie
 
 both-zones : (a : ℕ) → Part a 2 a (a + 1)
 both-zones a = record { after = omega arith; order = omega arith; before = omega arith }

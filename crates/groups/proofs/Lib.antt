@@ -1,0 +1,3 @@
+pub mod Group
+mod Lent
+mod Within

@@ -7,7 +7,7 @@ use native.Mathlib.Omega.{arith}
 use borrow.Author.Tests.{eqb-true, eq-eqb, leb-false, lt-leb, not-false}
 use Rattle.records.specs.declared.Hull.{Hull}
 use Rattle.lines.specs.Lines.{Line}
-use Rattle.frames.specs.Hex.{pairs, badlyWritten}
+use Rattle.hexadecimal.specs.Hex.{pairs, badlyWritten}
 use Rattle.casefile.specs.declared.Progress.{Progress}
 use Rattle.casefile.specs.Record.{Row}
 use Rattle.casefile.specs.Layout.{kindOf, fieldsOf, isRow, hullOf, rowOf, countOf}

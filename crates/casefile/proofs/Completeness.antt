@@ -13,9 +13,9 @@ use Rattle.laws.specs.Bytes.{Octets, bytes}
 use Rattle.laws.proofs.Tests.{holds}
 use Rattle.records.specs.declared.Hull.{Hull}
 use Rattle.lines.specs.Lines.{Line, lines}
-use Rattle.frames.specs.Hex.{pairs, hex, badlyWritten, lineOf}
+use Rattle.hexadecimal.specs.Hex.{pairs, hex, badlyWritten, lineOf}
 use Rattle.fields.specs.Fields.{wordAt}
-use Rattle.frames.proofs.Pairs.{pairs-hex, proper-hex, line-in-front}
+use Rattle.hexadecimal.proofs.Pairs.{pairs-hex, proper-hex, line-in-front}
 use Rattle.casefile.specs.declared.Progress.{Progress}
 use Rattle.casefile.specs.Record.{Row, Case}
 use Rattle.casefile.specs.Layout.{kindOf, fieldsOf, isRow, frameLength, hullLength, shortestHull, hullOf, rowOf, countOf, hullBytes, rowBytes, endBytes}

@@ -7,7 +7,7 @@ use Rattle.laws.specs.Lists.{tabulate}
 use Rattle.laws.specs.Bytes.{bytes}
 use Rattle.records.specs.declared.Hull.{Hull}
 use Rattle.lines.specs.Lines.{lines}
-use Rattle.frames.specs.Hex.{digitOf, pairOf, pairs, digitsOnly, proper, badlyWritten, digit, hex, lineOf}
+use Rattle.hexadecimal.specs.Hex.{digitOf, pairOf, pairs, digitsOnly, proper, badlyWritten, digit, hex, lineOf}
 use Rattle.fields.specs.Fields.{wordAt}
 use Rattle.casefile.specs.Record.{Row, Case}
 use Rattle.casefile.specs.Layout.{frameLength, placeOf, hullOf, headOf, findingOf, resultsOf, hullBytes, findingBytes, rowBytes, endBytes}

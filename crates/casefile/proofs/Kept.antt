@@ -13,9 +13,9 @@ use Rattle.laws.specs.Lists.{tabulate}
 use Rattle.laws.proofs.Lists.{part-of-part, tabulate-places, length-part}
 use Rattle.lines.specs.Lines.{Line}
 use Rattle.fields.specs.Fields.{wordAt}
-use Rattle.frames.specs.Hex.{pairs, bytesOf, proper}
-use Rattle.frames.proofs.Pairs.{proper-parts}
-use Rattle.frames.proofs.Decode.{bytes-pairs}
+use Rattle.hexadecimal.specs.Hex.{pairs, bytesOf, proper}
+use Rattle.hexadecimal.proofs.Pairs.{proper-parts}
+use Rattle.hexadecimal.proofs.Decode.{bytes-pairs}
 use Rattle.casefile.specs.declared.Progress.{Progress}
 use Rattle.casefile.specs.Layout.{kindOf, isRow, frameLength, headOf, findingOf, resultsOf, rowOf}
 use Rattle.casefile.specs.Kept.{keptRow, keptRows}

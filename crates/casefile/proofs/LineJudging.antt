@@ -8,7 +8,7 @@ use borrow.Author.Tests.{eqb-true}
 use Rattle.laws.proofs.Tests.{picked}
 use Rattle.records.specs.declared.Hull.{Hull}
 use Rattle.lines.specs.Lines.{Line}
-use Rattle.frames.specs.Hex.{pairs}
+use Rattle.hexadecimal.specs.Hex.{pairs}
 use Rattle.fields.specs.Fields.{wordAt}
 use Rattle.casefile.specs.declared.Frame.{Frame}
 use Rattle.casefile.specs.declared.Progress.{Progress}

@@ -13,7 +13,7 @@ use Rattle.laws.specs.Lists.{Every}
 use Rattle.records.specs.declared.Hull.{Hull}
 use Rattle.lines.specs.Lines.{Line, lines}
 use Rattle.lines.proofs.Lines.{written, together, together-lines}
-use Rattle.frames.specs.Hex.{pairs, lineOf}
+use Rattle.hexadecimal.specs.Hex.{pairs, lineOf}
 use Rattle.casefile.specs.declared.Progress.{Progress}
 use Rattle.casefile.specs.Record.{Row, Case}
 use Rattle.casefile.specs.Layout.{kindOf, fieldsOf, isRow, hullOf, headOf, rowOf, countOf, rowBytes, endBytes}

@@ -10,7 +10,7 @@ use borrow.Author.Tests.{eq-eqb, ne-eqb, eqb-true, eqb-false, lt-ltb, le-ltb}
 use Rattle.records.specs.declared.Hull.{Hull}
 use Rattle.records.specs.declared.RowHead.{RowHead}
 use Rattle.lines.specs.Lines.{Line, lines}
-use Rattle.frames.specs.Hex.{pairs}
+use Rattle.hexadecimal.specs.Hex.{pairs}
 use Rattle.casefile.specs.declared.Frame.{Frame}
 use Rattle.casefile.specs.declared.Progress.{Progress}
 use Rattle.casefile.specs.Record.{Row}

@@ -11,7 +11,7 @@ use Rattle.laws.proofs.Table.{every, both-hold}
 use Rattle.laws.proofs.Tests.{holds}
 use Rattle.records.specs.declared.Hull.{Hull}
 use Rattle.lines.specs.Lines.{Line, lines}
-use Rattle.frames.specs.Hex.{pairs}
+use Rattle.hexadecimal.specs.Hex.{pairs}
 use Rattle.casefile.specs.declared.Progress.{Progress}
 use Rattle.casefile.specs.Layout.{kindOf, isRow}
 use Rattle.casefile.specs.Table.{Check, firstHolds, hullChecks, rowChecks, endChecks, lineChecks}

@@ -10,7 +10,7 @@ use lib.Dec.{eqb}
 use lib.ListN.{length, getD, take}
 use borrow.Author.Tests.{eqb-true, eqb-false}
 use Rattle.lines.specs.Lines.{Line}
-use Rattle.frames.specs.Hex.{pairs}
+use Rattle.hexadecimal.specs.Hex.{pairs}
 use Rattle.casefile.specs.Layout.{kindOf, isRow, rowOf}
 use Rattle.casefile.specs.Table.{firstHolds}
 use Rattle.casefile.specs.Reading.{Reading, refused, accepted, Stage, begin, inside, checks, next, before, gathered, finished, readFrom}

@@ -2,7 +2,7 @@
 use Prim.Native.Nat.{ℕ}
 use mathlib.Core.List.{List, [], _∷_, _++_}
 use lib.ListN.{length}
-use Rattle.frames.specs.Hex.{lineOf}
+use Rattle.hexadecimal.specs.Hex.{lineOf}
 use Rattle.casefile.specs.Record.{Row, Case}
 use Rattle.casefile.specs.Layout.{hullBytes, rowBytes, endBytes}
 

@@ -5,7 +5,7 @@ use mathlib.Core.List.{List, [], _∷_}
 use lib.Dec.{eqb}
 use Rattle.records.specs.declared.Hull.{Hull}
 use Rattle.lines.specs.Lines.{Line}
-use Rattle.frames.specs.Hex.{pairs}
+use Rattle.hexadecimal.specs.Hex.{pairs}
 use Rattle.casefile.specs.declared.Frame.{Frame}
 use Rattle.casefile.specs.declared.Progress.{Progress}
 use Rattle.casefile.specs.declared.Judgement.{Judgement}

@@ -7,7 +7,7 @@ use mathlib.Core.Logic.{_↔_, _⊎_}
 use lib.ListN.{length, getD, take}
 use Rattle.records.specs.declared.Hull.{Hull}
 use Rattle.lines.specs.Lines.{Line, lines}
-use Rattle.frames.specs.Hex.{pairs}
+use Rattle.hexadecimal.specs.Hex.{pairs}
 use Rattle.casefile.specs.declared.Progress.{Progress}
 use Rattle.casefile.specs.Record.{Case}
 use Rattle.casefile.specs.Layout.{kindOf, isRow, isEnd}

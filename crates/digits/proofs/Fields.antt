@@ -8,7 +8,7 @@ use lib.ListN.{length, set, length-append}
 use Rattle.laws.specs.Bytes.{bytes}
 use Rattle.laws.proofs.Bytes.{length-bytes}
 use Rattle.records.specs.declared.Trio.{Trio}
-use Rattle.frames.specs.Hex.{digit, hex}
+use Rattle.hexadecimal.specs.Hex.{digit, hex}
 use Rattle.digits.specs.Splice.{splice}
 use Rattle.digits.specs.Fields.{endsField, partialField, partialsField}
 use Rattle.digits.proofs.Text.{two-digits, bytes-append, digits-then}

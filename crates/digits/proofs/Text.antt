@@ -7,8 +7,8 @@ use native.Mathlib.Omega.{arith}
 use lib.Pow.{pow-add}
 use lib.ListN.{length, length-append}
 use Rattle.laws.specs.Bytes.{bytes}
-use Rattle.frames.specs.Hex.{digit, hex, lineOf}
-use Rattle.frames.proofs.Pairs.{length-hex}
+use Rattle.hexadecimal.specs.Hex.{digit, hex, lineOf}
+use Rattle.hexadecimal.proofs.Pairs.{length-hex}
 use Rattle.digits.specs.Splice.{splice}
 use Rattle.digits.proofs.Splice.{splice-then}
 

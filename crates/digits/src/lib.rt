@@ -4,7 +4,7 @@ ghost use mathlib.Core.List.{[], _∷_};
 ghost use Prim.Native.Nat.{_+_, _≤_, _<_};
 ghost use lib.ListN.{length};
 ghost use Rattle.laws.specs.Bytes.{bytes};
-ghost use Rattle.frames.specs.Hex.{digit, hex};
+ghost use Rattle.hexadecimal.specs.Hex.{digit, hex};
 ghost use Rattle.digits.specs.Splice.{splice};
 ghost use Rattle.digits.specs.Fields.{endsField, partialField, partialsField};
 use records::Trio;

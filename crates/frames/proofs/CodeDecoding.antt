@@ -9,12 +9,12 @@ use lib.Dec.{eqb}
 use lib.ListN.{length, getD, take, drop, set, replicate, getD-replicate, drop-of-length-le}
 use lib.Seq.{sets, sets-eq, length-sets, take-at, take-suc, take-add, length-take-le, drop-cons}
 use Rattle.laws.proofs.Lists.{sets-append}
+use Rattle.hexadecimal.specs.Hex.{digitOf, refusalOf, markOf, pairs, byteOf, bytesOf, digitsOnly, proper}
+use Rattle.hexadecimal.proofs.Marks.{mark-tells, mark-counts}
+use Rattle.hexadecimal.proofs.Pairs.{proper-parts, length-pairs, pairs-some}
+use Rattle.hexadecimal.proofs.Decode.{length-bytesOf, byte-there, bytes-pairs, digits-taken, digits-joined, proper-by-parts}
 use Rattle.frames.specs.declared.Written.the-variants.{Bytes, Badly}
-use Rattle.frames.specs.Hex.{digitOf, refusalOf, markOf, pairs, byteOf, bytesOf, digitsOnly, proper}
 use Rattle.frames.specs.Decoding.{markAt, writtenOf}
-use Rattle.frames.proofs.Marks.{mark-tells, mark-counts}
-use Rattle.frames.proofs.Pairs.{proper-parts, length-pairs, pairs-some}
-use Rattle.frames.proofs.Decode.{length-bytesOf, byte-there, bytes-pairs, digits-taken, digits-joined, proper-by-parts}
 
 -- ---- i pairs are read, and their bytes stand at the front of out, which came as was
 

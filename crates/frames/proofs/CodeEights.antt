@@ -10,9 +10,9 @@ use lib.ListN.{length, getD, take, drop, set, length-drop}
 use lib.Seq.{sets, getD-drop}
 use Rattle.laws.specs.Lists.{tabulate}
 use Rattle.laws.proofs.Lists.{getD-tabulate}
-use Rattle.frames.specs.Hex.{markOf, digitOf, bytesOf, digitsOnly}
+use Rattle.hexadecimal.specs.Hex.{markOf, digitOf, bytesOf, digitsOnly}
+use Rattle.hexadecimal.proofs.Decode.{length-bytesOf}
 use Rattle.frames.specs.Decoding.{markAt, otherBelow}
-use Rattle.frames.proofs.Decode.{length-bytesOf}
 use Rattle.frames.proofs.CodeDecoding.{other-taken, pair-byte, one-stored}
 
 pub other-none : (marks : List ℕ) → false ≡ otherBelow marks 0

@@ -3,9 +3,9 @@ use mathlib.Core.Path.{_≡_, refl}
 use mathlib.Core.Bool.{Bool, true, false, true≢false}
 use native.Mathlib.Omega.{arith}
 use Rattle.lines.specs.Lines.{Line}
-use Rattle.frames.specs.Hex.{proper, badlyWritten}
+use Rattle.hexadecimal.specs.Hex.{proper, badlyWritten}
+use Rattle.hexadecimal.proofs.Pairs.{length-pairs}
 use Rattle.frames.specs.Decoding.{writtenOf, Numbered, SaysTheText}
-use Rattle.frames.proofs.Pairs.{length-pairs}
 
 module _ (l : Line) (closed : l .closed ≡ true) where
   by : (t : Bool) → proper (l .text) ≡ t → Numbered l

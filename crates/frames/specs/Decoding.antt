@@ -6,9 +6,9 @@ use mathlib.Core.List.{List}
 use lib.Dec.{eqb}
 use lib.ListN.{length, getD}
 use Rattle.lines.specs.Lines.{Line}
+use Rattle.hexadecimal.specs.Hex.{digitOf, markOf, pairs, proper, badlyWritten}
 use Rattle.frames.specs.declared.Written.{Written}
 use Rattle.frames.specs.declared.Written.the-variants.{Bytes, Badly}
-use Rattle.frames.specs.Hex.{digitOf, markOf, pairs, proper, badlyWritten}
 
 -- the mark of a line's byte at a place
 abbrev pub markAt : List ℕ → ℕ → ℕ

@@ -1,53 +1,18 @@
 // What stands in a line of the case file: hexadecimal digits, decoded to bytes.
 ghost use mathlib.Core.Path.{_≡_};
-ghost use mathlib.Core.Bool.{cond, not, _&&_};
-ghost use Prim.Native.Nat.{_+_, _-_, _*_, _≤_, min};
-ghost use lib.Dec.{leb};
+ghost use mathlib.Core.Bool.{not};
+ghost use Prim.Native.Nat.{_+_, _*_, _≤_, min};
 ghost use lib.ListN.{length, take, drop};
 ghost use lib.Seq.{sets};
 ghost use Rattle.laws.specs.Lists.{tabulate};
-ghost use Rattle.frames.specs.Hex.{digitOf, markOf, digitsOnly, bytesOf};
+ghost use Rattle.hexadecimal.specs.Hex.{digitsOnly, bytesOf};
 ghost use Rattle.frames.specs.Decoding.{markAt, otherBelow, writtenOf};
-
-// What a pair of bytes is in a line of digits: the byte that it writes, or no pair of digits.
-pub enum Digit {
-    Value(u8),
-    Bad,
-}
+use hexadecimal::value_of;
 
 // What a line's text is: as many bytes as it has pairs of digits, or badly written.
 pub enum Written {
     Bytes(usize),
     Badly,
-}
-
-// The value of a digit from 0 to 9, and for any other byte 16, which no digit has.
-fn decimal_of(b: u8) -> u8
-    ensures { λ r. ⌜ r ≡ cond (leb 48 b && leb b 57) (b - 48) 16 ⌝ }
-{
-    match b {
-        b'0'..=b'9' => b - 48,
-        _ => 16,
-    }
-}
-
-// The value of a digit from a to f, likewise.
-fn letter_of(b: u8) -> u8
-    ensures { λ r. ⌜ r ≡ cond (leb 97 b && leb b 102) (b - 87) 16 ⌝ }
-{
-    match b {
-        b'a'..=b'f' => b - 87,
-        _ => 16,
-    }
-}
-
-// The value of a digit of either kind, likewise: numbers all along, so that telling a digit takes no jump.
-fn value_of(b: u8) -> u8
-    ensures { λ r. ⌜ r ≡ markOf (digitOf b) ⌝ }
-{
-    let decimal = decimal_of(b);
-    let letter = letter_of(b);
-    if decimal < 16 { decimal } else { letter }
 }
 
 // The values of the sixteen bytes from a place on: in an array of their own, so that no store can touch them.

@@ -12,8 +12,8 @@ use Rattle.laws.proofs.Lists.{tabulate-same}
 use Rattle.laws.proofs.Tests.{both}
 use Rattle.records.specs.declared.Hull.{Hull}
 use Rattle.lines.specs.Lines.{Line}
+use Rattle.hexadecimal.specs.Hex.{pairs, proper, badlyWritten}
 use Rattle.frames.specs.declared.Written.the-variants.{Bytes}
-use Rattle.frames.specs.Hex.{pairs, proper, badlyWritten}
 use Rattle.frames.specs.Decoding.{writtenOf}
 use Rattle.fields.specs.Fields.{byteAt, wordAt}
 use Rattle.frames.proofs.CodeDecoding.{well-written, byte-stored}

@@ -11,8 +11,8 @@ use Rattle.records.specs.declared.Finding.{Finding}
 use Rattle.records.specs.declared.Hull.{Hull}
 use Rattle.records.specs.declared.RowHead.{RowHead}
 use Rattle.lines.specs.Lines.{Line}
+use Rattle.hexadecimal.specs.Hex.{pairs, proper, badlyWritten}
 use Rattle.frames.specs.declared.Written.the-variants.{Bytes}
-use Rattle.frames.specs.Hex.{pairs, proper, badlyWritten}
 use Rattle.frames.specs.Decoding.{writtenOf}
 use Rattle.frames.proofs.CodeDecoding.{well-written}
 use Rattle.fields.specs.Fields.{wordAt}

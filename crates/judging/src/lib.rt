@@ -3,7 +3,7 @@ ghost use mathlib.Core.Path.{_≡_};
 ghost use Prim.Native.Nat.{_≤_, _<_};
 ghost use lib.ListN.{length};
 ghost use lib.Seq.{sets};
-ghost use Rattle.frames.specs.Hex.{bytesOf};
+ghost use Rattle.hexadecimal.specs.Hex.{bytesOf};
 ghost use Rattle.casefile.specs.Answer.{judged};
 ghost use Rattle.casefile.specs.Judging.{frameJudged};
 use casefile::Frame;

@@ -5,7 +5,7 @@ use mathlib.Core.List.{List, [], _∷_, _++_}
 use lib.ListN.{length, take}
 use Rattle.laws.specs.Bytes.{bytes}
 use Rattle.records.specs.declared.Answer.{Answer}
-use Rattle.frames.specs.Hex.{digit, hex, lineOf}
+use Rattle.hexadecimal.specs.Hex.{digit, hex, lineOf}
 use Rattle.digits.specs.Fields.{endsField, partialField, partialsField}
 use Rattle.printing.specs.Printed.{refusalFrame, figuresFrame, shareFrame, shareLines, printed, printedLength}
 use Rattle.printing.specs.Written.{textOf, canPrint, lengthOf, writtenOf}

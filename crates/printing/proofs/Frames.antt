@@ -7,7 +7,7 @@ use lib.ListN.{length, length-append}
 use Rattle.laws.specs.Bytes.{bytes}
 use Rattle.laws.proofs.Bytes.{length-bytes}
 use Rattle.records.specs.declared.Answer.{Answer}
-use Rattle.frames.specs.Hex.{hex, lineOf}
+use Rattle.hexadecimal.specs.Hex.{hex, lineOf}
 use Rattle.digits.specs.Splice.{splice}
 use Rattle.digits.specs.Fields.{endsField, partialsField}
 use Rattle.digits.proofs.Text.{digits-then, feed-then}

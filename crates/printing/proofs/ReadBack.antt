@@ -11,8 +11,8 @@ use Rattle.laws.specs.Bytes.{Octets, number, bytes}
 use Rattle.laws.proofs.Bytes.{octets-cons, octets-append, length-bytes, bytes-octets, number-bytes-all}
 use Rattle.records.specs.declared.Answer.{Answer}
 use Rattle.lines.specs.Lines.{lines}
-use Rattle.frames.specs.Hex.{lineOf}
-use Rattle.frames.proofs.Pairs.{pairs-hex, line-in-front}
+use Rattle.hexadecimal.specs.Hex.{lineOf}
+use Rattle.hexadecimal.proofs.Pairs.{pairs-hex, line-in-front}
 use Rattle.digits.specs.Fields.{endsField, partialField, partialsField}
 use Rattle.printing.specs.Printed.{refusalFrame, figuresFrame, shareFrame, shareLines, printed}
 use Rattle.printing.specs.ReadBack.{refusal, figures, endsOf, toldBy, fours, kindOf, sharesIn, toldIn, frameIn, readBack, Short, Printable, ReadsBack}

@@ -6,7 +6,7 @@ use native.Mathlib.Numerals.{add-one}
 use native.Mathlib.Omega.{arith}
 use lib.ListN.{length, getD, take, drop, length-append, drop-of-length-le}
 use lib.Seq.{drop-cons, getD-take, length-take-le}
-use Rattle.frames.specs.Hex.{lineOf}
+use Rattle.hexadecimal.specs.Hex.{lineOf}
 use Rattle.digits.specs.Splice.{splice}
 use Rattle.printing.specs.Printed.{shareFrame, shareLines}
 use Rattle.digits.proofs.Splice.{splice-join, splice-none, length-splice}

@@ -9,7 +9,7 @@ use lib.ListN.{length, take, length-append}
 use lib.Seq.{length-take-le}
 use borrow.Author.Tests.{le-leb, lt-leb, eq-eqb, ne-eqb}
 use Rattle.records.specs.declared.Answer.{Answer}
-use Rattle.frames.specs.Hex.{lineOf}
+use Rattle.hexadecimal.specs.Hex.{lineOf}
 use Rattle.digits.specs.Splice.{splice}
 use Rattle.printing.specs.Printed.{refusalFrame, figuresFrame, shareLines, printed, printedLength}
 use Rattle.printing.specs.Written.{textOf, canPrint, lengthOf, writtenOf}

@@ -5,7 +5,7 @@ use mathlib.Core.List.{List, [], _∷_, _++_}
 use lib.Dec.{eqb}
 use Rattle.laws.specs.Bytes.{bytes}
 use Rattle.records.specs.declared.Answer.{Answer}
-use Rattle.frames.specs.Hex.{lineOf}
+use Rattle.hexadecimal.specs.Hex.{lineOf}
 use Rattle.digits.specs.Fields.{endsField, partialsField}
 
 -- ---- frames

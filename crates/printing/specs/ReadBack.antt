@@ -8,7 +8,7 @@ use lib.ListN.{length, getD, take, drop}
 use Rattle.laws.specs.Bytes.{number}
 use Rattle.records.specs.declared.Answer.{Answer}
 use Rattle.lines.specs.Lines.{Line, lines}
-use Rattle.frames.specs.Hex.{pairs}
+use Rattle.hexadecimal.specs.Hex.{pairs}
 use Rattle.printing.specs.Printed.{printed}
 
 -- a refusal's number and line; or a verdict, the ends of A, As, Ap, Al and those of the shares, lower before upper; or neither

@@ -8,7 +8,7 @@ use records::Answer;
 ghost use mathlib.Core.Path.{_≡_};
 ghost use Prim.Native.Nat.{_+_, _*_, _^_, _≤_, _<_};
 ghost use lib.ListN.{length, take};
-ghost use Rattle.frames.specs.Hex.{lineOf};
+ghost use Rattle.hexadecimal.specs.Hex.{lineOf};
 ghost use Rattle.digits.specs.Splice.{splice};
 ghost use Rattle.printing.specs.Printed.{refusalFrame, figuresFrame, shareFrame, shareLines, printedLength};
 ghost use Rattle.printing.specs.Written.{textOf, lengthOf, writtenOf};

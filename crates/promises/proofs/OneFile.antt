@@ -23,7 +23,7 @@ use Rattle.survival.specs.Survival.{factorOf, scaledOf, roundedOf, factorsOf, s
 use Rattle.indices.specs.Index.{addsOf, rowAdds, partials, attainedOf}
 use Rattle.verdicts.specs.Verdict.{reaches, allReach, verdictOf}
 use Rattle.lines.specs.Lines.{lines}
-use Rattle.frames.specs.Hex.{digitOf, pairOf, pairs, digitsOnly, proper, badlyWritten, digit, hex, lineOf}
+use Rattle.hexadecimal.specs.Hex.{digitOf, pairOf, pairs, digitsOnly, proper, badlyWritten, digit, hex, lineOf}
 use Rattle.fields.specs.Fields.{wordAt}
 use Rattle.casefile.specs.Layout.{frameLength, placeOf, hullOf, headOf, findingOf, resultsOf}
 use Rattle.casefile.specs.Limits.{between, sizesFit, risingTo, zonesFit, headFits, findingFits, findingsFit, rowFits}

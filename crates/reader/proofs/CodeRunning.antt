@@ -14,7 +14,7 @@ use borrow.Author.Tests.{eqb-true, eqb-false}
 use Rattle.records.specs.declared.Hull.{Hull}
 use Rattle.lines.specs.Lines.{Line, lines, lineLength}
 use Rattle.lines.proofs.Lines.{lines-end, lines-next}
-use Rattle.frames.specs.Hex.{pairs, bytesOf}
+use Rattle.hexadecimal.specs.Hex.{pairs, bytesOf}
 use Rattle.casefile.specs.declared.Frame.{Frame}
 use Rattle.casefile.specs.declared.Progress.{Progress}
 use Rattle.casefile.specs.declared.Judgement.{Judgement}

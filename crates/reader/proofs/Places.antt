@@ -7,7 +7,7 @@ use lib.ListN.{length, take}
 use lib.Seq.{sets, length-sets, length-take-le, take-at, drop-at}
 use borrow.Rule.Slice.PartMut.{midOf, postOf, putMid, same-len-mid, take-put}
 use Rattle.laws.proofs.Lists.{length-part}
-use Rattle.frames.specs.Hex.{bytesOf}
+use Rattle.hexadecimal.specs.Hex.{bytesOf}
 use Rattle.casefile.proofs.Kept.{Placed}
 
 module _ (was : List ℕ) (i : ℕ) (text part : List ℕ) (a n : ℕ) (e : a ≡ 25 * i) (k : n ≡ 25) (room : 25 * i + 25 ≤ length was) (w : part ≡ sets (midOf a n was) 0 (bytesOf text)) where

@@ -6,7 +6,7 @@ use native.Mathlib.Omega.{arith}
 use lib.Dec.{ltb}
 use borrow.Author.Needs.{needs}
 use borrow.Author.Tests.{ltb-true, ltb-false}
-use Rattle.frames.specs.Hex.{digit}
+use Rattle.hexadecimal.specs.Hex.{digit}
 use Rattle.digits.proofs.digit_of.Statement.{statement}
 use Rattle.digits.proofs.digit_of.Tie as tie
 

@@ -5,7 +5,7 @@ use native.Mathlib.Omega.{arith}
 use lib.ListN.{take, drop}
 use lib.Seq.{sets}
 use borrow.Author.Needs.{needs}
-use Rattle.frames.specs.Hex.{bytesOf}
+use Rattle.hexadecimal.specs.Hex.{bytesOf}
 use Rattle.frames.proofs.CodeDecoding.{run-long}
 use Rattle.frames.proofs.CodeEights.{other-told, byte-more}
 use Rattle.frames.proofs.decode_eight.Statement.{statement}

@@ -2,7 +2,7 @@
 use mathlib.Core.Path.{_∙_}
 use Prim.Native.Nat.{_*_}
 use borrow.Author.Needs.{needs}
-use Rattle.frames.proofs.Decode.{all-that-go-in}
+use Rattle.hexadecimal.proofs.Decode.{all-that-go-in}
 use Rattle.frames.proofs.CodeDecoding.{told-badly, told-bytes}
 use Rattle.frames.proofs.decode_text.Statement.{statement}
 use Rattle.frames.proofs.decode_text.Tie as tie

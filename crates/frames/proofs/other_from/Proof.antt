@@ -5,7 +5,7 @@ use Prim.Native.Nat.{_-_}
 use lib.ListN.{length, drop}
 use native.Mathlib.Omega.{arith}
 use borrow.Author.Needs.{needs}
-use Rattle.frames.specs.Hex.{digitsOnly}
+use Rattle.hexadecimal.specs.Hex.{digitsOnly}
 use Rattle.frames.proofs.CodeDecoding.{other-next, other-ended}
 use Rattle.frames.proofs.other_from.Statement.{statement}
 use Rattle.frames.proofs.other_from.Tie as tie

@@ -2,7 +2,7 @@
 use mathlib.Core.Path.{sym, _∙_}
 use borrow.Author.Tests.{not-true, not-false}
 use denote.Ref.{now}
-use Rattle.frames.specs.Hex.{pairs}
+use Rattle.hexadecimal.specs.Hex.{pairs}
 use Rattle.frames.proofs.CodeDecoding.{badly-written, stored}
 use Rattle.hulls.proofs.CodeOpening.{first-not-closed, first-no-digits, first-short, first-other, first-hull, kind-stored, hull-stored}
 use borrow.Author.Needs.{needs}

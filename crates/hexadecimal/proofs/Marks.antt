@@ -6,10 +6,10 @@ use native.Mathlib.Omega.{arith}
 use lib.Dec.{leb, eqb}
 use borrow.Author.Tests.{leb-true, le-leb, lt-leb, ne-eqb}
 use Rattle.laws.proofs.Tests.{both}
-use Rattle.frames.specs.declared.Digit.{Digit}
-use Rattle.frames.specs.declared.Digit.the-variants.{Value, Bad}
-use Rattle.frames.specs.Hex.{digitOf, refusalOf, valueOf, markOf}
-use Rattle.frames.proofs.Hex.{digit-below}
+use Rattle.hexadecimal.specs.declared.Digit.{Digit}
+use Rattle.hexadecimal.specs.declared.Digit.the-variants.{Value, Bad}
+use Rattle.hexadecimal.specs.Hex.{digitOf, refusalOf, valueOf, markOf}
+use Rattle.hexadecimal.proofs.Hex.{digit-below}
 
 -- a byte that a range has, or lies below or above
 module _ (low high b v : ℕ) where

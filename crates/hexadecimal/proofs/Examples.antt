@@ -7,7 +7,7 @@ use lib.Dec.{T, eqb}
 use lib.ListN.{getD}
 use Rattle.laws.proofs.Table.{everyBelow}
 use Rattle.lines.specs.Lines.{Line}
-use Rattle.frames.specs.Hex.{digitOf, refusalOf, valueOf, pairOf, pairs, byteOf, bytesOf, digitsOnly, proper, badlyWritten, digit, hex}
+use Rattle.hexadecimal.specs.Hex.{digitOf, refusalOf, valueOf, pairOf, pairs, byteOf, bytesOf, digitsOnly, proper, badlyWritten, digit, hex}
 
 -- 0123456789abcdef
 abbrev digits : List ℕ

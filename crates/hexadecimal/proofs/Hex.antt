@@ -7,9 +7,9 @@ use native.Mathlib.Omega.{arith}
 use lib.Dec.{leb, ltb}
 use borrow.Author.Tests.{ltb-true, ltb-false, lt-ltb, le-ltb, le-leb, lt-leb, leb-true}
 use Rattle.laws.proofs.Tests.{both, picked}
-use Rattle.frames.specs.declared.Digit.{Digit}
-use Rattle.frames.specs.declared.Digit.the-variants.{Value, Bad}
-use Rattle.frames.specs.Hex.{digitOf, joined, pairOf, byteOf, digit}
+use Rattle.hexadecimal.specs.declared.Digit.{Digit}
+use Rattle.hexadecimal.specs.declared.Digit.the-variants.{Value, Bad}
+use Rattle.hexadecimal.specs.Hex.{digitOf, joined, pairOf, byteOf, digit}
 
 -- ---- one digit
 

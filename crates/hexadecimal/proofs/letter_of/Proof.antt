@@ -2,9 +2,9 @@
 use borrow.Author.Needs.{needs}
 use Prim.Native.Nat.{_-_}
 use native.Mathlib.Omega.{arith}
-use Rattle.frames.proofs.Marks.{in-range, below-range, above-range}
-use Rattle.frames.proofs.letter_of.Statement.{statement}
-use Rattle.frames.proofs.letter_of.Tie as tie
+use Rattle.hexadecimal.proofs.Marks.{in-range, below-range, above-range}
+use Rattle.hexadecimal.proofs.letter_of.Statement.{statement}
+use Rattle.hexadecimal.proofs.letter_of.Tie as tie
 
 sub-result : tie.Need-sub-result
 sub-result c = search needs

@@ -5,8 +5,8 @@ use mathlib.Core.List.{List, [], _∷_, _++_}
 use lib.ListN.{length}
 use lib.Dec.{leb, ltb, eqb}
 use Rattle.lines.specs.Lines.{Line}
-use Rattle.frames.specs.declared.Digit.{Digit}
-use Rattle.frames.specs.declared.Digit.the-variants.{Value, Bad}
+use Rattle.hexadecimal.specs.declared.Digit.{Digit}
+use Rattle.hexadecimal.specs.declared.Digit.the-variants.{Value, Bad}
 
 -- 0-9 are the bytes 48 to 57, a-f the bytes 97 to 102
 unfoldable pub digitOf : ℕ → Digit

@@ -12,10 +12,10 @@ use Rattle.laws.proofs.Bytes.{octets-cons, octets-rest}
 use Rattle.laws.proofs.Tests.{both}
 use Rattle.lines.specs.Lines.{lines}
 use Rattle.lines.proofs.Lines.{NoFeed, lines-closed}
-use Rattle.frames.specs.declared.Digit.{Digit}
-use Rattle.frames.specs.declared.Digit.the-variants.{Value, Bad}
-use Rattle.frames.specs.Hex.{digitOf, refusalOf, pairOf, before, pairs, digitsOnly, proper, hex, lineOf}
-use Rattle.frames.proofs.Hex.{value-of-digit, digit-no-feed, pair-below, pair-again, pair-of-digits}
+use Rattle.hexadecimal.specs.declared.Digit.{Digit}
+use Rattle.hexadecimal.specs.declared.Digit.the-variants.{Value, Bad}
+use Rattle.hexadecimal.specs.Hex.{digitOf, refusalOf, pairOf, before, pairs, digitsOnly, proper, hex, lineOf}
+use Rattle.hexadecimal.proofs.Hex.{value-of-digit, digit-no-feed, pair-below, pair-again, pair-of-digits}
 
 -- ---- bytes to digits
 

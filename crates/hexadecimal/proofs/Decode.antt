@@ -11,9 +11,9 @@ use lib.Seq.{sets, set-out, take-all, take-nil}
 use borrow.Author.Tests.{lt-ltb, eq-eqb, ne-eqb, eqb-false, not-true, not-false}
 use Rattle.laws.proofs.Tests.{both, neither, same-test}
 use Rattle.laws.proofs.Choice.{split}
-use Rattle.frames.specs.Hex.{digitOf, refusalOf, byteOf, bytesOf, pairs, digitsOnly, proper}
-use Rattle.frames.proofs.Hex.{byte-of-pair}
-use Rattle.frames.proofs.Pairs.{first-pair, proper-parts}
+use Rattle.hexadecimal.specs.Hex.{digitOf, refusalOf, byteOf, bytesOf, pairs, digitsOnly, proper}
+use Rattle.hexadecimal.proofs.Hex.{byte-of-pair}
+use Rattle.hexadecimal.proofs.Pairs.{first-pair, proper-parts}
 
 -- ---- the bytes
 

@@ -1,9 +1,9 @@
 -- `decimal_of` meets its contract: a byte of the range from 0 to 9, below it or above it. Assumes nothing.
 use Prim.Native.Nat.{_-_}
 use native.Mathlib.Omega.{arith}
-use Rattle.frames.proofs.Marks.{in-range, below-range, above-range}
-use Rattle.frames.proofs.decimal_of.Statement.{statement}
-use Rattle.frames.proofs.decimal_of.Tie as tie
+use Rattle.hexadecimal.proofs.Marks.{in-range, below-range, above-range}
+use Rattle.hexadecimal.proofs.decimal_of.Statement.{statement}
+use Rattle.hexadecimal.proofs.decimal_of.Tie as tie
 
 returns : tie.Need-returns
 returns c = let b = c .before .before .args .b in in-range 48 57 b (b - 48) (omega arith) (omega arith)

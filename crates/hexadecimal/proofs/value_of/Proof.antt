@@ -1,8 +1,8 @@
 -- `value_of` meets its contract: what no decimal digit is may be a letter. Assumes nothing.
 use borrow.Author.Needs.{needs}
-use Rattle.frames.proofs.Marks.{mark-decimal, mark-letter}
-use Rattle.frames.proofs.value_of.Statement.{statement}
-use Rattle.frames.proofs.value_of.Tie as tie
+use Rattle.hexadecimal.proofs.Marks.{mark-decimal, mark-letter}
+use Rattle.hexadecimal.proofs.value_of.Statement.{statement}
+use Rattle.hexadecimal.proofs.value_of.Tie as tie
 
 decimal-of-requires : tie.Need-decimal-of-requires
 decimal-of-requires c κs = search needs

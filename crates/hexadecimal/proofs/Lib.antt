@@ -1,0 +1,5 @@
+pub mod Hex
+pub mod Pairs
+pub mod Decode
+pub mod Marks
+pub mod Examples

@@ -17,7 +17,7 @@ use Rattle.casefile.specs.Answer.{noHull}
 use Rattle.casefile.specs.Order.{sameGroup, sameLayer}
 use Rattle.rows.specs.Standing.{stands}
 use Rattle.rows.specs.Work.{shareAt, sharesFrom}
-use Rattle.index.specs.Answer.{figures, shares, refusal, answered, sheetAfter}
+use Rattle.answers.specs.Answer.{figures, shares, refusal, answered, sheetAfter}
 
 abbrev ends : ℕ → ℕ → Ends
 ends lower upper = record { lower = lower; upper = upper }

@@ -9,7 +9,7 @@ use borrow.Author.Tests.{le-leb, lt-leb}
 use Rattle.records.specs.declared.Answer.{Answer}
 use Rattle.casefile.specs.Reading.{Reading}
 use Rattle.figures.specs.Figures.{figuresIn}
-use Rattle.index.specs.Answer.{answered, sheetAfter}
+use Rattle.answers.specs.Answer.{answered, sheetAfter}
 use Rattle.host.specs.Figures.{figureCount, figuresAfter, sheetBeside}
 
 module _ (r : Reading) (lent sheet : List ℕ) where

@@ -6,7 +6,7 @@ use lib.Dec.{leb}
 use lib.ListN.{length}
 use Rattle.casefile.specs.Reading.{Reading}
 use Rattle.figures.specs.Figures.{figuresIn}
-use Rattle.index.specs.Answer.{answered, sheetAfter}
+use Rattle.answers.specs.Answer.{answered, sheetAfter}
 
 -- there is room for all twelve
 abbrev pub haveRoom : List ℕ → Bool

@@ -2,7 +2,7 @@
 ghost use mathlib.Core.Path.{_≡_};
 ghost use lib.ListN.{length};
 ghost use Rattle.casefile.specs.Reading.{reading};
-ghost use Rattle.index.specs.Report.{reportLength, reportedIn};
+ghost use Rattle.answers.specs.Report.{reportLength, reportedIn};
 ghost use Rattle.host.specs.Figures.{figureCount, figuresAfter, sheetBeside};
 
 // The printed answer of any bytes, in front of the buffer, and how many bytes that is: none where there is too little room.

@@ -3,7 +3,6 @@ use Prim.Native.Nat.{ℕ, _*_, _/_, _^_, _≤_, _<_}
 use mathlib.Core.Path.{_≡_, refl, sym, _∙_, ap}
 use mathlib.Core.Bool.{true, false}
 use mathlib.Core.List.{List, _++_}
-use native.Mathlib.Nat.{min-le-left}
 use native.Mathlib.Omega.{arith}
 use lib.Dec.{ltb}
 use lib.ListN.{length, drop}
@@ -14,14 +13,11 @@ use Rattle.records.specs.declared.Ends.{Ends}
 use Rattle.records.specs.declared.Hull.{Hull}
 use Rattle.records.specs.declared.Trio.{Trio}
 use Rattle.solas.specs.Index.{R, partialMark}
-use Rattle.spans.specs.Hull.{shipOf, Hulled}
+use Rattle.spans.specs.Hull.{Hulled}
 use Rattle.spans.specs.Table.{tableOf}
-use Rattle.spans.proofs.Places.{ship-sound}
-use Rattle.chances.specs.Share.{rowOf, rowEnds}
-use Rattle.chances.proofs.Row.{lower-at-most-one}
 use Rattle.records.specs.declared.Ratio.{Ratio}
 use Rattle.numbers.specs.Ratio.{ratioOf}
-use Rattle.indices.specs.Index.{partials, attainedOf, Share}
+use Rattle.indices.specs.Index.{partials, attainedOf}
 use Rattle.verdicts.specs.Verdict.{verdictOf}
 use Rattle.casefile.specs.declared.Judgement.{Judgement}
 use Rattle.casefile.specs.Record.{Case}
@@ -34,26 +30,15 @@ use Rattle.casefile.proofs.Limits.{Sizes, sizes-are}
 use Rattle.casefile.proofs.Refusal.{zero-accepts}
 use Rattle.casefile.proofs.Soundness.{sound}
 use Rattle.casefile.proofs.Kept.{length-kept}
-use Rattle.rows.specs.declared.Standing.{Standing}
 use Rattle.rows.specs.Standing.{nowhere}
-use Rattle.rows.specs.Work.{shareAt, sharesFrom, addsFrom, numbers}
-use Rattle.rows.specs.Running.{Stood, Follow, Ready}
-use Rattle.index.specs.Answer.{partialsOf, figures, answer, shares, keptCase, refusal, answered, sheetAfter}
-use Rattle.index.proofs.ValidCase.{hulled, rows-follow}
--- checked first, so that a definition that gives another number is refused there
-use Rattle.index.proofs.Values.{figures-are}
+use Rattle.rows.specs.Work.{sharesFrom, addsFrom, numbers}
+use Rattle.rows.specs.Running.{Follow, Ready}
+use Rattle.answers.specs.Answer.{partialsOf, figures, answer, shares, refusal, answered, sheetAfter}
+use Rattle.answers.proofs.ValidCase.{hulled, rows-follow}
+use Rattle.answers.proofs.Shares.{share-small}
+use Rattle.index.specs.Kept.{keptCase}
 
--- ---- a hull's rows have shares of at most one
-
-pub share-small : {h : Hull} → Hulled h → (y : Standing) → Stood h y → Share (shareAt h y)
-unfolding shareAt rowEnds rowOf
-share-small {h} k y s =
-    let r = y .head in
-    record {
-      low = lower-at-most-one (shipOf h) (r .first) (r .count) (y .before) (r .depth)
-          (record { sound = ship-sound k; narrow = k .narrow; group = s .group; some = s .some; rising = s .deeper; deep = s .within });
-      high = min-le-left (10 ^ 9) _;
-    }
+-- ---- a hull with its span table
 
 pub ready : {h : Hull} {t : List ℕ} → Hulled h → t ≡ tableOf h → Ready h t
 ready k e = record { hull = k; table = e; shares = share-small k }

@@ -1,4 +1,2 @@
-pub mod Values
-pub mod ValidCase
 pub mod Accepted
 pub mod Reported

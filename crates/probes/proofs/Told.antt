@@ -18,7 +18,7 @@ use Rattle.spans.specs.Hull.{shipOf, Hulled}
 use Rattle.chances.specs.Share.{rowEnds}
 use Rattle.casefile.specs.Limits.{sizesFit, zonesFit, rowFits}
 use Rattle.casefile.proofs.Limits.{row-is}
-use Rattle.index.proofs.ValidCase.{fits-hulled}
+use Rattle.answers.proofs.ValidCase.{fits-hulled}
 use Rattle.probes.specs.Shares.{hullIn, hullFits, rowWith, shareIn, shareAt, sharesFrom, rowsTold}
 
 pub hull-is : (h : Hull) → hullFits h ≡ true → Hulled h

@@ -26,8 +26,8 @@ use Rattle.rows.specs.declared.Standing.{Standing}
 use Rattle.rows.specs.Standing.{nowhere, stands}
 use Rattle.rows.specs.Work.{shareAt, addsAt, addsFrom}
 use Rattle.rows.specs.Running.{Stood, Follow}
-use Rattle.index.specs.Answer.{partialsOf}
-use Rattle.index.proofs.ValidCase.{hulled, rows-follow}
+use Rattle.answers.specs.Answer.{partialsOf}
+use Rattle.answers.proofs.ValidCase.{hulled, rows-follow}
 use Rattle.promises.specs.Rows.{exactRow, exactRows, rowsOf}
 -- checked first, so that a sentence that is not so is refused at a number
 use Rattle.promises.proofs.WitnessEnclosure.{no-more}

@@ -31,7 +31,7 @@ use Rattle.casefile.proofs.Limits.{Sizes, sizes-are}
 use Rattle.rows.specs.declared.Standing.{Standing}
 use Rattle.rows.specs.Standing.{nowhere, stands}
 use Rattle.rows.specs.Running.{Stood, Follow}
-use Rattle.index.proofs.ValidCase.{hulled, rows-follow}
+use Rattle.answers.proofs.ValidCase.{hulled, rows-follow}
 use Rattle.promises.specs.Rows.{exactRow, exactRows, rowsOf, chances, groupShare, AllListed}
 use Rattle.promises.proofs.Numerators.{gives, is-gives, is-all, gives-nothing, all-give}
 use Rattle.promises.proofs.Weighed.{rowsWeigh, groupGives, groupsIn, case-weighs}

@@ -32,11 +32,11 @@ use Rattle.rows.specs.Standing.{nowhere, stands}
 use Rattle.rows.specs.Work as work
 use Rattle.rows.specs.Work.{shareAt, sharesFrom}
 use Rattle.rows.specs.Running.{Stood, Follow}
-use Rattle.index.specs.Answer.{partialsOf, figures, answer, shares, answered}
-use Rattle.index.specs.Answer as answers
-use Rattle.index.specs.Report.{sharesIn, report}
-use Rattle.index.proofs.ValidCase.{hulled, rows-follow}
-use Rattle.index.proofs.Accepted.{share-small}
+use Rattle.answers.specs.Answer.{partialsOf, figures, answer, shares, answered}
+use Rattle.answers.specs.Answer as answers
+use Rattle.answers.specs.Report.{sharesIn, report}
+use Rattle.answers.proofs.ValidCase.{hulled, rows-follow}
+use Rattle.answers.proofs.Shares.{share-small}
 use Rattle.rows.proofs.InTurn.{length-numbers}
 use Rattle.promises.specs.Rows.{rowsOf, chances}
 use Rattle.promises.specs.Printing.{EveryFigureFits, PrintedReadsBack}

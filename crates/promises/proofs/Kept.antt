@@ -30,7 +30,7 @@ use Rattle.casefile.specs.Valid.{Valid}
 use Rattle.casefile.specs.Reading.{Reading, refused, accepted, reading}
 use Rattle.casefile.proofs.Soundness.{sound}
 use Rattle.casefile.proofs.Refusal.{nonzero, is-refusal}
-use Rattle.index.specs.Answer.{figures, answer, refusal, answered}
+use Rattle.answers.specs.Answer.{figures, answer, refusal, answered}
 use Rattle.promises.specs.Rows.{exactRows, rowsOf}
 use Rattle.promises.specs.Promises.{Enclosure, Near, Width, Chances, Verdict, Kept, Promise, PromiseOfTheEntry}
 use Rattle.promises.proofs.CaseRows.{sums-are, as-many, all-sound, all-close}

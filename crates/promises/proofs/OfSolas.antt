@@ -23,7 +23,7 @@ use Rattle.rows.specs.declared.Standing.{Standing}
 use Rattle.rows.specs.Standing.{nowhere, stands, standings}
 use Rattle.rows.specs.Running.{Follow}
 use Rattle.rows.proofs.Stands.{inGroup, in-layer, in-next-layer, in-new-group, head-is}
-use Rattle.index.proofs.ValidCase.{hulled, rows-follow}
+use Rattle.answers.proofs.ValidCase.{hulled, rows-follow}
 use Rattle.promises.specs.Rows.{exactRows}
 use Rattle.promises.specs.OfSolas.{SharesOfSolas}
 

@@ -34,8 +34,8 @@ use Rattle.digits.specs.Fields.{endsField, partialField, partialsField}
 use Rattle.printing.specs.Printed.{printed, figuresFrame, refusalFrame, shareFrame, shareLines}
 use Rattle.rows.specs.Standing.{stands}
 use Rattle.rows.specs.Work.{shareAt, addsAt, sharesFrom, addsFrom}
-use Rattle.index.specs.Answer.{partialsOf, figures, answer, shares, answered}
-use Rattle.index.specs.Report.{sharesIn, report}
+use Rattle.answers.specs.Answer.{partialsOf, figures, answer, shares, answered}
+use Rattle.answers.specs.Report.{sharesIn, report}
 use Rattle.promises.specs.OneFile.{printedCase, text, OneFileIsRead, OneFileInFull}
 
 pub file-read : OneFileIsRead

@@ -10,7 +10,7 @@ use borrow.Author.Tests.{ltb-true, ltb-false, lt-ltb, le-ltb}
 use Rattle.casefile.specs.Record.{Case}
 use Rattle.casefile.specs.Reading.{Reading, refused, accepted, reading}
 use Rattle.casefile.proofs.Refusal.{is-refusal, refusal-is, nonzero}
-use Rattle.index.specs.Answer.{figures, answer, refusal, answered, sheetAfter}
+use Rattle.answers.specs.Answer.{figures, answer, refusal, answered, sheetAfter}
 use Rattle.promises.specs.Service.{FileOf, AcceptedExactly, RefusedFor, by-table, no-room, RefusedExactly, RefusalsAreBare}
 use Rattle.promises.proofs.Files.{is-file, file-is}
 -- checked first, so that a sentence that is not so is refused at a number

@@ -15,8 +15,8 @@ use Rattle.rows.specs.Standing.{nowhere, stands}
 use Rattle.rows.specs.Work.{sharesFrom, numbers}
 use Rattle.rows.proofs.InTurn.{length-numbers}
 use Rattle.rows.specs.Running.{Follow}
-use Rattle.index.specs.Answer.{shares, sheetAfter}
-use Rattle.index.proofs.ValidCase.{hulled, rows-follow}
+use Rattle.answers.specs.Answer.{shares, sheetAfter}
+use Rattle.answers.proofs.ValidCase.{hulled, rows-follow}
 use Rattle.promises.specs.Rows.{exactRows}
 use Rattle.promises.specs.Sheet.{TellsRows, SheetTells}
 use Rattle.promises.proofs.CaseRows.{sound-row, close-row}

@@ -13,8 +13,8 @@ use Rattle.casefile.proofs.Soundness.{sound}
 use Rattle.printing.specs.Printed.{printedLength}
 use Rattle.printing.proofs.Whole.{length-printed}
 use Rattle.rows.specs.Standing.{nowhere}
-use Rattle.index.specs.Answer.{figures, answer, shares, refusal, answered}
-use Rattle.index.specs.Report.{sharesIn, report}
+use Rattle.answers.specs.Answer.{figures, answer, shares, refusal, answered}
+use Rattle.answers.specs.Report.{sharesIn, report}
 use Rattle.rows.proofs.InTurn.{length-numbers}
 use Rattle.promises.specs.Sizes.{shortestReport, longestReport, longestSheet, ReportsFit, SheetsServe}
 

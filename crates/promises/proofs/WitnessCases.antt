@@ -30,7 +30,7 @@ use Rattle.casefile.specs.Record.{Row, Case}
 use Rattle.casefile.specs.Order.{sameGroup, sameLayer}
 use Rattle.rows.specs.Standing.{stands}
 use Rattle.rows.specs.Work.{shareAt, addsAt, addsFrom}
-use Rattle.index.specs.Answer.{partialsOf, figures, answer}
+use Rattle.answers.specs.Answer.{partialsOf, figures, answer}
 
 -- 100 m long, 16 m broad, draughts of 6 and 4 m, with at most three zones, which end here
 abbrev hull : ℕ → ℕ → ℕ → ℕ → Hull

@@ -6,7 +6,7 @@ use lib.Dec.{lit<}
 use lib.ListN.{length}
 use Rattle.casefile.specs.Record.{Case}
 use Rattle.casefile.specs.Reading.{Reading, refused, accepted, reading}
-use Rattle.index.specs.Answer.{answered}
+use Rattle.answers.specs.Answer.{answered}
 use Rattle.promises.specs.Service.{FileOf, AcceptedExactly, RefusedFor, no-room}
 use Rattle.promises.specs.OneFile.{file, printedCase}
 use Rattle.promises.proofs.WitnessNumbers.{Said}

@@ -7,7 +7,7 @@ use mathlib.Core.List.{List, [], _∷_, _++_}
 use Rattle.records.specs.declared.Finding.{Finding}
 use Rattle.casefile.specs.Record.{Row, Case}
 use Rattle.casefile.specs.Reading.{accepted, reading}
-use Rattle.index.specs.Report.{report}
+use Rattle.answers.specs.Report.{report}
 
 -- a line's characters as bytes, closed by a line feed
 abbrev pub line : String → List ℕ

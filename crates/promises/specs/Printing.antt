@@ -4,8 +4,8 @@ use mathlib.Core.Path.{_≡_}
 use mathlib.Core.List.{List}
 use Rattle.printing.specs.ReadBack.{Printable, toldBy, readBack}
 use Rattle.casefile.specs.Reading.{reading}
-use Rattle.index.specs.Answer.{answered}
-use Rattle.index.specs.Report.{sharesIn, report}
+use Rattle.answers.specs.Answer.{answered}
+use Rattle.answers.specs.Report.{sharesIn, report}
 
 abbrev pub EveryFigureFits : Type 0
 EveryFigureFits = (f : List ℕ) → Printable (answered (reading f) 1000) (sharesIn (reading f))

@@ -14,7 +14,7 @@ use Rattle.indices.specs.Exact.{RowAt, NoneAbove, NoneBelow, weightedSum, Thric
 use Rattle.verdicts.specs.Promises.{ByEnds, ReachAll, OneShort}
 use Rattle.casefile.specs.Record.{Case}
 use Rattle.casefile.specs.Reading.{accepted, reading}
-use Rattle.index.specs.Answer.{answer, answered}
+use Rattle.answers.specs.Answer.{answer, answered}
 use Rattle.promises.specs.Rows.{rowsOf, chances, AllListed}
 
 module _ (c : Case) (r : Answer) where

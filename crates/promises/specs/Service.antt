@@ -10,7 +10,7 @@ use Rattle.casefile.specs.Valid.{Valid}
 use Rattle.casefile.specs.Encode.{encode}
 use Rattle.casefile.specs.Reading.{reading}
 use Rattle.casefile.specs.Refusal.{Refusal}
-use Rattle.index.specs.Answer.{refusal, answered, sheetAfter}
+use Rattle.answers.specs.Answer.{refusal, answered, sheetAfter}
 
 -- the bytes are the file of the case c, which keeps 01's limits and order, and are not too many
 pub record FileOf (f : List ℕ) (c : Case) : Type 0 where

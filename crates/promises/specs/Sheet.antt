@@ -9,7 +9,7 @@ use Rattle.indices.specs.Exact as exact
 use Rattle.casefile.specs.Record.{Case}
 use Rattle.casefile.specs.Reading.{accepted, reading}
 use Rattle.rows.specs.Standing.{nowhere}
-use Rattle.index.specs.Answer.{sheetAfter}
+use Rattle.answers.specs.Answer.{sheetAfter}
 use Rattle.promises.specs.Rows.{exactRows}
 
 -- the two numbers tell the row's exact share

@@ -5,8 +5,8 @@ use mathlib.Core.List.{List}
 use lib.ListN.{length}
 use Rattle.casefile.specs.Record.{Case}
 use Rattle.casefile.specs.Reading.{accepted, reading}
-use Rattle.index.specs.Answer.{answer, answered}
-use Rattle.index.specs.Report.{report}
+use Rattle.answers.specs.Answer.{answer, answered}
+use Rattle.answers.specs.Report.{report}
 
 -- bytes of a refusal's line, and of the answer of 500 rows
 abbrev pub shortestReport : ℕ

@@ -1,4 +1,4 @@
--- A and the verdict of a ship of 100 m, whose R is 31/63, one ship for each verdict; and what is left on a sheet of two numbers. Assumes nothing.
+-- A and the verdict of a ship of 100 m, whose R is 31/63, one ship for each verdict; and what is left on a sheet of two or three numbers. Assumes nothing.
 use Prim.Native.Nat.{ℕ}
 use mathlib.Core.Path.{_≡_, refl}
 use mathlib.Core.List.{List, [], _∷_}
@@ -17,7 +17,7 @@ use Rattle.casefile.specs.Answer.{noHull}
 use Rattle.casefile.specs.Order.{sameGroup, sameLayer}
 use Rattle.rows.specs.Standing.{stands}
 use Rattle.rows.specs.Work.{shareAt, sharesFrom}
-use Rattle.index.specs.Answer.{figures, shares, refusal, answered, sheetAfter}
+use Rattle.answers.specs.Answer.{figures, shares, refusal, answered, sheetAfter}
 
 abbrev ends : ℕ → ℕ → Ends
 ends lower upper = record { lower = lower; upper = upper }
@@ -48,7 +48,9 @@ pub record Sheets : Type 0 where
   pub refusal-leaves : sheetAfter (refused 3 1) (7 ∷ 8 ∷ []) ≡ 7 ∷ 8 ∷ []
   pub rest-stays : sheetAfter (accepted (case [])) (7 ∷ 8 ∷ []) ≡ 7 ∷ 8 ∷ []
   pub shares-written : sheetAfter (accepted (case (zoneless ∷ []))) (7 ∷ 8 ∷ []) ≡ 0 ∷ 0 ∷ []
+  -- and of three numbers the third stays
+  pub shares-then-rest : sheetAfter (accepted (case (zoneless ∷ []))) (7 ∷ 8 ∷ 9 ∷ []) ≡ 0 ∷ 0 ∷ 9 ∷ []
 
 pub sheets-are : Sheets
 unfolding answered sheetAfter shares sharesFrom shareAt stands sameGroup sameLayer rowEnds rowOf lowest highest sumsOf added taken
-sheets-are = record { number-first = refl; refusal-leaves = refl; rest-stays = refl; shares-written = refl }
+sheets-are = record { number-first = refl; refusal-leaves = refl; rest-stays = refl; shares-written = refl; shares-then-rest = refl }

@@ -6,7 +6,6 @@ use lib.ListN.{length, drop}
 use lib.Dec.{ltb}
 use Rattle.records.specs.declared.Answer.{Answer}
 use Rattle.records.specs.declared.Ends.{Ends}
-use Rattle.records.specs.declared.Hull.{Hull}
 use Rattle.records.specs.declared.Trio.{Trio}
 use Rattle.solas.specs.Index.{R, partialMark}
 use Rattle.numbers.specs.Ratio.{ratioOf}
@@ -14,7 +13,6 @@ use Rattle.indices.specs.Index.{partials, attainedOf}
 use Rattle.verdicts.specs.Verdict.{verdictOf}
 use Rattle.casefile.specs.Record.{Case}
 use Rattle.casefile.specs.Reading.{Reading, refused, accepted}
-use Rattle.casefile.specs.Kept.{keptRows}
 use Rattle.rows.specs.Standing.{nowhere}
 use Rattle.rows.specs.Work.{sharesFrom, addsFrom, numbers}
 
@@ -41,10 +39,6 @@ answer c = figures (c .hull .length) (length (c .rows)) (partialsOf c)
 
 unfoldable pub shares : Case → List ℕ
 shares c = numbers (sharesFrom (c .hull) nowhere (c .rows))
-
--- the case of a hull and of so many rows as they are kept
-abbrev pub keptCase : List ℕ → Hull → ℕ → Case
-keptCase kept h rows = record { hull = h; rows = keptRows rows kept 0 }
 
 -- ---- any input, and a sheet of so many numbers
 

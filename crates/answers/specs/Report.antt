@@ -6,7 +6,7 @@ use lib.Dec.{leb}
 use lib.ListN.{length, drop}
 use Rattle.casefile.specs.Reading.{Reading, refused, accepted}
 use Rattle.printing.specs.Printed.{printed}
-use Rattle.index.specs.Answer.{shares, answered}
+use Rattle.answers.specs.Answer.{shares, answered}
 
 -- the shares of an accepted case
 unfoldable pub sharesIn : Reading → List ℕ

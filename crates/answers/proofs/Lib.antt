@@ -1,4 +1,4 @@
 pub mod Values
 pub mod ValidCase
 pub mod Shares
-pub mod Reported
+pub mod Prints

@@ -42,15 +42,15 @@ shares c = numbers (sharesFrom (c .hull) nowhere (c .rows))
 
 -- ---- any input, and a sheet of so many numbers
 
-abbrev pub nothing : Ends
-nothing = record { lower = 0; upper = 0 }
+abbrev pub noEnds : Ends
+noEnds = record { lower = 0; upper = 0 }
 
 abbrev pub zeros : Trio
 zeros = record { lower = 0 ∷ 0 ∷ 0 ∷ []; upper = 0 ∷ 0 ∷ 0 ∷ [] }
 
 -- "A refusal returns number and line, zeros otherwise"
 abbrev pub refusal : ℕ → ℕ → Answer
-refusal k l = record { number = k; line = l; verdict = 0; rows = 0; attained = nothing; partials = zeros }
+refusal k l = record { number = k; line = l; verdict = 0; rows = 0; attained = noEnds; partials = zeros }
 
 -- 11: "sheet shorter than 2 numbers a row", judged last, line 0
 unfoldable pub answered : Reading → ℕ → Answer

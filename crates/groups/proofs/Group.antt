@@ -49,7 +49,7 @@ module _ (s : Ship) (b a : ℕ) where
       rw (i, j, e, f, g, h, v, u)
 
 -- by the bulkheads of a group of a hull's zones, they are the group's
-pub hull-sums : (h : Hull) (b a n : ℕ) → 1 ≤ n → sumsAcross (h .length) (h .breadth) (bulkheadsOf h a n) b n ≡ sumsOf (shipOf h) b a n
+hull-sums : (h : Hull) (b a n : ℕ) → 1 ≤ n → sumsAcross (h .length) (h .breadth) (bulkheadsOf h a n) b n ≡ sumsOf (shipOf h) b a n
 unfolding sumsAcross bulkheadsOf
 hull-sums h b a zero o = absurd (omega arith)
 hull-sums h b a (suc zero) o = one-zone-sums (shipOf h) b a (zones-within (shipOf h) b a a refl (place h (omega arith)))
@@ -90,7 +90,7 @@ pub lent : {t : List ℕ} {h : Hull} {k : Bulkheads} {a n : ℕ} → Hulled h �
     Lent t (h .length) (h .breadth) k a n
 lent {h = h} p e g i = record { hull = h; hulled = p; table = e; group = g; long = refl; broad = refl; bulkheads = i }
 
-pub depth-is : (B b : ℕ) {y : Layer} → y ≡ layerOf B b → y .depth ≡ b
+depth-is : (B b : ℕ) {y : Layer} → y ≡ layerOf B b → y .depth ≡ b
 unfolding layerOf
 depth-is B b e = ap (λ z. z .depth) e
 

@@ -1,4 +1,4 @@
--- What is lent to the working out of a row's share: the bulkheads of its group of zones, and the sums that go by them alone. Assumes nothing.
+-- What is lent to the working out of a group's sums: the bulkheads of its zones, and the sums that go by them alone. Assumes nothing.
 use Prim.Native.Nat.{ℕ, zero, suc, _+_, _-_, _*_, _≤_}
 use mathlib.Core.Path.{_≡_}
 use mathlib.Core.List.{List, [], _∷_}

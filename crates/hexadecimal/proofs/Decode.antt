@@ -76,7 +76,7 @@ unfolding digitsOnly
 digits-joined [] t = refl
 digits-joined (b ∷ s) t = ap (isDigit b &&_) (digits-joined s t) ∙ sym (and-assoc (isDigit b) (digitsOnly s) (digitsOnly t))
 
-pub digits-in-two : (k : ℕ) (s : List ℕ) → digitsOnly s ≡ (digitsOnly (take k s) && digitsOnly (drop k s))
+digits-in-two : (k : ℕ) (s : List ℕ) → digitsOnly s ≡ (digitsOnly (take k s) && digitsOnly (drop k s))
 digits-in-two k s = ap digitsOnly (sym (take-append-drop k s)) ∙ digits-joined (take k s) (drop k s)
 
 -- ---- a line is well written where both parts have digits only, and it is neither odd nor without a pair

@@ -13,7 +13,7 @@ use Rattle.hexadecimal.specs.Hex.{digitOf, joined, pairOf, byteOf, digit
 
 -- ---- one digit
 
-pub not-bad : {A : Type 0} (v : ℕ) → Bad ≡ Value v → A
+not-bad : {A : Type 0} (v : ℕ) → Bad ≡ Value v → A
 not-bad v e = let z : _≡_ {A = ℕ} 0 1 = cc in absurd (omega arith)
 
 -- what a digit's value tells: it is below 16, and the digit is the value's
@@ -47,7 +47,7 @@ module _ (b v : ℕ) where
   pub digit-below : digitOf b ≡ Value v → v < 16
   digit-below e = digit-is e .0
 
-  pub digit-again : digitOf b ≡ Value v → digit v ≡ b
+  digit-again : digitOf b ≡ Value v → digit v ≡ b
   digit-again e = digit-is e .1
 
 -- the other way: the digit of a number below 16 has it as its value
@@ -71,7 +71,7 @@ module _ (n : ℕ) (h : n < 16) where
 
 -- ---- a pair
 
-pub pair-parts : (d e : Digit) (x : ℕ) → joined d e ≡ Value x → (h : ℕ) × (l : ℕ) × (d ≡ Value h) × (e ≡ Value l) × (x ≡ h * 16 + l)
+pair-parts : (d e : Digit) (x : ℕ) → joined d e ≡ Value x → (h : ℕ) × (l : ℕ) × (d ≡ Value h) × (e ≡ Value l) × (x ≡ h * 16 + l)
 pair-parts (Value h) (Value l) x q = let k : h * 16 + l ≡ x = cc in (h, l, refl, refl, sym k)
 pair-parts (Value h) Bad x q = not-bad x q
 pair-parts Bad e x q = not-bad x q

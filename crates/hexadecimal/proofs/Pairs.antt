@@ -41,7 +41,7 @@ unfolding proper
 proper-hex bs o h =
     rw (lt-ltb 0 (length (hex bs)) (omega (arith, length-hex bs)), eq-eqb (length (hex bs) % 2) 0 (omega (arith, length-hex bs)), digits-of-hex bs o) refl
 
-pub feedless : (bs : List ℕ) → Octets bs → NoFeed (hex bs)
+feedless : (bs : List ℕ) → Octets bs → NoFeed (hex bs)
 unfolding hex
 feedless [] o = tt
 feedless (b ∷ bs) o =

@@ -5,7 +5,7 @@ ghost use Prim.Native.Nat.{_-_};
 ghost use lib.Dec.{leb};
 ghost use Rattle.hexadecimal.specs.Hex.{digitOf, markOf};
 
-// What a pair of bytes is in a line of digits: the byte that it writes, or no pair of digits.
+// What a byte is as a digit, or two bytes as a pair of digits: the value that they write, or none.
 pub enum Digit {
     Value(u8),
     Bad,

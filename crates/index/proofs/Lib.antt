@@ -1,2 +1,2 @@
-pub mod Accepted
-pub mod Reported
+mod Accepted
+mod Reported

@@ -12,7 +12,7 @@ use Rattle.casefile.proofs.Soundness.{sound}
 use Rattle.printing.specs.Written.{textOf, canPrint, lengthOf, writtenOf}
 use Rattle.answers.specs.Answer.{answered, sheetAfter}
 use Rattle.answers.specs.Report.{report, reportLength, reportedIn}
-use Rattle.answers.proofs.Reported.{Prints, prints}
+use Rattle.answers.proofs.Prints.{Prints, prints}
 
 module _ (f out blank : List ℕ) {sheet : List ℕ} {a : Answer} (long : length blank ≡ 1000) (answers : a ≡ answered (reading f) (length blank)) (filled : sheet ≡ sheetAfter (reading f) blank) where
   known : Prints (reading f) blank

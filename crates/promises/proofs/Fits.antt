@@ -125,12 +125,12 @@ fits-by f (refused k l) e = record {
   number-fits = number-fits k (of-the-table f k l e);
   line-fits = line-fits f k l (is-refusal f k l e);
   verdict-fits = omega arith;
-  ends-fit = ends-short (answers.nothing ∷ answers.nothing ∷ answers.nothing ∷ answers.nothing ∷ []) (none, (none, (none, (none, tt))));
+  ends-fit = ends-short (answers.noEnds ∷ answers.noEnds ∷ answers.noEnds ∷ answers.noEnds ∷ []) (none, (none, (none, (none, tt))));
   shares-fit = ends-short [] tt;
   two-a-row = refl;
 }
   where
-    none : Small answers.nothing
+    none : Small answers.noEnds
     none = record { low = omega arith; high = omega arith }
 fits-by f (accepted c) e =
     let few = sound f c e .1 .few in

@@ -1,7 +1,7 @@
 -- The program's `main`: what it writes lies in its buffer. Assumes nothing.
 use borrow.Author.Needs.{needs}
 use Rattle.io.proofs.Counting.{front}
-use Rattle.answers.proofs.Reported.{reported-fits}
+use Rattle.answers.proofs.Prints.{reported-fits}
 use Rattle.damindex.proofs.main.Statement.{statement}
 use Rattle.damindex.proofs.main.Tie as tie
 

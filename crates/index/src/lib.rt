@@ -39,7 +39,7 @@ fn conclude(size: u64, rows: u64, partials: Trio) -> Answer
     requires { ⌜ (size ≤ 10 ^ 6) × Within (2 ^ 60) partials ⌝ }
     ensures { λ r. ⌜ r ≡ figures size rows partials ⌝ }
 {
-    let attained = indices::attained(partials);
+    let attained = sums::attained(partials);
     let required = verdicts::required(size);
     let mark = verdicts::partial_mark(size);
     let verdict = verdicts::verdict(attained, partials, required, mark);

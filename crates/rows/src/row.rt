@@ -103,8 +103,8 @@ pub fn enter(
     let z = next(y, head);
     let part = part_after(t, h, y, last, z);
     let share = part.share;
-    let adds = indices::row(share, z.below, head.height, at, head.kind, results);
-    let sums = indices::sum(so_far, adds);
+    let adds = sums::row(share, z.below, head.height, at, head.kind, results);
+    let sums = sums::sum(so_far, adds);
     Running {
         standing: z,
         part,

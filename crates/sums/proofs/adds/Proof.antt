@@ -1,12 +1,12 @@
--- `indices::adds` meets its contract. Assumes nothing.
+-- `sums::adds` meets its contract. Assumes nothing.
 use borrow.Author.Needs.{needs}
 use mathlib.Core.Path.{ap, _∙_}
 use Prim.Native.Nat.{_/_}
 use Rattle.laws.specs.Rounding.{ceil}
 use Rattle.numbers.proofs.Figures.{both}
 use Rattle.indices.specs.Index.{scale, addsOf}
-use Rattle.indices.proofs.adds.Statement.{statement}
-use Rattle.indices.proofs.adds.Tie as tie
+use Rattle.sums.proofs.adds.Statement.{statement}
+use Rattle.sums.proofs.adds.Tie as tie
 
 product-requires : tie.Need-product-requires
 product-requires c κs = search needs

@@ -1,12 +1,12 @@
--- `indices::attained` meets its contract. Assumes nothing.
+-- `sums::attained` meets its contract. Assumes nothing.
 use borrow.Author.Needs.{needs}
 use mathlib.Core.Path.{ap, _∙_}
 use Prim.Native.Nat.{_/_}
 use Rattle.laws.specs.Rounding.{ceil}
 use Rattle.numbers.proofs.Figures.{both}
 use Rattle.indices.specs.Index.{attainedOf}
-use Rattle.indices.proofs.attained.Statement.{statement}
-use Rattle.indices.proofs.attained.Tie as tie
+use Rattle.sums.proofs.attained.Statement.{statement}
+use Rattle.sums.proofs.attained.Tie as tie
 
 weighted-requires : tie.Need-weighted-requires
 weighted-requires c κs = search needs

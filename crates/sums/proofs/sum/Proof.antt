@@ -1,9 +1,9 @@
--- `indices::sum` meets its contract. Assumes nothing.
+-- `sums::sum` meets its contract. Assumes nothing.
 use borrow.Author.Needs.{needs}
 use Rattle.indices.specs.Index.{plus}
 use Rattle.indices.proofs.Rows.{both}
-use Rattle.indices.proofs.sum.Statement.{statement}
-use Rattle.indices.proofs.sum.Tie as tie
+use Rattle.sums.proofs.sum.Statement.{statement}
+use Rattle.sums.proofs.sum.Tie as tie
 
 three-sums-requires : tie.Need-three-sums-requires
 three-sums-requires c κs = search needs

@@ -1,9 +1,9 @@
--- `indices::row_adds` meets its contract, draught by draught. Assumes nothing.
+-- `sums::row_adds` meets its contract, draught by draught. Assumes nothing.
 use borrow.Author.Needs.{needs}
 use Rattle.indices.specs.Index.{rowAdds}
 use Rattle.indices.proofs.Rows.{three}
-use Rattle.indices.proofs.row_adds.Statement.{statement}
-use Rattle.indices.proofs.row_adds.Tie as tie
+use Rattle.sums.proofs.row_adds.Statement.{statement}
+use Rattle.sums.proofs.row_adds.Tie as tie
 
 array-copy-out-s : tie.Need-array-copy-out-s
 array-copy-out-s c = search needs

@@ -1,8 +1,8 @@
--- `indices::row` meets its contract: v and survival are at most one. Assumes nothing.
+-- `sums::row` meets its contract: v and survival are at most one. Assumes nothing.
 use borrow.Author.Needs.{needs}
 use Rattle.indices.proofs.Rows.{row-weights}
-use Rattle.indices.proofs.row.Statement.{statement}
-use Rattle.indices.proofs.row.Tie as tie
+use Rattle.sums.proofs.row.Statement.{statement}
+use Rattle.sums.proofs.row.Tie as tie
 
 row-factors-requires : tie.Need-row-factors-requires
 row-factors-requires c κs = search needs

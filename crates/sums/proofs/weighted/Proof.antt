@@ -1,8 +1,8 @@
--- `indices::weighted` meets its contract: no sum wraps. Assumes nothing.
+-- `sums::weighted` meets its contract: no sum wraps. Assumes nothing.
 use borrow.Author.Needs.{needs}
 use native.Mathlib.Omega.{arith}
-use Rattle.indices.proofs.weighted.Statement.{statement}
-use Rattle.indices.proofs.weighted.Tie as tie
+use Rattle.sums.proofs.weighted.Statement.{statement}
+use Rattle.sums.proofs.weighted.Tie as tie
 
 array-read-result : tie.Need-array-read-result
 array-read-result c = search needs

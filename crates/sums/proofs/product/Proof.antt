@@ -1,9 +1,9 @@
--- `indices::product` meets its contract: neither product wraps. Assumes nothing.
+-- `sums::product` meets its contract: neither product wraps. Assumes nothing.
 use borrow.Author.Needs.{needs}
 use native.Mathlib.Nat.{mul-le-mul}
 use native.Mathlib.Omega.{arith}
-use Rattle.indices.proofs.product.Statement.{statement}
-use Rattle.indices.proofs.product.Tie as tie
+use Rattle.sums.proofs.product.Statement.{statement}
+use Rattle.sums.proofs.product.Tie as tie
 
 mul-result : tie.Need-mul-result
 mul-result c = omega (arith, mul-le-mul (c .pre .0) (c .pre .1))

@@ -1,10 +1,10 @@
--- `indices::three_sums` meets its contract: no sum wraps. Assumes nothing.
+-- `sums::three_sums` meets its contract: no sum wraps. Assumes nothing.
 use borrow.Author.Needs.{needs}
 use mathlib.Core.Path.{refl}
 use native.Mathlib.Omega.{arith}
 use Rattle.indices.specs.Index.{sums}
-use Rattle.indices.proofs.three_sums.Statement.{statement}
-use Rattle.indices.proofs.three_sums.Tie as tie
+use Rattle.sums.proofs.three_sums.Statement.{statement}
+use Rattle.sums.proofs.three_sums.Tie as tie
 
 array-read-t7 : tie.Need-array-read-t7
 array-read-t7 c = search needs

@@ -9,7 +9,7 @@ use Rattle.spans.specs.declared.SpanEnds.{SpanEnds}
 use Rattle.spans.specs.Span.{pEnds, PEnds, spanEnds}
 use Rattle.spans.specs.Hull.{shipOf}
 use Rattle.spans.specs.Table.{spanIn}
-use Rattle.penetration.specs.Layer.{Reached}
+use Rattle.penetration.specs.Reached.{Reached}
 use Rattle.groups.specs.declared.Bulkheads.{Bulkheads}
 use Rattle.groups.specs.Lent.{Lent, Layered, bulkheadsOf}
 use Rattle.spans.proofs.Places.{place-below, place-within}

@@ -10,7 +10,8 @@ use Rattle.spans.specs.Rounded.{Probable}
 use Rattle.spans.specs.Span.{PEnds}
 use Rattle.solas.specs.Penetration.{c, d}
 use Rattle.penetration.specs.Penetration.{GEnds, mixed, QEnds}
-use Rattle.penetration.specs.Layer.{layerOf, Reached}
+use Rattle.penetration.specs.Layer.{layerOf}
+use Rattle.penetration.specs.Reached.{Reached}
 use Rattle.groups.specs.Lent.{alone, across}
 use Rattle.chances.specs.Share.{withinEnds}
 use Rattle.laws.proofs.Polynomial.{pow-two}

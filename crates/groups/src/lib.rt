@@ -17,7 +17,7 @@ ghost use Rattle.spans.specs.Rounded.{Probable};
 ghost use Rattle.spans.specs.Hull.{shipOf, Hulled};
 ghost use Rattle.spans.specs.Table.{tableOf};
 ghost use Rattle.spans.specs.Span.{PEnds};
-ghost use Rattle.penetration.specs.Layer.{Reached};
+ghost use Rattle.penetration.specs.Reached.{Reached};
 ghost use Rattle.chances.specs.Share.{sumsOf, Few, rowEnds};
 ghost use Rattle.groups.specs.Lent.{Lent, Layered, bulkheadsOf, across, sumsAcross};
 

@@ -11,7 +11,8 @@ use Rattle.penetration.specs.declared.Layer.{Layer}
 use Rattle.spans.specs.Rounded.{Probable}
 use Rattle.penetration.specs.Figures.{plus, minus}
 use Rattle.penetration.specs.Penetration.{G1Ends, G3Ends, partEnds, GEnds}
-use Rattle.penetration.specs.Layer.{layerOf, Reached}
+use Rattle.penetration.specs.Layer.{layerOf}
+use Rattle.penetration.specs.Reached.{Reached}
 use Rattle.spans.proofs.Enclosure.{p-probable}
 use Rattle.penetration.proofs.Enclosure.{G1-probable, part-probable}
 

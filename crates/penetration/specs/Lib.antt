@@ -1,3 +1,4 @@
 pub mod Figures
 pub mod Penetration
 pub mod Layer
+pub mod Reached

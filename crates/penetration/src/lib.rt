@@ -14,7 +14,8 @@ ghost use Rattle.numbers.specs.Figures.{halvesOf};
 ghost use Rattle.spans.specs.Rounded.{Probable};
 ghost use Rattle.penetration.specs.Figures.{plus, minus};
 ghost use Rattle.penetration.specs.Penetration.{G1Ends, G3Ends, GEnds, mixed};
-ghost use Rattle.penetration.specs.Layer.{layerOf, Reached};
+ghost use Rattle.penetration.specs.Layer.{layerOf};
+ghost use Rattle.penetration.specs.Reached.{Reached};
 
 // What depends on the penetration alone: C is c/d, then the ends of G1, of G3 and of G3/2.
 pub struct Layer {

@@ -1,8 +1,8 @@
 // The chance of damage to a group of zones within a penetration, and the share of a row, worked from a lent span table.
 use chances::Sums;
 use chances::row_ends;
-use penetration::Layer;
-use penetration::at_depth;
+use layers::Layer;
+use layers::at_depth;
 use penetration::g_ends;
 use penetration::q_ends;
 use penetration::with;

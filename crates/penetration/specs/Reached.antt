@@ -2,8 +2,8 @@
 use Prim.Native.Nat.{ℕ, _-_, _*_, _≤_}
 use mathlib.Core.Path.{_≡_}
 use Rattle.records.specs.declared.Ends.{Ends}
-use Rattle.penetration.specs.declared.Layer.{Layer}
-use Rattle.penetration.specs.Layer.{layerOf}
+use Rattle.layers.specs.declared.Layer.{Layer}
+use Rattle.layers.specs.Layer.{layerOf}
 use Rattle.spans.specs.Span.{pEnds}
 
 -- p's ends of a span of a ship, and a layer of the same ship down to at most half of its breadth

@@ -31,88 +31,87 @@ wider h k = record { near = omega (arith, k .near) }
 half-not-above : {f : Fraction} {n d : ℕ} → 0 < d → Is f n 0 d → half f ≼ f
 half-not-above p h = below-across (is-half h) h (omega arith) p (omega arith)
 
-module _ (B b : ℕ) (h : (1 ≤ B) × (B ≤ 6000) × (2 * b ≤ B)) where
-  module _ (L x : ℕ) (some : 1 ≤ L) (short : L ≤ 19800) (within : x ≤ L) where
-    -- ---- x·G1/L
+module _ (B b : ℕ) (h : (1 ≤ B) × (B ≤ 6000) × (2 * b ≤ B)) (L x : ℕ) (some : 1 ≤ L) (short : L ≤ 19800) (within : x ≤ L) where
+  -- ---- x·G1/L
 
-    pub part-enclosed : Enclosed (partEnds L B x b) ((x over L) ⊛ G1 B b)
-    unfolding partEnds
-    part-enclosed = enclosed-portion x L some (G1-enclosed B b h)
+  pub part-enclosed : Enclosed (partEnds L B x b) ((x over L) ⊛ G1 B b)
+  unfolding partEnds
+  part-enclosed = enclosed-portion x L some (G1-enclosed B b h)
 
-    pub part-near : Near 2 (partEnds L B x b)
-    unfolding partEnds
-    part-near = near-portion x L some within (G1-near B b h)
+  pub part-near : Near 2 (partEnds L B x b)
+  unfolding partEnds
+  part-near = near-portion x L some within (G1-near B b h)
 
-    pub part-probable : Probable (partEnds L B x b)
-    unfolding partEnds
-    part-probable = probable-portion x L some within (G1-probable B b h)
+  pub part-probable : Probable (partEnds L B x b)
+  unfolding partEnds
+  part-probable = probable-portion x L some within (G1-probable B b h)
 
-    -- ---- where the span is long, G3 is not above x·G1/L, and so neither is its half
+  -- ---- where the span is long, G3 is not above x·G1/L, and so neither is its half
 
-    cross : (N M : ℕ) → 2 * M ≤ b * N → b * L ≤ 15 * B * x → M * (L * (7500 * B * B)) ≤ x * N * (56250 * B * B * B)
-    cross N M k l =
-        let low : 2 * M * L ≤ b * N * L = mul-le-mul-right L k in
-        let high : b * L * N ≤ 15 * B * x * N = mul-le-mul-right N l in
-        let both : 2 * M * L ≤ 15 * B * x * N = omega arith in
-        omega (arith, mul-le-mul-left (3750 * B * B) both)
+  cross : (N M : ℕ) → 2 * M ≤ b * N → b * L ≤ 15 * B * x → M * (L * (7500 * B * B)) ≤ x * N * (56250 * B * B * B)
+  cross N M k l =
+      let low : 2 * M * L ≤ b * N * L = mul-le-mul-right L k in
+      let high : b * L * N ≤ 15 * B * x * N = mul-le-mul-right N l in
+      let both : 2 * M * L ≤ 15 * B * x * N = omega arith in
+      omega (arith, mul-le-mul-left (3750 * B * B) both)
 
-    thirds : 2 * (1375 * b * b * B - 363 * b * b * b) ≤ b * (5500 * b * B - 1089 * b * b)
-    thirds = let q = products B b h in omega (arith, mul-sub b (5500 * b * B) (1089 * b * b))
+  thirds : 2 * (1375 * b * b * B - 363 * b * b * b) ≤ b * (5500 * b * B - 1089 * b * b)
+  thirds = let q = products B b h in omega (arith, mul-sub b (5500 * b * B) (1089 * b * b))
 
-    part-is : Is ((x over L) ⊛ G1 B b) (x * (5500 * b * B - 1089 * b * b)) 0 (L * (7500 * B * B))
-    part-is = is-shifted (x * (5500 * b * B - 1089 * b * b)) 0 (omega arith) (is-⊛ (is-over x some) (G1-is B b h))
+  part-is : Is ((x over L) ⊛ G1 B b) (x * (5500 * b * B - 1089 * b * b)) 0 (L * (7500 * B * B))
+  part-is = is-shifted (x * (5500 * b * B - 1089 * b * b)) 0 (omega arith) (is-⊛ (is-over x some) (G1-is B b h))
 
-    G3-below : b * L ≤ 15 * B * x → G3 B b ≼ (x over L) ⊛ G1 B b
-    G3-below l =
-        below-across (G3-is B b h) part-is (G3-proper B b h .0) (mul-pos some (G1-proper B b h .0))
-        (omega (arith, cross (5500 * b * B - 1089 * b * b) (1375 * b * b * B - 363 * b * b * b) thirds l))
+  G3-below : b * L ≤ 15 * B * x → G3 B b ≼ (x over L) ⊛ G1 B b
+  G3-below l =
+      below-across (G3-is B b h) part-is (G3-proper B b h .0) (mul-pos some (G1-proper B b h .0))
+      (omega (arith, cross (5500 * b * B - 1089 * b * b) (1375 * b * b * B - 363 * b * b * b) thirds l))
 
-    half-below : b * L ≤ 15 * B * x → half (G3 B b) ≼ (x over L) ⊛ G1 B b
-    half-below l = ≼-trans (half-not-above (G3-proper B b h .0) (G3-is B b h)) (G3-below l)
+  half-below : b * L ≤ 15 * B * x → half (G3 B b) ≼ (x over L) ⊛ G1 B b
+  half-below l = ≼-trans (half-not-above (G3-proper B b h .0) (G3-is B b h)) (G3-below l)
 
-    -- ---- G, by the ends that the span touches
+  -- ---- G, by the ends that the span touches
 
-    GAt-enclosed : (t : Touch) → Enclosed (GEndsAt t L B x b) (GAt t L B x b)
-    GAt-enclosed neither = chosen (leb (15 * B * x) (b * L)) refl
-      where
-        chosen : (u : Bool) → leb (15 * B * x) (b * L) ≡ u →
-            Enclosed (cond u (pEnds L x) (minus (partEnds L B x b) (G3Ends B b))) (cond u (p L x) ((x over L) ⊛ G1 B b ⊝ G3 B b))
-        chosen true e = p-enclosed L x some short within
-        chosen false e = enclosed-minus (G3-below (le-of-lt (leb-false _ _ e))) part-enclosed (G3-enclosed B b h)
-    GAt-enclosed one = chosen (leb (15 * B * x) (b * L)) refl
-      where
-        chosen : (u : Bool) → leb (15 * B * x) (b * L) ≡ u →
-            Enclosed (cond u (halvesOf (plus (pEnds L x) (partEnds L B x b))) (minus (partEnds L B x b) (halvesOf (G3Ends B b))))
-            (cond u (half (p L x ⊹ (x over L) ⊛ G1 B b)) ((x over L) ⊛ G1 B b ⊝ half (G3 B b)))
-        chosen true e = enclosed-half (enclosed-plus (p-enclosed L x some short within) part-enclosed)
-        chosen false e = enclosed-minus (half-below (le-of-lt (leb-false _ _ e))) part-enclosed (enclosed-half (G3-enclosed B b h))
-    GAt-enclosed both = G1-enclosed B b h
+  GAt-enclosed : (t : Touch) → Enclosed (GEndsAt t L B x b) (GAt t L B x b)
+  GAt-enclosed neither = chosen (leb (15 * B * x) (b * L)) refl
+    where
+      chosen : (u : Bool) → leb (15 * B * x) (b * L) ≡ u →
+          Enclosed (cond u (pEnds L x) (minus (partEnds L B x b) (G3Ends B b))) (cond u (p L x) ((x over L) ⊛ G1 B b ⊝ G3 B b))
+      chosen true e = p-enclosed L x some short within
+      chosen false e = enclosed-minus (G3-below (le-of-lt (leb-false _ _ e))) part-enclosed (G3-enclosed B b h)
+  GAt-enclosed one = chosen (leb (15 * B * x) (b * L)) refl
+    where
+      chosen : (u : Bool) → leb (15 * B * x) (b * L) ≡ u →
+          Enclosed (cond u (halvesOf (plus (pEnds L x) (partEnds L B x b))) (minus (partEnds L B x b) (halvesOf (G3Ends B b))))
+          (cond u (half (p L x ⊹ (x over L) ⊛ G1 B b)) ((x over L) ⊛ G1 B b ⊝ half (G3 B b)))
+      chosen true e = enclosed-half (enclosed-plus (p-enclosed L x some short within) part-enclosed)
+      chosen false e = enclosed-minus (half-below (le-of-lt (leb-false _ _ e))) part-enclosed (enclosed-half (G3-enclosed B b h))
+  GAt-enclosed both = G1-enclosed B b h
 
-    GAt-near : (t : Touch) → Near 3 (GEndsAt t L B x b)
-    GAt-near neither = chosen (leb (15 * B * x) (b * L))
-      where
-        chosen : (u : Bool) → Near 3 (cond u (pEnds L x) (minus (partEnds L B x b) (G3Ends B b)))
-        chosen true = wider (omega arith) (p-near L x some short within)
-        chosen false = near-minus part-near (G3-near B b h)
-    GAt-near one = chosen (leb (15 * B * x) (b * L))
-      where
-        chosen : (u : Bool) → Near 3 (cond u (halvesOf (plus (pEnds L x) (partEnds L B x b))) (minus (partEnds L B x b) (halvesOf (G3Ends B b))))
-        chosen true = wider (omega arith) (near-half (near-plus (p-near L x some short within) part-near))
-        chosen false = near-minus part-near (near-half (G3-near B b h))
-    GAt-near both = wider (omega arith) (G1-near B b h)
+  GAt-near : (t : Touch) → Near 3 (GEndsAt t L B x b)
+  GAt-near neither = chosen (leb (15 * B * x) (b * L))
+    where
+      chosen : (u : Bool) → Near 3 (cond u (pEnds L x) (minus (partEnds L B x b) (G3Ends B b)))
+      chosen true = wider (omega arith) (p-near L x some short within)
+      chosen false = near-minus part-near (G3-near B b h)
+  GAt-near one = chosen (leb (15 * B * x) (b * L))
+    where
+      chosen : (u : Bool) → Near 3 (cond u (halvesOf (plus (pEnds L x) (partEnds L B x b))) (minus (partEnds L B x b) (halvesOf (G3Ends B b))))
+      chosen true = wider (omega arith) (near-half (near-plus (p-near L x some short within) part-near))
+      chosen false = near-minus part-near (near-half (G3-near B b h))
+  GAt-near both = wider (omega arith) (G1-near B b h)
 
-    GAt-probable : (t : Touch) → Probable (GEndsAt t L B x b)
-    GAt-probable neither = chosen (leb (15 * B * x) (b * L))
-      where
-        chosen : (u : Bool) → Probable (cond u (pEnds L x) (minus (partEnds L B x b) (G3Ends B b)))
-        chosen true = p-probable L x some short within
-        chosen false = probable-minus part-probable (G3-probable B b h)
-    GAt-probable one = chosen (leb (15 * B * x) (b * L))
-      where
-        chosen : (u : Bool) → Probable (cond u (halvesOf (plus (pEnds L x) (partEnds L B x b))) (minus (partEnds L B x b) (halvesOf (G3Ends B b))))
-        chosen true = probable-halves (p-probable L x some short within) part-probable
-        chosen false = probable-minus part-probable (probable-half (G3-probable B b h))
-    GAt-probable both = G1-probable B b h
+  GAt-probable : (t : Touch) → Probable (GEndsAt t L B x b)
+  GAt-probable neither = chosen (leb (15 * B * x) (b * L))
+    where
+      chosen : (u : Bool) → Probable (cond u (pEnds L x) (minus (partEnds L B x b) (G3Ends B b)))
+      chosen true = p-probable L x some short within
+      chosen false = probable-minus part-probable (G3-probable B b h)
+  GAt-probable one = chosen (leb (15 * B * x) (b * L))
+    where
+      chosen : (u : Bool) → Probable (cond u (halvesOf (plus (pEnds L x) (partEnds L B x b))) (minus (partEnds L B x b) (halvesOf (G3Ends B b))))
+      chosen true = probable-halves (p-probable L x some short within) part-probable
+      chosen false = probable-minus part-probable (probable-half (G3-probable B b h))
+  GAt-probable both = G1-probable B b h
 
 module _ (L aft fwd : ℕ) (some : 1 ≤ L) (short : L ≤ 19800) (within : fwd ≤ L) (B b : ℕ) (h : (1 ≤ B) × (B ≤ 6000) × (2 * b ≤ B)) where
   pub G-enclosed : Enclosed (GEnds L B aft fwd b) (G L B aft fwd b)

@@ -15,9 +15,10 @@ use Rattle.solas.specs.Ship.{Ship, abutting}
 use Rattle.solas.specs.Count.{added, taken}
 use Rattle.solas.proofs.Values.{printed}
 use Rattle.spans.specs.Rounded.{endsOf}
+use Rattle.layers.specs.Layer.{G1Ends, G3Ends}
 use Rattle.penetration.specs.Figures.{plus, minus}
 use Rattle.spans.specs.Span.{pEnds, PEnds}
-use Rattle.penetration.specs.Penetration.{G1Ends, G3Ends, partEnds, GEnds, mixed, QEnds}
+use Rattle.penetration.specs.Penetration.{partEnds, GEnds, mixed, QEnds}
 use Rattle.chances.specs.Share.{withinEnds, sumsOf, lowest, highest, rowOf, rowEnds}
 
 -- the group (a, n), its layer from b′ to b, and the ends of its share

@@ -8,11 +8,11 @@ use Rattle.records.specs.declared.Ends.{Ends}
 use Rattle.records.specs.declared.Hull.{Hull}
 use Rattle.solas.specs.Ship.{Ship}
 use Rattle.solas.specs.Count.{added, taken, Group}
-use Rattle.penetration.specs.declared.Layer.{Layer}
+use Rattle.layers.specs.declared.Layer.{Layer}
 use Rattle.chances.specs.declared.Sums.{Sums}
 use Rattle.spans.specs.Rounded.{Probable}
+use Rattle.layers.specs.Layer.{layerOf}
 use Rattle.penetration.specs.Figures.{plus}
-use Rattle.penetration.specs.Layer.{layerOf}
 use Rattle.groups.specs.declared.Bulkheads.{Bulkheads}
 use Rattle.groups.specs.Lent.{Lent, Layered, bulkheadsOf, across, sumsAcross}
 use Rattle.chances.specs.Share.{withinEnds, sumsOf, nothing, Few, rowOf, rowEnds}

@@ -4,12 +4,12 @@ use mathlib.Core.List.{List}
 use Prim.Native.Nat.{ℕ, _+_, _-_, _≤_, _<_}
 use native.Mathlib.Omega.{arith}
 use lib.ListN.{length, getD}
-use Rattle.penetration.specs.declared.Layer.{Layer}
+use Rattle.layers.specs.declared.Layer.{Layer}
 use Rattle.spans.specs.declared.SpanEnds.{SpanEnds}
 use Rattle.spans.specs.Span.{pEnds, PEnds, spanEnds}
 use Rattle.spans.specs.Hull.{shipOf}
 use Rattle.spans.specs.Table.{spanIn}
-use Rattle.penetration.specs.Layer.{Reached}
+use Rattle.penetration.specs.Reached.{Reached}
 use Rattle.groups.specs.declared.Bulkheads.{Bulkheads}
 use Rattle.groups.specs.Lent.{Lent, Layered, bulkheadsOf}
 use Rattle.spans.proofs.Places.{place-below, place-within}

@@ -4,17 +4,18 @@ use Prim.Native.Nat.{ℕ, zero, suc, _^_, _≤_, _<_}
 use native.Mathlib.Omega.{arith}
 use Rattle.records.specs.declared.Ends.{Ends}
 use Rattle.solas.specs.Ship.{Ship}
-use Rattle.penetration.specs.declared.Layer.{Layer}
+use Rattle.layers.specs.declared.Layer.{Layer}
 use Rattle.spans.specs.declared.SpanEnds.{SpanEnds}
 use Rattle.spans.specs.Rounded.{Probable}
 use Rattle.spans.specs.Span.{PEnds}
 use Rattle.solas.specs.Penetration.{c, d}
+use Rattle.layers.specs.Layer.{layerOf}
 use Rattle.penetration.specs.Penetration.{GEnds, mixed, QEnds}
-use Rattle.penetration.specs.Layer.{layerOf, Reached}
+use Rattle.penetration.specs.Reached.{Reached}
 use Rattle.groups.specs.Lent.{alone, across}
 use Rattle.chances.specs.Share.{withinEnds}
 use Rattle.laws.proofs.Polynomial.{pow-two}
-use Rattle.penetration.proofs.Depth.{products, C-at-most-one}
+use Rattle.layers.proofs.Depth.{products, C-at-most-one}
 use Rattle.spans.proofs.Enclosure.{P-probable}
 use Rattle.penetration.proofs.Reached.{depths}
 use Rattle.penetration.proofs.Enclosure.{G-probable, Q-probable}

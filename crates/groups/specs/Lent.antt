@@ -9,9 +9,9 @@ use Rattle.solas.specs.Ship.{Ship, abutting}
 use Rattle.solas.specs.Count.{Group}
 use Rattle.spans.specs.Hull.{shipOf, Hulled}
 use Rattle.spans.specs.Table.{tableOf}
-use Rattle.penetration.specs.declared.Layer.{Layer}
+use Rattle.layers.specs.declared.Layer.{Layer}
+use Rattle.layers.specs.Layer.{layerOf}
 use Rattle.penetration.specs.Figures.{plus}
-use Rattle.penetration.specs.Layer.{layerOf}
 use Rattle.groups.specs.declared.Bulkheads.{Bulkheads}
 use Rattle.chances.specs.declared.Sums.{Sums}
 use Rattle.chances.specs.Share.{withinEnds}

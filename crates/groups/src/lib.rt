@@ -1,8 +1,8 @@
 // The chance of damage to a group of zones within a penetration, and the share of a row, worked from a lent span table.
 use chances::Sums;
 use chances::row_ends;
-use penetration::Layer;
-use penetration::at_depth;
+use layers::Layer;
+use layers::at_depth;
 use penetration::g_ends;
 use penetration::q_ends;
 use penetration::with;
@@ -17,7 +17,7 @@ ghost use Rattle.spans.specs.Rounded.{Probable};
 ghost use Rattle.spans.specs.Hull.{shipOf, Hulled};
 ghost use Rattle.spans.specs.Table.{tableOf};
 ghost use Rattle.spans.specs.Span.{PEnds};
-ghost use Rattle.penetration.specs.Layer.{Reached};
+ghost use Rattle.penetration.specs.Reached.{Reached};
 ghost use Rattle.chances.specs.Share.{sumsOf, Few, rowEnds};
 ghost use Rattle.groups.specs.Lent.{Lent, Layered, bulkheadsOf, across, sumsAcross};
 

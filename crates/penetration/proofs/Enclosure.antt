@@ -1,4 +1,4 @@
--- The ends of G1, G3, x·G1/L, G and Q: between them lies the exact figure, and how far they lie apart. Assumes nothing.
+-- The ends of x·G1/L, G and Q: between them lies the exact figure, and how far they lie apart. Assumes nothing.
 use mathlib.Core.Path.{_≡_, refl}
 use mathlib.Core.Bool.{Bool, true, false, cond}
 use Prim.Native.Nat.{ℕ, _-_, _*_, _≤_, _<_}
@@ -11,15 +11,17 @@ use Rattle.laws.proofs.Fraction.{≼-trans, is-over, is-⊛, is-shifted, below-
 use Rattle.records.specs.declared.Ends.{Ends}
 use Rattle.numbers.specs.Figures.{Between, halvesOf}
 use Rattle.solas.specs.Span.{Touch, neither, one, both, touch, half, p}
-use Rattle.solas.specs.Penetration.{d, G1, G3, GAt, G, Q}
+use Rattle.solas.specs.Penetration.{G1, G3, GAt, G, Q}
 use Rattle.solas.proofs.Within.{is-half}
 use Rattle.spans.specs.Rounded.{Probable, Near}
 use Rattle.spans.specs.Span.{pEnds}
-use Rattle.spans.proofs.Rounded.{Enclosed, between, ends-enclose, ends-near, ends-probable}
+use Rattle.spans.proofs.Rounded.{Enclosed, between}
 use Rattle.spans.proofs.Enclosure.{p-enclosed, p-near, p-probable, P-enclosed, P-near, P-probable}
+use Rattle.layers.specs.Layer.{G3Ends}
 use Rattle.penetration.specs.Figures.{plus, minus}
-use Rattle.penetration.specs.Penetration.{G1Ends, G3Ends, partEnds, GEndsAt, GEnds, QEnds}
-use Rattle.penetration.proofs.Depth.{products, C-over, C-at-most-one, G1-is, G1-proper, G3-is, G3-proper}
+use Rattle.penetration.specs.Penetration.{partEnds, GEndsAt, GEnds, QEnds}
+use Rattle.layers.proofs.Depth.{products, C-over, C-at-most-one, G1-is, G1-proper, G3-is, G3-proper}
+use Rattle.layers.proofs.Enclosure.{G1-enclosed, G1-near, G1-probable, G3-enclosed, G3-near, G3-probable}
 use Rattle.penetration.proofs.Figures.{enclosed-plus, enclosed-minus, enclosed-portion, enclosed-half, enclosed-mixed, near-plus, near-minus, near-portion, near-half, near-mixed, probable-minus, probable-portion, probable-half, probable-halves, probable-mixed}
 
 -- a figure that is wider is within
@@ -29,114 +31,87 @@ wider h k = record { near = omega (arith, k .near) }
 half-not-above : {f : Fraction} {n d : ℕ} → 0 < d → Is f n 0 d → half f ≼ f
 half-not-above p h = below-across (is-half h) h (omega arith) p (omega arith)
 
-module _ (B b : ℕ) (h : (1 ≤ B) × (B ≤ 6000) × (2 * b ≤ B)) where
-  -- ---- G1 and G3
+module _ (B b : ℕ) (h : (1 ≤ B) × (B ≤ 6000) × (2 * b ≤ B)) (L x : ℕ) (some : 1 ≤ L) (short : L ≤ 19800) (within : x ≤ L) where
+  -- ---- x·G1/L
 
-  pub G1-enclosed : Enclosed (G1Ends B b) (G1 B b)
-  unfolding G1Ends
-  G1-enclosed = ends-enclose (G1-proper B b h .0) (G1-is B b h)
+  pub part-enclosed : Enclosed (partEnds L B x b) ((x over L) ⊛ G1 B b)
+  unfolding partEnds
+  part-enclosed = enclosed-portion x L some (G1-enclosed B b h)
 
-  pub G1-near : Near 1 (G1Ends B b)
-  unfolding G1Ends
-  G1-near = ends-near (G1-proper B b h .0) (G1-is B b h)
+  pub part-near : Near 2 (partEnds L B x b)
+  unfolding partEnds
+  part-near = near-portion x L some within (G1-near B b h)
 
-  pub G1-probable : Probable (G1Ends B b)
-  unfolding G1Ends
-  G1-probable = let q = G1-proper B b h in ends-probable (q .0) (q .1) (G1-is B b h)
+  pub part-probable : Probable (partEnds L B x b)
+  unfolding partEnds
+  part-probable = probable-portion x L some within (G1-probable B b h)
 
-  pub G3-enclosed : Enclosed (G3Ends B b) (G3 B b)
-  unfolding G3Ends
-  G3-enclosed = ends-enclose (G3-proper B b h .0) (G3-is B b h)
+  -- ---- where the span is long, G3 is not above x·G1/L, and so neither is its half
 
-  pub G3-near : Near 1 (G3Ends B b)
-  unfolding G3Ends
-  G3-near = ends-near (G3-proper B b h .0) (G3-is B b h)
+  cross : (N M : ℕ) → 2 * M ≤ b * N → b * L ≤ 15 * B * x → M * (L * (7500 * B * B)) ≤ x * N * (56250 * B * B * B)
+  cross N M k l =
+      let low : 2 * M * L ≤ b * N * L = mul-le-mul-right L k in
+      let high : b * L * N ≤ 15 * B * x * N = mul-le-mul-right N l in
+      let both : 2 * M * L ≤ 15 * B * x * N = omega arith in
+      omega (arith, mul-le-mul-left (3750 * B * B) both)
 
-  pub G3-probable : Probable (G3Ends B b)
-  unfolding G3Ends
-  G3-probable = let q = G3-proper B b h in ends-probable (q .0) (q .1) (G3-is B b h)
+  thirds : 2 * (1375 * b * b * B - 363 * b * b * b) ≤ b * (5500 * b * B - 1089 * b * b)
+  thirds = let q = products B b h in omega (arith, mul-sub b (5500 * b * B) (1089 * b * b))
 
-  module _ (L x : ℕ) (some : 1 ≤ L) (short : L ≤ 19800) (within : x ≤ L) where
-    -- ---- x·G1/L
+  part-is : Is ((x over L) ⊛ G1 B b) (x * (5500 * b * B - 1089 * b * b)) 0 (L * (7500 * B * B))
+  part-is = is-shifted (x * (5500 * b * B - 1089 * b * b)) 0 (omega arith) (is-⊛ (is-over x some) (G1-is B b h))
 
-    pub part-enclosed : Enclosed (partEnds L B x b) ((x over L) ⊛ G1 B b)
-    unfolding partEnds
-    part-enclosed = enclosed-portion x L some G1-enclosed
+  G3-below : b * L ≤ 15 * B * x → G3 B b ≼ (x over L) ⊛ G1 B b
+  G3-below l =
+      below-across (G3-is B b h) part-is (G3-proper B b h .0) (mul-pos some (G1-proper B b h .0))
+      (omega (arith, cross (5500 * b * B - 1089 * b * b) (1375 * b * b * B - 363 * b * b * b) thirds l))
 
-    pub part-near : Near 2 (partEnds L B x b)
-    unfolding partEnds
-    part-near = near-portion x L some within G1-near
+  half-below : b * L ≤ 15 * B * x → half (G3 B b) ≼ (x over L) ⊛ G1 B b
+  half-below l = ≼-trans (half-not-above (G3-proper B b h .0) (G3-is B b h)) (G3-below l)
 
-    pub part-probable : Probable (partEnds L B x b)
-    unfolding partEnds
-    part-probable = probable-portion x L some within G1-probable
+  -- ---- G, by the ends that the span touches
 
-    -- ---- where the span is long, G3 is not above x·G1/L, and so neither is its half
+  GAt-enclosed : (t : Touch) → Enclosed (GEndsAt t L B x b) (GAt t L B x b)
+  GAt-enclosed neither = chosen (leb (15 * B * x) (b * L)) refl
+    where
+      chosen : (u : Bool) → leb (15 * B * x) (b * L) ≡ u →
+          Enclosed (cond u (pEnds L x) (minus (partEnds L B x b) (G3Ends B b))) (cond u (p L x) ((x over L) ⊛ G1 B b ⊝ G3 B b))
+      chosen true e = p-enclosed L x some short within
+      chosen false e = enclosed-minus (G3-below (le-of-lt (leb-false _ _ e))) part-enclosed (G3-enclosed B b h)
+  GAt-enclosed one = chosen (leb (15 * B * x) (b * L)) refl
+    where
+      chosen : (u : Bool) → leb (15 * B * x) (b * L) ≡ u →
+          Enclosed (cond u (halvesOf (plus (pEnds L x) (partEnds L B x b))) (minus (partEnds L B x b) (halvesOf (G3Ends B b))))
+          (cond u (half (p L x ⊹ (x over L) ⊛ G1 B b)) ((x over L) ⊛ G1 B b ⊝ half (G3 B b)))
+      chosen true e = enclosed-half (enclosed-plus (p-enclosed L x some short within) part-enclosed)
+      chosen false e = enclosed-minus (half-below (le-of-lt (leb-false _ _ e))) part-enclosed (enclosed-half (G3-enclosed B b h))
+  GAt-enclosed both = G1-enclosed B b h
 
-    cross : (N M : ℕ) → 2 * M ≤ b * N → b * L ≤ 15 * B * x → M * (L * (7500 * B * B)) ≤ x * N * (56250 * B * B * B)
-    cross N M k l =
-        let low : 2 * M * L ≤ b * N * L = mul-le-mul-right L k in
-        let high : b * L * N ≤ 15 * B * x * N = mul-le-mul-right N l in
-        let both : 2 * M * L ≤ 15 * B * x * N = omega arith in
-        omega (arith, mul-le-mul-left (3750 * B * B) both)
+  GAt-near : (t : Touch) → Near 3 (GEndsAt t L B x b)
+  GAt-near neither = chosen (leb (15 * B * x) (b * L))
+    where
+      chosen : (u : Bool) → Near 3 (cond u (pEnds L x) (minus (partEnds L B x b) (G3Ends B b)))
+      chosen true = wider (omega arith) (p-near L x some short within)
+      chosen false = near-minus part-near (G3-near B b h)
+  GAt-near one = chosen (leb (15 * B * x) (b * L))
+    where
+      chosen : (u : Bool) → Near 3 (cond u (halvesOf (plus (pEnds L x) (partEnds L B x b))) (minus (partEnds L B x b) (halvesOf (G3Ends B b))))
+      chosen true = wider (omega arith) (near-half (near-plus (p-near L x some short within) part-near))
+      chosen false = near-minus part-near (near-half (G3-near B b h))
+  GAt-near both = wider (omega arith) (G1-near B b h)
 
-    thirds : 2 * (1375 * b * b * B - 363 * b * b * b) ≤ b * (5500 * b * B - 1089 * b * b)
-    thirds = let q = products B b h in omega (arith, mul-sub b (5500 * b * B) (1089 * b * b))
-
-    part-is : Is ((x over L) ⊛ G1 B b) (x * (5500 * b * B - 1089 * b * b)) 0 (L * (7500 * B * B))
-    part-is = is-shifted (x * (5500 * b * B - 1089 * b * b)) 0 (omega arith) (is-⊛ (is-over x some) (G1-is B b h))
-
-    G3-below : b * L ≤ 15 * B * x → G3 B b ≼ (x over L) ⊛ G1 B b
-    G3-below l =
-        below-across (G3-is B b h) part-is (G3-proper B b h .0) (mul-pos some (G1-proper B b h .0))
-        (omega (arith, cross (5500 * b * B - 1089 * b * b) (1375 * b * b * B - 363 * b * b * b) thirds l))
-
-    half-below : b * L ≤ 15 * B * x → half (G3 B b) ≼ (x over L) ⊛ G1 B b
-    half-below l = ≼-trans (half-not-above (G3-proper B b h .0) (G3-is B b h)) (G3-below l)
-
-    -- ---- G, by the ends that the span touches
-
-    GAt-enclosed : (t : Touch) → Enclosed (GEndsAt t L B x b) (GAt t L B x b)
-    GAt-enclosed neither = chosen (leb (15 * B * x) (b * L)) refl
-      where
-        chosen : (u : Bool) → leb (15 * B * x) (b * L) ≡ u →
-            Enclosed (cond u (pEnds L x) (minus (partEnds L B x b) (G3Ends B b))) (cond u (p L x) ((x over L) ⊛ G1 B b ⊝ G3 B b))
-        chosen true e = p-enclosed L x some short within
-        chosen false e = enclosed-minus (G3-below (le-of-lt (leb-false _ _ e))) part-enclosed G3-enclosed
-    GAt-enclosed one = chosen (leb (15 * B * x) (b * L)) refl
-      where
-        chosen : (u : Bool) → leb (15 * B * x) (b * L) ≡ u →
-            Enclosed (cond u (halvesOf (plus (pEnds L x) (partEnds L B x b))) (minus (partEnds L B x b) (halvesOf (G3Ends B b))))
-            (cond u (half (p L x ⊹ (x over L) ⊛ G1 B b)) ((x over L) ⊛ G1 B b ⊝ half (G3 B b)))
-        chosen true e = enclosed-half (enclosed-plus (p-enclosed L x some short within) part-enclosed)
-        chosen false e = enclosed-minus (half-below (le-of-lt (leb-false _ _ e))) part-enclosed (enclosed-half G3-enclosed)
-    GAt-enclosed both = G1-enclosed
-
-    GAt-near : (t : Touch) → Near 3 (GEndsAt t L B x b)
-    GAt-near neither = chosen (leb (15 * B * x) (b * L))
-      where
-        chosen : (u : Bool) → Near 3 (cond u (pEnds L x) (minus (partEnds L B x b) (G3Ends B b)))
-        chosen true = wider (omega arith) (p-near L x some short within)
-        chosen false = near-minus part-near G3-near
-    GAt-near one = chosen (leb (15 * B * x) (b * L))
-      where
-        chosen : (u : Bool) → Near 3 (cond u (halvesOf (plus (pEnds L x) (partEnds L B x b))) (minus (partEnds L B x b) (halvesOf (G3Ends B b))))
-        chosen true = wider (omega arith) (near-half (near-plus (p-near L x some short within) part-near))
-        chosen false = near-minus part-near (near-half G3-near)
-    GAt-near both = wider (omega arith) G1-near
-
-    GAt-probable : (t : Touch) → Probable (GEndsAt t L B x b)
-    GAt-probable neither = chosen (leb (15 * B * x) (b * L))
-      where
-        chosen : (u : Bool) → Probable (cond u (pEnds L x) (minus (partEnds L B x b) (G3Ends B b)))
-        chosen true = p-probable L x some short within
-        chosen false = probable-minus part-probable G3-probable
-    GAt-probable one = chosen (leb (15 * B * x) (b * L))
-      where
-        chosen : (u : Bool) → Probable (cond u (halvesOf (plus (pEnds L x) (partEnds L B x b))) (minus (partEnds L B x b) (halvesOf (G3Ends B b))))
-        chosen true = probable-halves (p-probable L x some short within) part-probable
-        chosen false = probable-minus part-probable (probable-half G3-probable)
-    GAt-probable both = G1-probable
+  GAt-probable : (t : Touch) → Probable (GEndsAt t L B x b)
+  GAt-probable neither = chosen (leb (15 * B * x) (b * L))
+    where
+      chosen : (u : Bool) → Probable (cond u (pEnds L x) (minus (partEnds L B x b) (G3Ends B b)))
+      chosen true = p-probable L x some short within
+      chosen false = probable-minus part-probable (G3-probable B b h)
+  GAt-probable one = chosen (leb (15 * B * x) (b * L))
+    where
+      chosen : (u : Bool) → Probable (cond u (halvesOf (plus (pEnds L x) (partEnds L B x b))) (minus (partEnds L B x b) (halvesOf (G3Ends B b))))
+      chosen true = probable-halves (p-probable L x some short within) part-probable
+      chosen false = probable-minus part-probable (probable-half (G3-probable B b h))
+  GAt-probable both = G1-probable B b h
 
 module _ (L aft fwd : ℕ) (some : 1 ≤ L) (short : L ≤ 19800) (within : fwd ≤ L) (B b : ℕ) (h : (1 ≤ B) × (B ≤ 6000) × (2 * b ≤ B)) where
   pub G-enclosed : Enclosed (GEnds L B aft fwd b) (G L B aft fwd b)

@@ -1,4 +1,3 @@
-pub mod Depth
 pub mod Enclosure
 mod Figures
 pub mod Reached

@@ -7,13 +7,15 @@ use lib.Dec.{leb}
 use Rattle.records.specs.declared.Ends.{Ends}
 use Rattle.numbers.specs.Figures.{halvesOf, portionOf}
 use Rattle.solas.specs.Span.{neither, one, both, touch}
-use Rattle.penetration.specs.declared.Layer.{Layer}
+use Rattle.layers.specs.declared.Layer.{Layer}
+use Rattle.layers.specs.Layer.{G1Ends, G3Ends, layerOf}
 use Rattle.spans.specs.Rounded.{Probable}
 use Rattle.penetration.specs.Figures.{plus, minus}
-use Rattle.penetration.specs.Penetration.{G1Ends, G3Ends, partEnds, GEnds}
-use Rattle.penetration.specs.Layer.{layerOf, Reached}
+use Rattle.penetration.specs.Penetration.{partEnds, GEnds}
+use Rattle.penetration.specs.Reached.{Reached}
 use Rattle.spans.proofs.Enclosure.{p-probable}
-use Rattle.penetration.proofs.Enclosure.{G1-probable, part-probable}
+use Rattle.layers.proofs.Enclosure.{G1-probable}
+use Rattle.penetration.proofs.Enclosure.{part-probable}
 
 module _ {L B aft fwd : ℕ} {p : Ends} {y : Layer} (r : Reached L B aft fwd p y) where
   pub depths : (1 ≤ B) × (B ≤ 6000) × (2 * y .depth ≤ B)

@@ -1,3 +1,3 @@
 pub mod Figures
 pub mod Penetration
-pub mod Layer
+pub mod Reached

@@ -6,17 +6,10 @@ use Rattle.laws.specs.Rounding.{ceil}
 use Rattle.records.specs.declared.Ends.{Ends}
 use Rattle.numbers.specs.Figures.{portionOf, halvesOf}
 use Rattle.solas.specs.Span.{Touch, neither, one, both, touch}
-use Rattle.solas.specs.Penetration.{c, d, G1, G3}
-use Rattle.spans.specs.Rounded.{endsOf}
+use Rattle.solas.specs.Penetration.{c, d}
+use Rattle.layers.specs.Layer.{G1Ends, G3Ends}
 use Rattle.penetration.specs.Figures.{plus, minus}
 use Rattle.spans.specs.Span.{pEnds, PEnds}
-
--- "G1, G3 and p go to billionths"
-unfoldable pub G1Ends : ℕ → ℕ → Ends
-G1Ends B b = endsOf (G1 B b)
-
-unfoldable pub G3Ends : ℕ → ℕ → Ends
-G3Ends B b = endsOf (G3 B b)
 
 -- x·G1/L, "rounded the same way from G1's own end"
 unfoldable pub partEnds : ℕ → ℕ → ℕ → ℕ → Ends

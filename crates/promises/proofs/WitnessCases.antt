@@ -18,8 +18,9 @@ use Rattle.solas.specs.Survival.{k, s⁴}
 use Rattle.solas.specs.Index.{dp, R, partialMark}
 use Rattle.spans.specs.Rounded as rounded
 use Rattle.spans.specs.Span.{pEnds, PEnds}
+use Rattle.layers.specs.Layer.{G1Ends, G3Ends}
 use Rattle.penetration.specs.Figures.{plus, minus}
-use Rattle.penetration.specs.Penetration.{G1Ends, G3Ends, partEnds, GEnds, mixed, QEnds}
+use Rattle.penetration.specs.Penetration.{partEnds, GEnds, mixed, QEnds}
 use Rattle.chances.specs.Share.{withinEnds, sumsOf, lowest, highest, rowOf, rowEnds}
 use Rattle.numbers.specs.Ratio.{ratioOf}
 use Rattle.heights.specs.Height.{rowVs}

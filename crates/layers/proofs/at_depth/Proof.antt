@@ -1,9 +1,9 @@
--- `penetration::at_depth` meets its contract: no product wraps. Assumes nothing.
+-- `layers::at_depth` meets its contract: no product wraps. Assumes nothing.
 use borrow.Author.Needs.{needs}
 use native.Mathlib.Omega.{arith}
-use Rattle.penetration.proofs.Depth.{Products, products, layer-is}
-use Rattle.penetration.proofs.at_depth.Statement.{statement}
-use Rattle.penetration.proofs.at_depth.Tie as tie
+use Rattle.layers.proofs.Depth.{Products, products, layer-is}
+use Rattle.layers.proofs.at_depth.Statement.{statement}
+use Rattle.layers.proofs.at_depth.Tie as tie
 
 sizes : (c : tie.Start) → Products (c .args .breadth) (c .args .b)
 sizes c = products (c .args .breadth) (c .args .b) (c .pre)

@@ -1,10 +1,10 @@
--- `penetration::g1_ends` meets its contract: no product wraps. Assumes nothing.
+-- `layers::g1_ends` meets its contract: no product wraps. Assumes nothing.
 use borrow.Author.Needs.{needs}
 use mathlib.Core.Path.{sym, _∙_}
 use native.Mathlib.Omega.{arith}
-use Rattle.penetration.proofs.Depth.{products, G1-fits, G1-ends}
-use Rattle.penetration.proofs.g1_ends.Statement.{statement}
-use Rattle.penetration.proofs.g1_ends.Tie as tie
+use Rattle.layers.proofs.Depth.{products, G1-fits, G1-ends}
+use Rattle.layers.proofs.g1_ends.Statement.{statement}
+use Rattle.layers.proofs.g1_ends.Tie as tie
 
 mul-both-ways : tie.Need-mul-both-ways
 mul-both-ways c = search needs

@@ -1,15 +1,10 @@
--- What depends on a penetration alone, as it is kept for a layer. Assumes nothing.
+-- A span of a ship that damage reaches down to a layer: what G of it is worked out from. Assumes nothing.
 use Prim.Native.Nat.{ℕ, _-_, _*_, _≤_}
 use mathlib.Core.Path.{_≡_}
 use Rattle.records.specs.declared.Ends.{Ends}
-use Rattle.numbers.specs.Figures.{halvesOf}
-use Rattle.penetration.specs.declared.Layer.{Layer}
+use Rattle.layers.specs.declared.Layer.{Layer}
+use Rattle.layers.specs.Layer.{layerOf}
 use Rattle.spans.specs.Span.{pEnds}
-use Rattle.solas.specs.Penetration.{c, d}
-use Rattle.penetration.specs.Penetration.{G1Ends, G3Ends}
-
-unfoldable pub layerOf : ℕ → ℕ → Layer
-layerOf B b = record { depth = b; c = c B b; d = d B; g1 = G1Ends B b; g3 = G3Ends B b; half = halvesOf (G3Ends B b) }
 
 -- p's ends of a span of a ship, and a layer of the same ship down to at most half of its breadth
 pub record Reached (L B aft fwd : ℕ) (p : Ends) (y : Layer) : Type 0 where

@@ -9,8 +9,7 @@ use Rattle.records.specs.declared.Ends.{Ends}
 use Rattle.numbers.specs.Figures.{bothWays, halvesOf}
 use Rattle.numbers.proofs.Figures.{billionths-both-ways}
 use Rattle.solas.specs.Penetration.{C, c, d, G1, G3}
-use Rattle.penetration.specs.Penetration.{G1Ends, G3Ends}
-use Rattle.penetration.specs.Layer.{layerOf}
+use Rattle.layers.specs.Layer.{G1Ends, G3Ends, layerOf}
 use Rattle.laws.proofs.Polynomial.{pow-two, cube}
 use Rattle.solas.proofs.Depth.{C-is, c-at-most}
 use Rattle.spans.proofs.Rounded.{ends-are}

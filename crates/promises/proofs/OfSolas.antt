@@ -7,8 +7,8 @@ use native.Mathlib.Omega.{arith}
 use borrow.Author.Tests.{ne-eqb}
 use Rattle.laws.specs.Fraction.{Fraction, _≈_}
 use Rattle.records.specs.declared.Hull.{Hull}
-use Rattle.solas.specs.Regulation.{IsRoot, under√, pi}
-use Rattle.solas.proofs.RegulationShares.{shares-are-the-regulation's}
+use Rattle.regulation.specs.Regulation.{IsRoot, under√, pi}
+use Rattle.regulation.proofs.RegulationShares.{shares-are-the-regulation's}
 use Rattle.spans.specs.Hull.{shipOf, Hulled}
 use Rattle.spans.proofs.Places.{ship-sound}
 use Rattle.indices.specs.Exact as exact

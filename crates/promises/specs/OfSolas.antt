@@ -3,7 +3,7 @@ use Prim.Native.Nat.{ℕ}
 use mathlib.Core.Path.{_≡_}
 use mathlib.Core.List.{List}
 use Rattle.laws.specs.Fraction.{Fraction, _≈_}
-use Rattle.solas.specs.Regulation.{IsRoot, under√, pi}
+use Rattle.regulation.specs.Regulation.{IsRoot, under√, pi}
 use Rattle.spans.specs.Hull.{shipOf}
 use Rattle.indices.specs.Exact as exact
 use Rattle.indices.specs.Exact.{Each}

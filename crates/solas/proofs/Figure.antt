@@ -16,6 +16,8 @@ use Rattle.solas.proofs.Count.{added-adds, taken-adds}
 use Rattle.solas.proofs.GeneralLayer.{depths-add}
 use Rattle.solas.proofs.Depth.{law-falls, layer-rises, common-positive}
 use Rattle.solas.proofs.Within.{Q-is}
+-- checked first, so that a definition that gives another number is refused there
+use Rattle.solas.proofs.Values.{short-1-3, row-2-1}
 
 -- of the zones from a to e, what the layer from b′ to b gives, over `over s`
 abbrev pub figure : Ship → ℕ → ℕ → ℕ → ℕ → ℕ

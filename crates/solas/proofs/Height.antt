@@ -12,6 +12,8 @@ use Rattle.laws.proofs.Choice.{chosen}
 use Rattle.solas.specs.Height.{v, vAt, rowV, top}
 use Rattle.solas.specs.Index.{dp}
 use Rattle.solas.specs.Layers.{rowsV, layerV, LayersShareAll, LayersShareAllThrice}
+-- checked first, so that a definition that gives another number is refused there
+use Rattle.solas.proofs.Values.{v-7801}
 
 -- ---- the middle draught
 pub dp-whole : (ds dl : ℕ) → (ds - dl) % 5 ≡ 0 → 5 * dp ds dl ≡ 5 * dl + 3 * (ds - dl)

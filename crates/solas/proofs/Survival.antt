@@ -9,6 +9,8 @@ use Rattle.laws.proofs.Fraction.{is-over, is-whole, is-shifted, is-⊛, below}
 use Rattle.laws.proofs.FractionOrder.{is-chosen}
 use Rattle.laws.proofs.Polynomial.{pow-two}
 use Rattle.solas.specs.Survival.{k, s⁴}
+-- checked first, so that a definition that gives another number is refused there
+use Rattle.solas.proofs.Values.{s⁴-capped, s⁴-heeled}
 
 -- k by what is left of 30 degrees, and not more than 5 of them
 pub is-k : (e : ℕ) → Is (k e) (min 500 (3000 - e) ^ 2) 0 (500 ^ 2)

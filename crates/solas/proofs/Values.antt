@@ -5,14 +5,18 @@ use Rattle.laws.specs.Fraction.{_less_over_, _over_, whole, _⊹_, _⊝_, _⊛_
 use Rattle.solas.specs.Span.{touch, p, P}
 use Rattle.solas.specs.Penetration.{C, G1, G3, G, Q}
 use Rattle.solas.specs.Ship.{Ship, abutting}
-use Rattle.solas.specs.Share.{within, share}
+use Rattle.solas.specs.Share.{within, share, rowShare}
 use Rattle.solas.specs.Height.{v, top}
 use Rattle.solas.specs.Survival.{k, s⁴}
-use Rattle.solas.specs.Index.{dp, draughts, R}
+use Rattle.solas.specs.Index.{dp, draughts, attained, R}
 
 -- the hull of "One file in full": two zones that meet at 1,500
 abbrev pub printed : Ship
 printed = abutting 9900 1600 2 (0 ∷ 1500 ∷ 9900 ∷ [])
+
+-- three zones, of which two are short
+abbrev pub short : Ship
+short = abutting 9900 1600 3 (0 ∷ 900 ∷ 1800 ∷ 9900 ∷ [])
 
 pub p-1500 : p 9900 1500 ≈ 35 over 396
 unfolding p _less_over_
@@ -33,6 +37,16 @@ share-1-2 = record { cross = refl }
 pub share-2-1 : share printed 2 1 800 ≈ 22 over 27
 unfolding share within Q P G touch C G1 G3 p _⊹_ _⊝_ _⊛_ _less_over_
 share-2-1 = record { cross = refl }
+
+-- three zones, down to 1.6 m
+pub short-1-3 : share short 1 3 160 ≈ 37 over 9900
+unfolding share within Q P G touch C G1 G3 p _⊹_ _⊝_ _⊛_ _less_over_
+short-1-3 = record { cross = refl }
+
+-- a second layer, from 1.6 m to the half breadth
+pub row-2-1 : rowShare printed 2 1 160 800 ≈ 2799015571 over 5273437500
+unfolding rowShare share within Q P G touch C G1 G3 p _⊹_ _⊝_ _⊛_ _less_over_
+row-2-1 = record { cross = refl }
 
 -- penetration at B = 1,600
 pub C-160 : C 1600 160 ≈ 37 over 125
@@ -55,6 +69,11 @@ v-7800 = refl
 pub v-7801 : v 7801 ≡ 733239
 unfolding v
 v-7801 = refl
+
+-- A of three partial indices
+pub attained-23-60 : attained (1 over 2) (1 over 3) (1 over 4) ≈ 23 over 60
+unfolding attained _⊹_ _⊛_ _less_over_
+attained-23-60 = record { cross = refl }
 
 -- the required index
 pub R-8000 : R 8000 ≈ 13 over 33

@@ -17,6 +17,8 @@ use Rattle.solas.proofs.General.{between-adds, mass-adds, mass-one}
 use Rattle.solas.proofs.Bands.{full, inner, p-is}
 use Rattle.solas.proofs.Depth.{C-is, c-at-most, law-falls, shallow, layer-rises, no-cut, no-chance, full-positive}
 use Rattle.solas.proofs.Penetration.{G1-is, G3-is, is-throughout, along-is, p-shallow, inner-G-is, up-to-cut, past-cut, lacks}
+-- checked first, so that a definition that gives another number is refused there
+use Rattle.solas.proofs.Values.{share-1-2}
 
 -- twice what a span has that touches so many ends, where an inner one has i, and j is its part of what the ship has
 abbrev pub doubled : Touch → ℕ → ℕ → ℕ

@@ -13,8 +13,3 @@ pub mod Total
 pub mod General
 pub mod Promises
 pub mod Layers
--- the regulation itself, and that document 01 is no other
-pub mod Regulation
-pub mod OfSolas
-pub mod RegulationIndex
-pub mod OfSolasIndex

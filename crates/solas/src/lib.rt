@@ -1,1 +1,1 @@
-// Theorems only: the regulation is in specs/, what is proved of it in proofs/.
+// Theorems only: the definitions, in the words of document 01, are in specs/, what is proved of them in proofs/.

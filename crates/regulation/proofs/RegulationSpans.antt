@@ -13,11 +13,11 @@ use Rattle.laws.proofs.Fraction.{is-over, is-shifted, same, below-across, stric
 use Rattle.laws.proofs.FractionTerm.{Term, constant, number, ratio, variable, polynomial, _⊹ᵗ_, _⊝ᵗ_, _⊛ᵗ_, also, agree, quotient}
 use Rattle.laws.proofs.FractionRing.{⊛-comm}
 use Rattle.laws.proofs.FractionOrder.{test-passes, test-fails, lesser-first, lesser-second}
 use Rattle.solas.specs.Span
 use Rattle.solas.specs.Span.{Touch, neither, one, both, touch, half, PAt, P}
-use Rattle.solas.specs.Regulation.{½, Jk, b11, b12, b21, b22, J, Jn, p1, p2, p1or2, p}
-use Rattle.solas.specs.OfSolas.{UpTo198m, SpansAre01's}
-use Rattle.solas.proofs.RegulationConstants.{Jm-is, Jk-is, b11-is, b12-is, b21-is, b22-is}
+use Rattle.regulation.specs.Regulation.{½, Jk, b11, b12, b21, b22, J, Jn, p1, p2, p1or2, p}
+use Rattle.regulation.specs.OfSolas.{UpTo198m, SpansAre01's}
+use Rattle.regulation.proofs.RegulationConstants.{Jm-is, Jk-is, b11-is, b12-is, b21-is, b22-is}
 
 -- ---- 002's order of the ends and 01's
 

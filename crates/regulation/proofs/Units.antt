@@ -3,7 +3,7 @@ use Prim.Native.Nat.{ℕ}
 use lib.Dec.{lit<}
 use Rattle.laws.specs.Fraction.{Is}
 use Rattle.laws.proofs.Fraction.{is-over}
-use Rattle.solas.specs.RegulationIndex.{millimetres, centimetres, hundredths}
+use Rattle.regulation.specs.RegulationIndex.{millimetres, centimetres, hundredths}
 
 pub is-millimetres : (n : ℕ) → Is (millimetres n) n 0 1000
 is-millimetres n = is-over n (lit< tt)

@@ -11,11 +11,11 @@ use Rattle.laws.proofs.Polynomial.{pow-two}
 use Rattle.laws.proofs.Fraction.{is-over, is-whole, is-widened, is-shifted, is-recast, is-⊛, is-⊘, same, below, strictly-below}
 use Rattle.laws.proofs.FractionTerm.{number, ratio, _⊝ᵗ_, also, quotient-by}
 use Rattle.laws.proofs.FractionOrder.{is-lesser}
 use Rattle.solas.specs.Survival.{s⁴}
-use Rattle.solas.specs.RegulationIndex.{millimetres, hundredths, θmin, θmax, underRoot, Numbers, square, fourth, Final}
-use Rattle.solas.specs.OfSolasIndex.{SurvivalIs01's}
-use Rattle.solas.proofs.Units.{is-millimetres, is-hundredths}
 use Rattle.solas.proofs.Survival.{is-s⁴}
+use Rattle.regulation.specs.RegulationIndex.{millimetres, hundredths, θmin, θmax, underRoot, Numbers, square, fourth, Final}
+use Rattle.regulation.specs.OfSolasIndex.{SurvivalIs01's}
+use Rattle.regulation.proofs.Units.{is-millimetres, is-hundredths}
 
 -- ---- powers of products
 module _ (N : Numbers) where

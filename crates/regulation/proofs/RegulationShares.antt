@@ -7,12 +7,12 @@ use Rattle.laws.specs.Fraction.{Fraction, whole, _≈_, _⊹_, _⊝_, _⊛_}
 use Rattle.laws.proofs.Fraction.{≈-refl, ≈-trans, ⊹-≈, ⊝-≈}
 use Rattle.laws.proofs.FractionTerm.{number, _⊹ᵗ_, _⊝ᵗ_, agree}
 use Rattle.laws.proofs.FractionRing.{⊛-nothing, ⊛-⊝, less-crosswise, plus-crosswise}
 use Rattle.solas.specs.Ship.{Ship, Sound}
 use Rattle.solas.specs.Share.{within, share, before, rowShare}
-use Rattle.solas.specs.Regulation.{IsRoot, under√, p, rFromShell, pr, pi}
-use Rattle.solas.specs.OfSolas.{UpTo198m, SharesAreTheRegulation's}
 use Rattle.solas.proofs.Ship.{span as span-of-zones}
-use Rattle.solas.proofs.RegulationChance.{pr-is-Q}
+use Rattle.regulation.specs.Regulation.{IsRoot, under√, p, rFromShell, pr, pi}
+use Rattle.regulation.specs.OfSolas.{UpTo198m, SharesAreTheRegulation's}
+use Rattle.regulation.proofs.RegulationChance.{pr-is-Q}
 
 -- ---- three and four differences, as 2.6.1 joins them
 three : (a a′ b b′ c c′ : Fraction) → a ⊝ a′ ⊝ (b ⊝ b′) ⊝ (c ⊝ c′) ≈ a ⊝ b ⊝ c ⊝ (a′ ⊝ b′ ⊝ c′)

@@ -10,13 +10,13 @@ use Rattle.laws.proofs.Fraction.{is-over, is-widened, is-⊹, is-⊝, is-⊛, s
 use Rattle.laws.proofs.FractionTerm.{Term, number, ratio, parts, first, second, third, _⊹ᵗ_, _⊝ᵗ_, _⊛ᵗ_, also, agree, quotient, quotient-by}
 use Rattle.laws.proofs.FractionRing.{⊛-comm}
 use Rattle.laws.proofs.FractionOrder.{test-passes, test-fails}
 use Rattle.solas.specs.Index.{attained, dp, partialMark}
-use Rattle.solas.specs.RegulationIndex as regulation
-use Rattle.solas.specs.RegulationIndex.{centimetres}
-use Rattle.solas.specs.OfSolasIndex.{DraughtIs01's, AttainedIs01's, RequiredIs01's, PartialMarkIs01's}
-use Rattle.solas.proofs.Units.{is-millimetres, is-centimetres}
 use Rattle.solas.proofs.Height.{dp-whole}
 use Rattle.solas.proofs.Required.{is-R-long, is-R-short}
+use Rattle.regulation.specs.RegulationIndex as regulation
+use Rattle.regulation.specs.RegulationIndex.{centimetres}
+use Rattle.regulation.specs.OfSolasIndex.{DraughtIs01's, AttainedIs01's, RequiredIs01's, PartialMarkIs01's}
+use Rattle.regulation.proofs.Units.{is-millimetres, is-centimetres}
 
 -- ---- 003, 10.1
 module _ (L : ℕ) where

@@ -2,11 +2,11 @@
 use Prim.Native.Nat.{ℕ, _-_, _%_, _≤_, _<_}
 use mathlib.Core.Path.{_≡_}
 use Rattle.laws.specs.Fraction.{Fraction, _over_, whole, _≈_, _≺_}
 use Rattle.solas.specs.Height.{vAt, rowV, top}
 use Rattle.solas.specs.Survival.{s⁴}
 use Rattle.solas.specs.Index.{dp, attained, R, partialMark}
-use Rattle.solas.specs.RegulationIndex as regulation
-use Rattle.solas.specs.RegulationIndex.{millimetres, centimetres, hundredths, counted, uppermost, vOf, vm, Numbers, fourth, Final}
+use Rattle.regulation.specs.RegulationIndex as regulation
+use Rattle.regulation.specs.RegulationIndex.{millimetres, centimetres, hundredths, counted, uppermost, vOf, vm, Numbers, fourth, Final}
 
 -- ---- draughts and indices
 abbrev pub DraughtIs01's : Type 0

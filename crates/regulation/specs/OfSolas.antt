@@ -2,14 +2,14 @@
 -- document 002's. Assumes nothing.
 use Prim.Native.Nat.{ℕ, _+_, _-_, _*_, _≤_, _<_}
 use Rattle.laws.specs.Fraction.{Fraction, _less_over_, _over_, whole, _≈_, _≼_, _≺_, _⊛_}
 use Rattle.solas.specs.Span
 use Rattle.solas.specs.Span.{P}
 use Rattle.solas.specs.Penetration
 use Rattle.solas.specs.Penetration.{Q}
 use Rattle.solas.specs.Ship.{Ship, Sound}
 use Rattle.solas.specs.Share.{rowShare}
-use Rattle.solas.specs.Regulation
-use Rattle.solas.specs.Regulation.{IsRoot, L*, Jm, under√, Jk, b0, b11, b12, b21, b22, p1or2, p, r, pi}
+use Rattle.regulation.specs.Regulation
+use Rattle.regulation.specs.Regulation.{IsRoot, L*, Jm, under√, Jk, b0, b11, b12, b21, b22, p1or2, p, r, pi}
 
 -- a ship of some length up to 198 m (that 01 starts at 80 m is not needed here), and the root √ in its Jk
 pub record UpTo198m (Ls : ℕ) (√ : Fraction) : Type 0 where

@@ -11,14 +11,14 @@ use Rattle.laws.proofs.Fraction.{below-across, strictly-below-across, ≈-trans
 use Rattle.laws.proofs.FractionTerm.{Term, number, ratio, variable, polynomial, parts, first, second, _⊹ᵗ_, _⊝ᵗ_, _⊛ᵗ_, also, agree, quotient}
 use Rattle.laws.proofs.FractionRing.{⊛-comm}
 use Rattle.laws.proofs.FractionOrder.{lesser-first, lesser-second}
 use Rattle.solas.specs.Span
 use Rattle.solas.specs.Span.{touch, half}
 use Rattle.solas.specs.Penetration
 use Rattle.solas.specs.Penetration.{GAt, G3}
-use Rattle.solas.specs.Regulation
-use Rattle.solas.specs.Regulation.{½, b11, b12, J, Jb, J0, G2}
-use Rattle.solas.specs.OfSolas.{UpTo198m, PenetrationsAre01's}
-use Rattle.solas.proofs.RegulationSpans.{:x, :L, J-is, J-≈, Jᵗ, b11ᵗ, b12ᵗ, p1ᵗ, p1-is-p, half-is-half, by-touch}
+use Rattle.regulation.specs.Regulation
+use Rattle.regulation.specs.Regulation.{½, b11, b12, J, Jb, J0, G2}
+use Rattle.regulation.specs.OfSolas.{UpTo198m, PenetrationsAre01's}
+use Rattle.regulation.proofs.RegulationSpans.{:x, :L, J-is, J-≈, Jᵗ, b11ᵗ, b12ᵗ, p1ᵗ, p1-is-p, half-is-half, by-touch}
 
 -- a span that is short against a penetration is in 01's first band
 short-span : (x L b B : ℕ) → 0 < B → 2 * b ≤ B → 15 * B * x ≤ b * L → 33 * x ≤ 5 * L

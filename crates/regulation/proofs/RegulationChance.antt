@@ -7,14 +7,14 @@ use Rattle.laws.specs.Fraction.{Fraction, den, whole, _≈_, _≺_, _⊹_, _⊝
 use Rattle.laws.proofs.Fraction.{positive, is-self, is-≈, is-shifted, ≈-refl, ≈-trans, ⊹-≈, ⊝-≈, ⊛-≈}
 use Rattle.laws.proofs.FractionTerm.{Term, number, ratio, parts, first, second, _⊹ᵗ_, _⊝ᵗ_, _⊛ᵗ_, agree, quotient}
 use Rattle.laws.proofs.FractionOrder.{above-0, numerator-above-0}
 use Rattle.solas.specs.Span.{P}
 use Rattle.solas.specs.Penetration.{Q}
-use Rattle.solas.specs.Regulation
-use Rattle.solas.specs.Regulation.{p, r}
-use Rattle.solas.specs.OfSolas.{UpTo198m, ChancesAre01's}
 use Rattle.solas.proofs.SpanChance.{P-above}
-use Rattle.solas.proofs.RegulationSpans.{span-p}
-use Rattle.solas.proofs.RegulationPenetration.{C-≈, G-≈}
+use Rattle.regulation.specs.Regulation
+use Rattle.regulation.specs.Regulation.{p, r}
+use Rattle.regulation.specs.OfSolas.{UpTo198m, ChancesAre01's}
+use Rattle.regulation.proofs.RegulationSpans.{span-p}
+use Rattle.regulation.proofs.RegulationPenetration.{C-≈, G-≈}
 
 -- ---- p·r with no division
 

@@ -9,8 +9,8 @@ use Rattle.laws.specs.Fraction.{Fraction, _less_over_, _over_, whole, Is, _≈_
 use Rattle.laws.proofs.Fraction.{is-over, is-less-over, is-written, is-⊘, is-≈, same, below, strictly-below, below-across, strictly-below-across, ≈-sym, ≈-trans}
 use Rattle.laws.proofs.FractionTerm.{Term, constant, number, _⊹ᵗ_, _⊝ᵗ_, _⊛ᵗ_, also, agree, quotient-by}
 use Rattle.laws.proofs.FractionOrder.{lesser-first, lesser-second, one-root}
-use Rattle.solas.specs.Regulation.{¼, _², Jmax, Jkn, pk, lmax, L*, b0, Jm, under√, Jk, b11, b12, b21, b22}
-use Rattle.solas.specs.OfSolas.{UpTo198m, RootsAreThere, ConstantsAre01's, LongerShipsDiffer, LettersReach260m}
+use Rattle.regulation.specs.Regulation.{¼, _², Jmax, Jkn, pk, lmax, L*, b0, Jm, under√, Jk, b11, b12, b21, b22}
+use Rattle.regulation.specs.OfSolas.{UpTo198m, RootsAreThere, ConstantsAre01's, LongerShipsDiffer, LettersReach260m}
 
 -- ---- Jm: lmax/Ls is not below 10/33 where Ls is not above 198 m, and below it where Ls is
 lmax-is : Is lmax 6000 0 1

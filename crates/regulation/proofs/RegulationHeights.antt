@@ -10,12 +10,12 @@ use Rattle.laws.proofs.Choice.{split}
 use Rattle.laws.proofs.Fraction.{is-over, is-nothing, is-one, is-widened, is-shifted, is-⊝, same, below, strictly-below}
 use Rattle.laws.proofs.FractionTerm.{Term, number, ratio, _⊹ᵗ_, _⊝ᵗ_, _⊛ᵗ_, also, quotient-by}
 use Rattle.laws.proofs.FractionOrder.{test-passes, test-fails}
 use Rattle.solas.specs.Height.{v, vAt, rowV}
-use Rattle.solas.specs.RegulationIndex as regulation
-use Rattle.solas.specs.RegulationIndex.{millimetres, none, at, uppermost, counted, vOf, held, vm}
-use Rattle.solas.specs.OfSolasIndex.{HeightIs01's, PartedAbove, UppermostParts, vmOfRow, RowsPartAbove, RowIs01's, LastRowIs01's}
-use Rattle.solas.proofs.Units.{is-millimetres}
 use Rattle.solas.proofs.Height.{v-slopes, vAt-above, vAt-full, vAt-short, vAt-top, vAt-waterline, vAt-at-most}
+use Rattle.regulation.specs.RegulationIndex as regulation
+use Rattle.regulation.specs.RegulationIndex.{millimetres, none, at, uppermost, counted, vOf, held, vm}
+use Rattle.regulation.specs.OfSolasIndex.{HeightIs01's, PartedAbove, UppermostParts, vmOfRow, RowsPartAbove, RowIs01's, LastRowIs01's}
+use Rattle.regulation.proofs.Units.{is-millimetres}
 
 -- document 01's parts
 in-parts : (n : ℕ) → Is (n over 916500) n 0 916500

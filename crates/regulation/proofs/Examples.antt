@@ -7,19 +7,15 @@ use lib.Dec.{leb→le, lit<}
 use Rattle.laws.specs.Fraction.{Fraction, _less_over_, _over_, whole, _≈_, _≺_, _≼?_, lesser, _⊹_, _⊝_, _⊛_, _⊘_}
 use Rattle.laws.proofs.Fraction.{≈-refl, ≈-sym, ≈-trans, ⊛-≈}
 use Rattle.laws.proofs.FractionRing.{⊛-comm, ⊛-assoc}
 use Rattle.solas.specs.Span as span
 use Rattle.solas.specs.Penetration as penetration
-use Rattle.solas.specs.Ship.{Ship, abutting}
 use Rattle.solas.specs.Share.{within, share, rowShare}
 use Rattle.solas.specs.Height.{v, vAt}
 use Rattle.solas.specs.Index.{dp, attained, R}
-use Rattle.solas.specs.Regulation.{IsRoot, Jmax, Jkn, pk, lmax, b0, Jm, under√, Jk, b11, b12, b21, b22, J, Jn, p1, p2, p1or2, p, Jb, C, G1, J0, G2, G, r, pr, pi}
-use Rattle.solas.specs.RegulationIndex as regulation
-use Rattle.solas.specs.RegulationIndex.{millimetres, centimetres, hundredths, Numbers, Final, none, at, uppermost, vOf, held, vm}
-use Rattle.solas.proofs.Values.{printed}
-
-abbrev short : Ship
-short = abutting 9900 1600 3 (0 ∷ 900 ∷ 1800 ∷ 9900 ∷ [])
+use Rattle.solas.proofs.Values.{printed, short}
+use Rattle.regulation.specs.Regulation.{IsRoot, Jmax, Jkn, pk, lmax, b0, Jm, under√, Jk, b11, b12, b21, b22, J, Jn, p1, p2, p1or2, p, Jb, C, G1, J0, G2, G, r, pr, pi}
+use Rattle.regulation.specs.RegulationIndex as regulation
+use Rattle.regulation.specs.RegulationIndex.{millimetres, centimetres, hundredths, Numbers, Final, none, at, uppermost, vOf, held, vm}
 
 -- a second layer, from 1.6 m to the half breadth; a first one of two zones; a second one of three zones, of which two are short
 pub rows : (rowShare printed 1 1 160 800 ≈ 45035669 over 585937500) × (pi printed (whole 1) 160 800 1 1 ≈ 45035669 over 585937500)

@@ -1,0 +1,10 @@
+pub mod RegulationConstants
+pub mod RegulationSpans
+pub mod RegulationPenetration
+pub mod RegulationChance
+pub mod RegulationShares
+pub mod Units
+pub mod RegulationIndices
+pub mod RegulationHeights
+pub mod RegulationSurvival
+pub mod Examples

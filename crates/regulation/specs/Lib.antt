@@ -1,0 +1,5 @@
+-- the regulation itself, and that document 01 is no other
+pub mod Regulation
+pub mod OfSolas
+pub mod RegulationIndex
+pub mod OfSolasIndex

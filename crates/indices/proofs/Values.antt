@@ -1,4 +1,5 @@
--- Document 01, "One file in full": its partial indices and A, as the definitions of this crate give them. Assumes nothing.
+-- Document 01, "One file in full": its partial indices and A, and what an uneven row adds, as the definitions of this crate give them. Assumes
+-- nothing.
 use Prim.Native.Nat.{ℕ}
 use mathlib.Core.List.{List, [], _∷_}
 use mathlib.Core.Path.{_≡_, refl}
@@ -7,6 +8,7 @@ use Rattle.laws.specs.Rounding.{ceil}
 use Rattle.roots.specs.Root.{withDigits, rootDown, rootUp}
 use Rattle.records.specs.declared.Ends.{Ends}
 use Rattle.records.specs.declared.Finding.{Finding}
+use Rattle.records.specs.declared.Survival.{Survival}
 use Rattle.records.specs.declared.Trio.{Trio}
 use Rattle.solas.specs.Height.{v, vAt, rowV}
 use Rattle.solas.specs.Index.{dp, draughts}
@@ -21,6 +23,9 @@ found lever range heel = record { lever = lever; range = range; heel = heel; giv
 
 abbrev given : ℕ → Finding
 given s = record { lever = 0; range = 0; heel = 0; given = s }
+
+abbrev survived : ℕ → ℕ → Survival
+survived bottom top = record { bottom = bottom; top = top }
 
 abbrev ends : ℕ → ℕ → Ends
 ends lower upper = record { lower = lower; upper = upper }
@@ -43,3 +48,10 @@ printed = ends 0x34243ab9 0x34243abb
 pub one-file : (file ≡ trio printed printed printed) × (attainedOf file ≡ printed)
 unfolding rowVs rowV vAt v dp survivalsOf factorsOf factorOf s⁴ k ratioOf scaledOf roundedOf rootDown rootUp withDigits ceil _⊛_ _less_over_ addsOf rowAdds partials attainedOf
 one-file = (refl, refl)
+
+-- a row whose share and survival have two ends, and which adds something else at each draught
+pub uneven-row :
+    rowAdds (ends 100000 200000) (916500 ∷ 458250 ∷ 0 ∷ []) (survived 7071 7072 ∷ survived 5000 5000 ∷ survived 10000 10000 ∷ [])
+    ≡ trio (ends 70710 141440) (ends 25000 50000) (ends 0 0)
+unfolding addsOf rowAdds ceil
+uneven-row = refl

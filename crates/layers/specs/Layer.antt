@@ -1,4 +1,4 @@
--- 01, "Penetration", with its rounding: what depends on a penetration alone, in billionths, as it is kept for a layer. Assumes nothing.
+-- 01, "Penetration", with its rounding: what depends on a penetration alone, C exact and G1 and G3 in billionths, as it is kept for a layer. Assumes nothing.
 use Prim.Native.Nat.{ℕ}
 use Rattle.records.specs.declared.Ends.{Ends}
 use Rattle.numbers.specs.Figures.{halvesOf}

@@ -1,4 +1,4 @@
-// A layer: what depends on its penetration alone, C and the ends of G1, G3 and G3/2, in billionths rounded both ways.
+// A layer: what depends on its penetration alone, C, exact, and the ends of G1, G3 and G3/2, in billionths rounded both ways.
 use numbers::both_ways;
 use numbers::halves;
 use records::Ends;

@@ -1,7 +1,6 @@
 -- Figures worked out twice, by document 01's definitions and by the regulation's own, which must not differ; the regulation's letters for a ship
 -- that document 01 leaves out, its survival, and its heights where nothing caps them. Assumes nothing.
 use mathlib.Core.Path.{_≡_, refl}
-use mathlib.Core.List.{[], _∷_}
 use native.Mathlib.Omega.{arith}
 use lib.Dec.{leb→le, lit<}
 use Rattle.laws.specs.Fraction.{Fraction, _less_over_, _over_, whole, _≈_, _≺_, _≼?_, lesser, _⊹_, _⊝_, _⊛_, _⊘_}

@@ -18,6 +18,8 @@ use Rattle.solas.specs.Span.{p}
 use Rattle.solas.specs.General.{Law, fall, between, mass, beyond, unit, law}
 use Rattle.solas.proofs.GeneralLayer.{beyond-nothing}
 use Rattle.solas.proofs.Cut.{peak, mass-sum, between-below, between-above}
+-- checked first, so that a definition that gives another number is refused there
+use Rattle.solas.proofs.Values.{p-1500}
 
 -- one, on the scale of a ship of length L: 36W²κ²·λL
 abbrev pub full : Law → ℕ → ℕ

@@ -9,7 +9,7 @@ use Rattle.laws.proofs.Choice.{split}
 use Rattle.laws.proofs.Fraction.{is-over, is-whole, strictly-below-across}
 use Rattle.solas.specs.Index.{R}
 -- checked first, so that a definition that gives another number is refused there
-use Rattle.solas.proofs.Values.{R-10000}
+use Rattle.solas.proofs.Values.{R-8000}
 
 pub is-R-long : {L : ℕ} → 10000 < L → Is (R L) (L + 2400) 0 (L + 15200)
 unfolding R

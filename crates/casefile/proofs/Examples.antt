@@ -15,8 +15,10 @@ use Rattle.casefile.specs.Limits.{between, sizesFit, risingTo, zonesFit,
 use Rattle.casefile.specs.Order.{atTop, closesGroup, sameGroup, sameLayer, earlierGroup, outOfOrder, leavesOpen, endsOpen}
 use Rattle.casefile.specs.Table.{firstHolds, wrongHullFrame, wrongFrame, wrongZones, hullChecks, rowChecks, endChecks, lineChecks}
 use Rattle.casefile.specs.Kept.{keptRow, keptRows}
-use Rattle.casefile.specs.Reading.{Reading, refused, accepted, start, readFrom, reading}
-use Rattle.casefile.specs.Answer.{judgementOf}
+use Rattle.casefile.specs.Reading.{Reading, refused, accepted, begin, start, readFrom, reading}
+use Rattle.casefile.specs.Answer.{firstJudged, frameOf, judged, judgementOf}
+use Rattle.casefile.specs.Acceptance.{valuesFrom}
+use Rattle.casefile.specs.Refusal.{after, numberAt}
 use Rattle.casefile.specs.Encode.{rowLines, encode}
 use Rattle.casefile.proofs.LimitExamples.{found, survival, row}
 
@@ -72,6 +74,11 @@ printedRows = row 2 1 1 800 18500 (found 30 400 0) ∷ row 3 1 2 800 18500 (surv
 pub printed-accepted : reading printed ≡ accepted (case printedHull printedRows)
 unfolding read
 printed-accepted = refl
+
+-- what its lines are judged to be, in document 01's numbers
+printed-values : valuesFrom begin (lines printed) ≡ (1 ∷ 9900 ∷ 1600 ∷ 6000 ∷ 4000 ∷ 2 ∷ 1500 ∷ []) ∷ (2 ∷ 1 ∷ 1 ∷ 800 ∷ 18500 ∷ []) ∷ (3 ∷ 1 ∷ 2 ∷ 800 ∷ 18500 ∷ []) ∷ (3 ∷ 2 ∷ 1 ∷ 800 ∷ 18500 ∷ []) ∷ (15 ∷ 3 ∷ []) ∷ []
+unfolding read firstJudged frameOf judged valuesFrom
+printed-values = refl
 
 rows-counted : judgementOf (reading printed) .rows ≡ 3
 unfolding read
@@ -152,6 +159,11 @@ end-first = refl
 hull-again : reading (hullLine ++ hullLine) ≡ refused 3 2
 unfolding read
 hull-again = refl
+
+-- the numbers of the two lines: the first passes
+hull-again-numbers : (numberAt (lines (hullLine ++ hullLine)) 1 ≡ 0) × (numberAt (lines (hullLine ++ hullLine)) 2 ≡ 3)
+unfolding read firstJudged frameOf judged after numberAt
+hull-again-numbers = (refl, refl)
 
 end-too-long : reading (hullLine ++ 48 ∷ 48 ∷ endLine) ≡ refused 3 2
 unfolding read

@@ -49,27 +49,31 @@ placed f =
 
 -- ---- from bytes
 
-module _ (f : List ℕ) (o : Octets f) (some : 1 ≤ byteAt f 8) (most : byteAt f 8 ≤ 20) (l : length f ≡ 7 + 2 * byteAt f 8) where
+-- the inner bulkheads are the numbers after the zone count
+module _ (f : List ℕ) (most : byteAt f 8 ≤ 20) where
   abbrev m : ℕ
   m = byteAt f 8
 
   abbrev inner : ℕ → ℕ
   inner k = wordAt f (7 + 2 * k)
 
-  bulkhead : (i : ℕ) → i < m - 1 → placeOf inner m (wordAt f 0) (1 + i) ≡ wordAt (drop 9 f) (2 * i)
+  bulkhead : (i : ℕ) → i < m - 1 → placeOf inner m (wordAt f 0) (1 + i) ≡ wordAt f (9 + 2 * i)
   bulkhead i h =
       let k : 7 + 2 * (1 + i) ≡ 9 + 2 * i = omega arith in
-      place-inside inner m (wordAt f 0) (1 + i) (omega arith) (omega arith) ∙ ap (wordAt f) k ∙ sym (word-drop 9 (2 * i) f)
+      place-inside inner m (wordAt f 0) (1 + i) (omega arith) (omega arith) ∙ ap (wordAt f) k
 
-  -- the inner bulkheads are the words after the zone count
-  inner-bytes : words (innerOf (hullOf f)) ≡ drop 9 f
+  pub inner-words : innerOf (hullOf f) ≡ tabulate (λ i. wordAt f (9 + 2 * i)) (m - 1)
   unfolding hullOf
+  inner-words =
+      part-of-table 0 (placeOf inner m (wordAt f 0)) 1 (m - 1) 21 (omega arith)
+      ∙ tabulate-same (λ i. placeOf inner m (wordAt f 0) (1 + i)) (λ i. wordAt f (9 + 2 * i)) (m - 1) bulkhead
+
+module _ (f : List ℕ) (o : Octets f) (some : 1 ≤ byteAt f 8) (most : byteAt f 8 ≤ 20) (l : length f ≡ 7 + 2 * byteAt f 8) where
+  inner-bytes : words (innerOf (hullOf f)) ≡ drop 9 f
   inner-bytes =
-      ap words
-      (part-of-table 0 (placeOf inner m (wordAt f 0)) 1 (m - 1) 21 (omega arith)
-      ∙ tabulate-same (λ i. placeOf inner m (wordAt f 0) (1 + i)) (λ i. wordAt (drop 9 f) (2 * i)) (m - 1) bulkhead)
-      ∙ words-again (drop 9 f) (m - 1) (octets-drop 9 f o) (omega (arith, l, length-drop 9 f))
-      ∙ take-all (2 * (m - 1)) (drop 9 f) (omega (arith, l, length-drop 9 f))
+      ap words (inner-words f most ∙ tabulate-same (λ i. wordAt f (9 + 2 * i)) (λ i. wordAt (drop 9 f) (2 * i)) (byteAt f 8 - 1) (λ i h. sym (word-drop 9 (2 * i) f)))
+      ∙ words-again (drop 9 f) (byteAt f 8 - 1) (octets-drop 9 f o) (omega (arith, l, length-drop 9 f))
+      ∙ take-all (2 * (byteAt f 8 - 1)) (drop 9 f) (omega (arith, l, length-drop 9 f))
 
   pub hull-bytes-again : hullBytes (hullOf f) ≡ 1 ∷ f
   unfolding hullBytes hullOf tabulate

@@ -13,6 +13,7 @@ pub mod Chain
 pub mod Soundness
 pub mod Completeness
 pub mod Acceptance
+pub mod CaseLines
 pub mod Turns
 pub mod EndFrames
 pub mod Refusal

@@ -1,22 +1,57 @@
 -- What a line's answer says: the number of the first check that holds, or the kind and the fields of a line that passes. Assumes nothing.
-use Prim.Native.Nat.{ℕ}
+use Prim.Native.Nat.{ℕ, _+_, _-_, _*_}
 use mathlib.Core.Path.{_≡_, refl, sym, _∙_, ap}
 use mathlib.Core.Bool.{Bool, true, false, cond}
 use mathlib.Core.List.{List, [], _∷_}
 use lib.Dec.{eqb}
 use borrow.Author.Tests.{eqb-true}
+use Rattle.laws.specs.Lists.{tabulate}
 use Rattle.laws.proofs.Tests.{picked}
 use Rattle.records.specs.declared.Hull.{Hull}
 use Rattle.lines.specs.Lines.{Line}
 use Rattle.hexadecimal.specs.Hex.{pairs}
-use Rattle.fields.specs.Fields.{wordAt}
+use Rattle.fields.specs.Fields.{byteAt, wordAt}
 use Rattle.casefile.specs.declared.Frame.{Frame}
 use Rattle.casefile.specs.declared.Progress.{Progress}
-use Rattle.casefile.specs.Layout.{kindOf, fieldsOf, isRow, headOf, rowOf, countOf}
-use Rattle.casefile.specs.Table.{firstHolds, lineChecks}
-use Rattle.casefile.specs.Answer.{numberOf, valuesOf, frameOf, judged, SaysTheLine}
-use Rattle.casefile.proofs.Checks.{LinePasses, passes-first}
-use Rattle.casefile.proofs.Passing.{fits}
+use Rattle.casefile.specs.Layout.{kindOf, fieldsOf, isRow, hullOf, headOf, rowOf, countOf, innerOf}
+use Rattle.casefile.specs.Table.{firstHolds, hullChecks, lineChecks}
+use Rattle.casefile.specs.Reading.{Stage, begin, inside, checks}
+use Rattle.casefile.specs.Answer.{numberOf, valuesOf, givenFirst, refusedFirst, unlessRefused, firstJudged, frameOf, judged, SaysTheLine, frameAt}
+use Rattle.casefile.proofs.Checks.{HullPasses, LinePasses, hull-passes, passes-first}
+use Rattle.casefile.proofs.Limits.{zones-are}
+use Rattle.casefile.proofs.HullLayout.{inner-words}
+use Rattle.casefile.proofs.Passing.{hull-frame, hull-zones, fits}
+
+-- ---- line 1
+
+module _ (l : Line) where
+  abbrev hull : Hull
+  hull = hullOf (fieldsOf (pairs (l .text)))
+
+  first-by : (k : ℕ) → firstHolds (hullChecks l) ≡ k → firstJudged l ≡ unlessRefused k hull
+  unfolding firstJudged
+  first-by k e = rw e refl
+
+  pub first-passes : firstHolds (hullChecks l) ≡ 0 → firstJudged l ≡ givenFirst hull
+  first-passes e = first-by 0 e
+
+  number-first : (k : ℕ) (t : Bool) → eqb k 0 ≡ t → numberOf (cond t (givenFirst hull) (refusedFirst k) .frame) ≡ k
+  number-first k true e = sym (eqb-true k 0 e)
+  number-first k false e = refl
+
+  pub first-says-number : numberOf (firstJudged l .frame) ≡ firstHolds (hullChecks l)
+  first-says-number = let k : ℕ = firstHolds (hullChecks l) in ap (λ a. numberOf (a .frame)) (first-by k refl) ∙ number-first k (eqb k 0) refl
+
+  -- the fields of a hull's line: the numbers after the zone count are its inner bulkheads
+  hull-values : (p : HullPasses l) → let f = fieldsOf (pairs (l .text)) in valuesOf hull (Frame.Hull (hull .zones))
+      ≡ kindOf (pairs (l .text)) ∷ wordAt f 0 ∷ wordAt f 2 ∷ wordAt f 4 ∷ wordAt f 6 ∷ byteAt f 8 ∷ tabulate (λ i. wordAt f (9 + 2 * i)) (byteAt f 8 - 1)
+  unfolding hullOf
+  hull-values p =
+      let f : List ℕ = fieldsOf (pairs (l .text)) in
+      let sizes : List ℕ → List ℕ = λ ns. wordAt f 0 ∷ wordAt f 2 ∷ wordAt f 4 ∷ wordAt f 6 ∷ byteAt f 8 ∷ ns in
+      ap (λ ns. 1 ∷ sizes ns) (inner-words f (zones-are hull (hull-zones l (p .written) p .0) .most)) ∙ ap (_∷ sizes (tabulate (λ i. wordAt f (9 + 2 * i)) (byteAt f 8 - 1))) (sym (hull-frame l (p .written) p .0))
+
+-- ---- a line after the hull
 
 module _ (h : Hull) (p : Progress) (l : Line) where
   abbrev bytes : List ℕ
@@ -33,6 +68,12 @@ module _ (h : Hull) (p : Progress) (l : Line) where
   end-frame : isRow (kindOf bytes) ≡ false → frameOf bytes ≡ Frame.End (countOf bytes)
   unfolding frameOf
   end-frame r = rw r refl
+
+  pub row-judged : firstHolds (lineChecks h p l) ≡ 0 → isRow (kindOf bytes) ≡ true → judged h p l ≡ Frame.Row (rowOf bytes .head)
+  row-judged e k = by-number 0 e ∙ row-frame k
+
+  pub end-judged : firstHolds (lineChecks h p l) ≡ 0 → isRow (kindOf bytes) ≡ false → judged h p l ≡ Frame.End (countOf bytes)
+  end-judged e k = by-number 0 e ∙ end-frame k
 
 -- ---- what the answer says
 
@@ -53,7 +94,15 @@ end-kind h p l e k =
 pub says-the-line : SaysTheLine
 unfolding headOf
 says-the-line = record {
+  first-number = first-says-number;
+  hull = λ l e. ap (λ a. valuesOf (a .hull) (a .frame)) (first-passes l e) ∙ hull-values l (hull-passes l e);
   number = λ h p l. let k : ℕ = firstHolds (lineChecks h p l) in ap numberOf (by-number h p l k refl) ∙ number-case k (frameOf (pairs (l .text))) (eqb k 0) refl (frame-number (pairs (l .text)));
-  row = λ h p l e k. ap valuesOf (by-number h p l 0 e ∙ row-frame h p l k);
-  end = λ h p l e k. ap valuesOf (by-number h p l 0 e ∙ end-frame h p l k) ∙ ap (_∷ wordAt (fieldsOf (pairs (l .text))) 0 ∷ []) (end-kind h p l e k);
+  row = λ h p l e k. ap (valuesOf h) (row-judged h p l e k);
+  end = λ h p l e k. ap (valuesOf h) (end-judged h p l e k) ∙ ap (_∷ wordAt (fieldsOf (pairs (l .text))) 0 ∷ []) (end-kind h p l e k);
 }
+
+-- ---- the lines in turn
+
+pub stage-number : (s : Stage) (l : Line) → numberOf (frameAt s l) ≡ firstHolds (checks s l)
+stage-number begin l = says-the-line .first-number l
+stage-number (inside h p) l = says-the-line .number h p l

@@ -53,13 +53,13 @@ module _ (l : Line) (w : badlyWritten l ≡ false) where
     abbrev hull : Hull
     hull = hullOf (fieldsOf bs)
 
-    hull-frame : (kindOf bs ≡ 1) × (10 ≤ length bs)
+    pub hull-frame : (kindOf bs ≡ 1) × (10 ≤ length bs)
     unfolding wrongHullFrame
     hull-frame =
         let (k, n) = neither (not (isHull (kindOf bs))) (ltb (length bs) shortestHull) (p .frame) in
         (eqb-true (kindOf bs) 1 (not-false (isHull (kindOf bs)) k), ltb-false (length bs) shortestHull n)
 
-    hull-zones : (zonesFit hull ≡ true) × (length bs ≡ hullLength (hull .zones))
+    pub hull-zones : (zonesFit hull ≡ true) × (length bs ≡ hullLength (hull .zones))
     unfolding wrongZones
     hull-zones =
         let (z, n) = neither (not (zonesFit hull)) (not (eqb (length bs) (hullLength (hull .zones)))) (p .zones) in

@@ -6,15 +6,16 @@ use mathlib.Core.List.{List}
 use mathlib.Core.Logic.{_⊎_, inl, inr}
 use native.Mathlib.Omega.{arith}
 use lib.Dec.{ltb}
-use lib.ListN.{length, getD}
+use lib.ListN.{length, getD, take}
 use borrow.Author.Tests.{ltb-true, ltb-false}
 use Rattle.lines.specs.Lines.{Line, lines}
 use Rattle.casefile.specs.Record.{Case}
 use Rattle.casefile.specs.Limits.{longestInput}
 use Rattle.casefile.specs.Reading.{Reading, refused, accepted, begin, reading}
 use Rattle.casefile.specs.Answer.{judgementOf}
-use Rattle.casefile.specs.Refusal.{lineAt, numberAt, IsEndFrame, AtLine, NoEnd, Refusal, Refusals, Answered, OneRefusal, NotBoth}
+use Rattle.casefile.specs.Refusal.{lineAt, after, numberAt, IsEndFrame, AtLine, NoEnd, Refusal, Refusals, Answered, OneRefusal, NotBoth}
 use Rattle.casefile.proofs.Steps.{too-long, not-too-long}
+use Rattle.casefile.proofs.LineJudging.{stage-number}
 use Rattle.casefile.proofs.Soundness.{not-accepted}
 use Rattle.casefile.proofs.Turns.{noLine, numberFrom, PassTo, Stops, RunsOut, same-refusal, refused-by, stops, runs-out}
 use Rattle.casefile.proofs.EndFrames.{none-ends, stays-open}
@@ -23,7 +24,7 @@ use Rattle.casefile.proofs.EndFrames.{none-ends, stays-open}
 
 number-at : (ls : List Line) (i : ℕ) → numberAt ls (suc i) ≡ numberFrom begin ls i
 unfolding numberAt numberFrom
-number-at ls i = let e : suc i - 1 ≡ i = omega arith in rw e refl
+number-at ls i = let e : suc i - 1 ≡ i = omega arith in rw e (stage-number (after begin (take i ls)) (getD ls i noLine))
 
 -- a fact of each place is one of each line number
 by-number : (P : ℕ → Type 0) (n : ℕ) → ((i : ℕ) → i < n → P (suc i)) → (i : ℕ) → 1 ≤ i → i < suc n → P i

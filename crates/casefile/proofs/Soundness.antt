@@ -118,7 +118,7 @@ module _ (h : Hull) (p : Progress) (l : Line) (ls : List Line) (q : LinePasses p
     few = omega arith;
   }
 
-accounts : (ls : List Line) (h : Hull) (p : Progress) (n : ℕ) (c : Case) → p .ended ≡ false → p .rows ≤ mostRows → readFrom (inside h p) n ls ≡ accepted c → Accounts h p ls c
+pub accounts : (ls : List Line) (h : Hull) (p : Progress) (n : ℕ) (c : Case) → p .ended ≡ false → p .rows ≤ mostRows → readFrom (inside h p) n ls ≡ accepted c → Accounts h p ls c
 unfolding readFrom
 accounts [] h p n c t f e = not-accepted 10 n c (rw t at e)
 accounts (l ∷ ls) h p n c t f e = by (isRow (kindOf (pairs (l .text)))) refl (λ r d k g. accounts ls h (withRow p r) (n + 1) d refl k g)

@@ -70,6 +70,16 @@ module _ (h : Hull) (p : Progress) (l : Line) where
   end-case c true false e g = let z : countOf bytes ≡ c = cc in (eqb-true number 0 e, refl, sym z)
   end-case c false u e g = let z : _≡_ {A = ℕ} 0 1 = cc in absurd (omega arith)
 
+  hull-case : {m : ℕ} (t u : Bool) → cond t (cond u (Frame.Row (rowOf bytes .head)) (Frame.End (countOf bytes))) (Frame.Wrong number) ≡ Frame.Hull m → ⊥
+  hull-case true true g = let z : _≡_ {A = ℕ} 0 1 = cc in omega arith
+  hull-case true false g = let z : _≡_ {A = ℕ} 0 1 = cc in omega arith
+  hull-case false u g = let z : _≡_ {A = ℕ} 0 1 = cc in omega arith
+
+  -- no later line is judged to be a hull
+  pub judged-no-hull : {m : ℕ} → judged h p l ≡ Frame.Hull m → ⊥
+  unfolding judged frameOf
+  judged-no-hull e = hull-case (eqb number 0) (isRow (kindOf bytes)) e
+
   pub judged-wrong : (k : ℕ) → judged h p l ≡ Frame.Wrong k → (number ≡ k) × (k ≡ 0 → ⊥)
   unfolding judged frameOf
   judged-wrong k e = wrong-case k (eqb number 0) (isRow (kindOf bytes)) refl e

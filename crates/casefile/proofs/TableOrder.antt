@@ -17,6 +17,7 @@ use Rattle.casefile.specs.Layout.{kindOf, isRow}
 use Rattle.casefile.specs.Table.{Check, firstHolds, hullChecks, rowChecks, endChecks, lineChecks}
 use Rattle.casefile.specs.Reading.{Stage, begin, inside, checks}
 use Rattle.casefile.specs.Refusal.{lineAt, after, numberAt, Refusal, numbers, OfTheTable, numbersOf, InTurn}
+use Rattle.casefile.proofs.LineJudging.{stage-number}
 use Rattle.casefile.proofs.Refusal.{is-refusal}
 
 pub in-turn : InTurn
@@ -72,5 +73,6 @@ of-the-table f k l e = by (is-refusal f k l e)
     by (inl q) = has-it k numbers (rw (q .number) refl)
     by (inr (inl q)) =
         let s : Stage = after begin (take (l - 1) (lines f)) in
-        stage-numbers s (lineAt (lines f) l) k (Memᴰ·cast (sym (q .number)) (given-is-one (checks s (lineAt (lines f) l)) (λ z. q .some (sym (q .number) ∙ z))))
+        let given : firstHolds (checks s (lineAt (lines f) l)) ≡ k = sym (stage-number s (lineAt (lines f) l)) ∙ q .number in
+        stage-numbers s (lineAt (lines f) l) k (Memᴰ·cast (sym given) (given-is-one (checks s (lineAt (lines f) l)) (λ z. q .some (sym given ∙ z))))
     by (inr (inr q)) = has-it k numbers (rw (q .number) refl)

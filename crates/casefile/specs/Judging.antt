@@ -4,18 +4,17 @@ use mathlib.Core.Bool.{false, cond, not, _||_}
 use mathlib.Core.List.{List, [], _∷_}
 use lib.Dec.{eqb}
 use Rattle.records.specs.declared.Hull.{Hull}
-use Rattle.lines.specs.Lines.{Line}
-use Rattle.hexadecimal.specs.Hex.{pairs}
+use Rattle.casefile.specs.declared.FirstLine.{FirstLine}
 use Rattle.casefile.specs.declared.Frame.{Frame}
 use Rattle.casefile.specs.declared.Progress.{Progress}
 use Rattle.casefile.specs.declared.Judgement.{Judgement}
 use Rattle.casefile.specs.declared.Step.{Step}
 use Rattle.casefile.specs.Record.{Row}
-use Rattle.casefile.specs.Layout.{kindOf, fieldsOf, isRow, hullLength, hullOf, rowOf, countOf}
+use Rattle.casefile.specs.Layout.{kindOf, isRow, hullLength, rowOf, countOf}
 use Rattle.casefile.specs.Limits.{sizesFit, zonesFit}
-use Rattle.casefile.specs.Table.{_when_, firstHolds, wrongFrame, hullChecks, rowChecks, endChecks}
+use Rattle.casefile.specs.Table.{_when_, firstHolds, wrongFrame, rowChecks, endChecks}
 use Rattle.casefile.specs.Reading.{refused, withEnd}
-use Rattle.casefile.specs.Answer.{judgementOf}
+use Rattle.casefile.specs.Answer.{unlessRefused, judgementOf}
 
 -- ---- a line after the hull
 
@@ -40,23 +39,14 @@ frameJudged h p bs =
 unfoldable pub hullNumber : Hull → ℕ → ℕ
 hullNumber h n = firstHolds ((4 when not (sizesFit h)) ∷ (5 when (not (zonesFit h) || not (eqb n (hullLength (h .zones))))) ∷ [])
 
--- no row is counted yet
-abbrev pub hullGiven : Hull → Judgement
-hullGiven h = record { number = 0; line = 0; rows = 0; hull = h }
-
-abbrev pub unlessRefused : ℕ → Hull → Judgement
-unlessRefused k h = cond (eqb k 0) (hullGiven h) (judgementOf (refused k 1))
-
-unfoldable pub hullJudged : Hull → ℕ → Judgement
+unfoldable pub hullJudged : Hull → ℕ → FirstLine
 hullJudged h n = unlessRefused (hullNumber h n) h
-
-unfoldable pub firstJudged : Line → Judgement
-firstJudged l = unlessRefused (firstHolds (hullChecks l)) (hullOf (fieldsOf (pairs (l .text))))
 
 -- ---- the lines in turn
 
--- what is known after a line's frame, or the refusal with the line n
+-- what is known after a line's frame, or the refusal with the line n: a hull stands in line 1 alone
 abbrev pub stepped : Frame → Progress → ℕ → Step
+stepped (Frame.Hull m) p n = Step.Refused 3 n
 stepped (Frame.Row r) p n = Step.Next (record { rows = p .rows + 1; last = r; ended = false })
 stepped (Frame.End count) p n = Step.Next (withEnd p)
 stepped (Frame.Wrong k) p n = Step.Refused k n

@@ -12,8 +12,9 @@ use Rattle.casefile.specs.declared.Progress.{Progress}
 use Rattle.casefile.specs.Record.{Case}
 use Rattle.casefile.specs.Layout.{kindOf, isRow, isEnd}
 use Rattle.casefile.specs.Limits.{longestInput}
-use Rattle.casefile.specs.Table.{Check, firstHolds, hullChecks, lineChecks}
-use Rattle.casefile.specs.Reading.{refused, accepted, Stage, begin, checks, next, reading}
+use Rattle.casefile.specs.Table.{Check, hullChecks, lineChecks}
+use Rattle.casefile.specs.Reading.{refused, accepted, Stage, begin, next, reading}
+use Rattle.casefile.specs.Answer.{numberOf, frameAt}
 
 -- ---- lines by their numbers, from 1 on
 
@@ -25,9 +26,9 @@ unfoldable pub after : Stage → List Line → Stage
 after s [] = s
 after s (l ∷ ls) = after (next s l) ls
 
--- the first check that holds at line i, 0 where it passes: by what the lines before it say
+-- the number of what line i is judged to be, 0 where it passes: by what the lines before it say
 unfoldable pub numberAt : List Line → ℕ → ℕ
-numberAt ls i = firstHolds (checks (after begin (take (i - 1) ls)) (lineAt ls i))
+numberAt ls i = numberOf (frameAt (after begin (take (i - 1) ls)) (lineAt ls i))
 
 abbrev pub PassBefore : List Line → ℕ → Type 0
 PassBefore ls n = (i : ℕ) → 1 ≤ i → i < n → numberAt ls i ≡ 0
@@ -42,7 +43,7 @@ pub record TooLong (f : List ℕ) (k l : ℕ) : Type 0 where
   pub number : k ≡ 1
   pub line : l ≡ 0
 
--- the lines before line l pass, and k is the first check that holds there
+-- the lines before line l pass, and k is the number that it gets: that of the first check that holds there (SaysTheLine)
 pub record AtLine (f : List ℕ) (k l : ℕ) : Type 0 where
   pub short : length f ≤ longestInput
   pub from : 1 ≤ l

@@ -2,11 +2,18 @@
 use records::Hull;
 use records::RowHead;
 
-// What a line after the hull is: a row's head, the end's count, or a refusal's number.
+// What a line is: a hull of so many zones, a row's head, the end's count, or a refusal's number. A hull's places are an array: they stand beside it.
 pub enum Frame {
+    Hull(usize),
     Row(RowHead),
     End(u64),
     Wrong(u64),
+}
+
+// What line 1 is, and beside it the hull that it gives: no places and zeros where it is refused.
+pub struct FirstLine {
+    pub frame: Frame,
+    pub hull: Hull,
 }
 
 // What is known after some lines: how many rows they held, the head of the last (kind 0: none yet), and whether the end was read.

@@ -17,13 +17,12 @@ use Rattle.frames.specs.declared.Written.the-variants.{Bytes}
 use Rattle.frames.specs.Decoding.{writtenOf}
 use Rattle.fields.specs.Fields.{byteAt, wordAt}
 use Rattle.frames.proofs.CodeDecoding.{well-written, byte-stored}
-use Rattle.casefile.specs.declared.Judgement.{Judgement}
+use Rattle.casefile.specs.declared.FirstLine.{FirstLine}
 use Rattle.casefile.specs.Layout.{kindOf, fieldsOf, placeOf, hullOf}
 use Rattle.casefile.specs.Limits.{between, sizesFit, zonesFit}
 use Rattle.casefile.specs.Table.{firstHolds, wrongHullFrame, wrongZones, hullChecks}
-use Rattle.casefile.specs.Reading.{refused}
-use Rattle.casefile.specs.Answer.{judgementOf}
-use Rattle.casefile.specs.Judging.{hullNumber, hullGiven, hullJudged, firstJudged}
+use Rattle.casefile.specs.Answer.{givenFirst, refusedFirst, firstJudged}
+use Rattle.casefile.specs.Judging.{hullNumber, hullJudged}
 use Rattle.casefile.proofs.Checks.{first-passed}
 
 -- ---- the number of a hull
@@ -60,11 +59,11 @@ module _ (h g : Hull) (n k : ℕ) (e : h ≡ g) (f : k ≡ hullNumber h n) where
   same : hullNumber g n ≡ k
   same = sym (f ∙ rw e refl)
 
-  pub hull-refused : (k ≡ 0 → ⊥) → (r : Judgement) → r ≡ judgementOf (refused k 1) → r ≡ hullJudged g n
+  pub hull-refused : (k ≡ 0 → ⊥) → (r : FirstLine) → r ≡ refusedFirst k → r ≡ hullJudged g n
   unfolding hullJudged
   hull-refused d r q = q ∙ rw (same, ne-eqb k 0 d) refl
 
-  pub hull-given : k ≡ 0 → hullGiven h ≡ hullJudged g n
+  pub hull-given : k ≡ 0 → givenFirst h ≡ hullJudged g n
   unfolding hullJudged
   hull-given d = rw (same, eq-eqb k 0 d, e) refl
 
@@ -109,12 +108,12 @@ module _ (bs out : List ℕ) (e : out ≡ sets (replicate 50 0) 0 bs) where
 -- ---- the line
 
 module _ (l : Line) where
-  badly : badlyWritten l ≡ true → judgementOf (refused 2 1) ≡ firstJudged l
+  badly : badlyWritten l ≡ true → refusedFirst 2 ≡ firstJudged l
   unfolding firstJudged firstHolds hullChecks
   badly e = rw e refl
 
   module _ (written : badlyWritten l ≡ false) where
-    wrong : wrongHullFrame (pairs (l .text)) ≡ true → judgementOf (refused 3 1) ≡ firstJudged l
+    wrong : wrongHullFrame (pairs (l .text)) ≡ true → refusedFirst 3 ≡ firstJudged l
     unfolding firstJudged firstHolds hullChecks
     wrong e = rw (written, e) refl
 
@@ -137,10 +136,10 @@ module _ (bs : List ℕ) where
   hull-frame h e = rw (eq-eqb (kindOf bs) 1 e, le-ltb (length bs) 10 h) refl
 
 module _ (text : List ℕ) where
-  pub first-not-closed : judgementOf (refused 2 1) ≡ firstJudged (record { text = text; closed = false })
+  pub first-not-closed : refusedFirst 2 ≡ firstJudged (record { text = text; closed = false })
   first-not-closed = badly _ (unfold badlyWritten in or-true (not (proper text)))
 
-  pub first-no-digits : proper text ≡ false → judgementOf (refused 2 1) ≡ firstJudged (record { text = text; closed = true })
+  pub first-no-digits : proper text ≡ false → refusedFirst 2 ≡ firstJudged (record { text = text; closed = true })
   first-no-digits e = badly _ (unfold badlyWritten in rw e refl)
 
   module _ (n : ℕ) (w : writtenOf text ≡ Bytes n) where
@@ -151,11 +150,11 @@ module _ (text : List ℕ) where
     unfolding badlyWritten
     well = rw (well-written text n w .0) refl
 
-    pub first-short : n < 10 → judgementOf (refused 3 1) ≡ firstJudged (record { text = text; closed = true })
+    pub first-short : n < 10 → refusedFirst 3 ≡ firstJudged (record { text = text; closed = true })
     first-short h = wrong _ well (too-short (pairs text) (omega (arith, count)))
 
-    pub first-other : (kindOf (pairs text) ≡ 1 → ⊥) → judgementOf (refused 3 1) ≡ firstJudged (record { text = text; closed = true })
+    pub first-other : (kindOf (pairs text) ≡ 1 → ⊥) → refusedFirst 3 ≡ firstJudged (record { text = text; closed = true })
     first-other f = wrong _ well (other-kind (pairs text) f)
 
-    pub first-hull : (h : Hull) (r : Judgement) → 10 ≤ n → kindOf (pairs text) ≡ 1 → h ≡ hullOf (fieldsOf (pairs text)) → r ≡ hullJudged h n → r ≡ firstJudged (record { text = text; closed = true })
+    pub first-hull : (h : Hull) (r : FirstLine) → 10 ≤ n → kindOf (pairs text) ≡ 1 → h ≡ hullOf (fieldsOf (pairs text)) → r ≡ hullJudged h n → r ≡ firstJudged (record { text = text; closed = true })
     first-hull h r l e f g = g ∙ rw (f, count) (right _ well (hull-frame (pairs text) (omega (arith, count)) e))

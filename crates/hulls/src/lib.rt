@@ -1,18 +1,18 @@
 // Line 1: the hull that it gives, or a refusal.
 ghost use mathlib.Core.Path.{_≡_};
 ghost use Rattle.casefile.specs.Layout.{hullOf};
-ghost use Rattle.casefile.specs.Reading.{refused};
-ghost use Rattle.casefile.specs.Answer.{judgementOf};
-ghost use Rattle.casefile.specs.Judging.{hullNumber, hullJudged, firstJudged};
-use casefile::Judgement;
+ghost use Rattle.casefile.specs.Answer.{refusedFirst, firstJudged};
+ghost use Rattle.casefile.specs.Judging.{hullNumber, hullJudged};
+use casefile::FirstLine;
+use casefile::Frame;
 use frames::Written;
 use records::Hull;
 
 mod readers; // the hull's record from fields
 
-// A refusal's number and line, and zeros.
-pub fn refusal(number: u64, line: u64) -> Judgement
-    ensures { λ r. ⌜ r ≡ judgementOf (refused number line) ⌝ }
+// A refusal's number, and no hull.
+fn refused(number: u64) -> FirstLine
+    ensures { λ r. ⌜ r ≡ refusedFirst number ⌝ }
 {
     let none = Hull {
         length: 0,
@@ -22,10 +22,8 @@ pub fn refusal(number: u64, line: u64) -> Judgement
         zones: 0,
         places: [0; 21],
     };
-    Judgement {
-        number,
-        line,
-        rows: 0,
+    FirstLine {
+        frame: Frame::Wrong(number),
         hull: none,
     }
 }
@@ -48,39 +46,37 @@ fn hull_number(h: Hull, n: usize) -> u64
 }
 
 // The hull from the fields of its frame, which has n bytes.
-fn judge_hull(f: &[u8], n: usize) -> Judgement
+fn judge_hull(f: &[u8], n: usize) -> FirstLine
     ensures { λ r. ⌜ r ≡ hullJudged (hullOf (now (f .entry))) n ⌝ }
 {
     let h = readers::hull(f);
     let number = hull_number(h, n);
     if number != 0 {
-        return refusal(number, 1);
+        return refused(number);
     }
-    Judgement {
-        number: 0,
-        line: 0,
-        rows: 0,
+    FirstLine {
+        frame: Frame::Hull(h.zones),
         hull: h,
     }
 }
 
-// However long the line is, 50 bytes hold all that a hull record has.
-pub fn judge_first(text: &[u8], closed: bool) -> Judgement
+// Line 1: its frame, with the hull beside it. However long the line is, 50 bytes hold all that a hull record has.
+pub fn judge_first(text: &[u8], closed: bool) -> FirstLine
     ensures { λ r. ⌜ r ≡ firstJudged (record { text = now (text .entry); closed = closed }) ⌝ }
 {
     if !closed {
-        return refusal(2, 1);
+        return refused(2);
     }
     let mut bytes = [0u8; 50];
     let Written::Bytes(n) = frames::decode_text(text, &mut bytes) else {
-        return refusal(2, 1);
+        return refused(2);
     };
     if n < 10 {
-        return refusal(3, 1);
+        return refused(3);
     }
     let kind = bytes[0];
     match kind {
         1 => judge_hull(&bytes[1..], n),
-        _ => refusal(3, 1),
+        _ => refused(3),
     }
 }

@@ -1,21 +1,25 @@
 -- What the loop over the lines keeps: the reading of the whole is that of the rest in the present state, after the rows that are kept. Assumes nothing.
 use Prim.Native.Nat.{ℕ, _+_, _-_, _*_, _≤_, _<_}
 use mathlib.Core.Path.{_≡_, refl, sym, _∙_, ap}
-use mathlib.Core.Bool.{Bool, true, false}
+use mathlib.Core.Bool.{true, false}
 use mathlib.Core.List.{List, [], _∷_, _++_}
+use mathlib.Core.Logic.{inl, inr}
 use native.Mathlib.Nat.{zero-add, sub-zero}
 use native.Mathlib.Numerals.{add-one}
 use native.Mathlib.Omega.{arith}
-use lib.Dec.{ltb, eqb}
+use types.Run.{OneOf}
+use denote.Enum.Declared.{tagOf}
+use lib.Dec.{ltb}
 use lib.ListN.{length, take, drop}
 use lib.Seq.{sets}
 use borrow.Rule.Slice.PartMut.{midOf, putMid}
-use borrow.Author.Tests.{eqb-true, eqb-false}
 use Rattle.records.specs.declared.Hull.{Hull}
 use Rattle.lines.specs.Lines.{Line, lines, lineLength}
 use Rattle.lines.proofs.Lines.{lines-end, lines-next}
 use Rattle.hexadecimal.specs.Hex.{pairs, bytesOf}
+use Rattle.casefile.specs.declared.FirstLine.{FirstLine}
 use Rattle.casefile.specs.declared.Frame.{Frame}
+use Rattle.casefile.proofs.Frame.{the-type}
 use Rattle.casefile.specs.declared.Progress.{Progress}
 use Rattle.casefile.specs.declared.Judgement.{Judgement}
 use Rattle.casefile.specs.declared.Step.{Step}
@@ -25,9 +29,10 @@ use Rattle.casefile.specs.Kept.{keptRow, keptRows, Keeps}
 use Rattle.casefile.specs.Limits.{longestInput, mostRows}
 use Rattle.casefile.specs.Table.{firstHolds, hullChecks}
 use Rattle.casefile.specs.Reading.{Reading, refused, begin, inside, start, withEnd, readFrom, reading}
-use Rattle.casefile.specs.Answer.{judged, judgementOf}
-use Rattle.casefile.specs.Judging.{firstJudged, stepped, judgementAt}
-use Rattle.casefile.proofs.Steps.{not-too-long, no-line, line-passes, line-refused, row-goes-on, end-goes-on, wrong-stops, row-counts, row-passes-as, after, after-none, after-row, after-end, no-end}
+use Rattle.casefile.specs.Answer.{numberOf, firstJudged, judged, judgementOf}
+use Rattle.casefile.specs.Judging.{stepped, judgementAt}
+use Rattle.casefile.proofs.Steps.{not-too-long, no-line, line-passes, line-refused, row-goes-on, end-goes-on, judged-no-hull, wrong-stops, row-counts, row-passes-as, after, after-none, after-row, after-end, no-end}
+use Rattle.casefile.proofs.LineJudging.{first-passes, first-says-number}
 use Rattle.casefile.proofs.Kept.{Placed, length-kept, same-rows, kept-next, row-placed}
 use Rattle.reader.proofs.Places.{placed}
 
@@ -50,6 +55,7 @@ module _ (h : Hull) (p : Progress) (l : Line) (n : ℕ) (ls : List Line) (few : 
   stay = sym (same-rows kept was (25 * p .rows) (w .before) (p .rows) 0 (omega arith))
 
   by-frame : (f : Frame) → judged h p l ≡ f → Taken (stepped f p n)
+  by-frame (Frame.Hull m) e = absurd (judged-no-hull h p l e)
   by-frame (Frame.Row r) e =
       let fewer : p .rows < mostRows = row-counts h p l r e in
       let row : Row = rowOf (pairs (l .text)) in
@@ -132,22 +138,26 @@ told-refused kept e g = rw e (g, tt)
 pub no-line-at-all : (f : List ℕ) → length f ≡ 0 → reading f ≡ refused 10 1
 no-line-at-all f e = not-too-long f (omega arith) ∙ ap (readFrom begin 1) (lines-end f 0 (omega arith)) ∙ no-line begin 1
 
-module _ (l : Line) (ls : List Line) (kept : List ℕ) where
-  first-case : (t : Bool) → eqb (firstHolds (hullChecks l)) 0 ≡ t → (firstJudged l .number ≡ 0 → ⊥) → Told (readFrom begin 1 (l ∷ ls)) (firstJudged l) kept
-  unfolding firstJudged
-  first-case true e f = absurd (f (rw e refl))
-  first-case false e f = told-refused kept (line-refused begin 1 l ls (firstHolds (hullChecks l)) refl (eqb-false (firstHolds (hullChecks l)) 0 e)) (rw e refl)
+-- line 1: a refusal stops the reading, a hull goes on
+module _ (l : Line) (ls : List Line) (o : FirstLine) (g : o ≡ firstJudged l) where
+  number-is : numberOf (o .frame) ≡ firstHolds (hullChecks l)
+  number-is = ap (λ (a : FirstLine). numberOf (a .frame)) g ∙ first-says-number l
 
-  pub first-stops : (firstJudged l .number ≡ 0 → ⊥) → Told (readFrom begin 1 (l ∷ ls)) (firstJudged l) kept
-  first-stops f = first-case (eqb (firstHolds (hullChecks l)) 0) refl f
+  first-stops : ((m : ℕ) → o .frame ≡ Frame.Hull m → ⊥) → readFrom begin 1 (l ∷ ls) ≡ refused (numberOf (o .frame)) 1
+  first-stops n =
+      line-refused begin 1 l ls (numberOf (o .frame)) (sym number-is) (λ z. n _ (ap (λ (a : FirstLine). a .frame) (g ∙ first-passes l (sym number-is ∙ z))))
 
-  rest-case : (t : Bool) → eqb (firstHolds (hullChecks l)) 0 ≡ t → firstJudged l .number ≡ 0 → readFrom (inside (firstJudged l .hull) start) 2 ls ≡ readFrom begin 1 (l ∷ ls)
-  unfolding firstJudged
-  rest-case true e f = rw e (sym (line-passes begin 1 l ls (eqb-true (firstHolds (hullChecks l)) 0 e)))
-  rest-case false e f = absurd (eqb-false (firstHolds (hullChecks l)) 0 e (rw e at f))
+  first-goes-on : {m : ℕ} → o .frame ≡ Frame.Hull m → readFrom (inside (o .hull) start) 2 ls ≡ readFrom begin 1 (l ∷ ls)
+  first-goes-on e = let p : firstHolds (hullChecks l) ≡ 0 = sym number-is ∙ ap numberOf e in rw (g ∙ first-passes l p) (sym (line-passes begin 1 l ls p))
 
-  pub first-goes-on : firstJudged l .number ≡ 0 → readFrom (inside (firstJudged l .hull) start) 2 ls ≡ readFrom begin 1 (l ∷ ls)
-  first-goes-on f = rest-case (eqb (firstHolds (hullChecks l)) 0) refl f
+-- a frame of another kind than a hull
+pub no-hull : (f : Frame) → OneOf (1 ∷ 2 ∷ 3 ∷ []) (tagOf the-type f) → (m : ℕ) → f ≡ Frame.Hull m → ⊥
+no-hull (Frame.Hull k) (inl e) m g = omega (arith, e)
+no-hull (Frame.Hull k) (inr (inl e)) m g = omega (arith, e)
+no-hull (Frame.Hull k) (inr (inr e)) m g = omega (arith, e)
+no-hull (Frame.Row r) o m g = let z : _≡_ {A = ℕ} 0 1 = cc in omega arith
+no-hull (Frame.End c) o m g = let z : _≡_ {A = ℕ} 0 1 = cc in omega arith
+no-hull (Frame.Wrong c) o m g = let z : _≡_ {A = ℕ} 0 1 = cc in omega arith
 
 module _ (f : List ℕ) (few : length f ≤ longestInput) (some : 0 < length f) (end : ℕ) (e : end ≡ 0 + lineLength (drop 0 f)) where
   abbrev opening : Line
@@ -156,11 +166,11 @@ module _ (f : List ℕ) (few : length f ≤ longestInput) (some : 0 < length f) 
   opens : reading f ≡ readFrom begin 1 (opening ∷ lines (drop (end + 1) f))
   opens = not-too-long f few ∙ ap (readFrom begin 1) (lines-next f 0 end e some ∙ rw (sub-zero end) refl)
 
-  module _ (o : Judgement) (g : o ≡ firstJudged opening) (kept : List ℕ) where
-    pub input-stops : (o .number ≡ 0 → ⊥) → Told (reading f) o kept
-    input-stops n = rw (g, opens) (first-stops opening (lines (drop (end + 1) f)) kept (rw g at n))
+  module _ (o : FirstLine) (g : o ≡ firstJudged opening) (kept : List ℕ) where
+    pub input-stops : ((m : ℕ) → o .frame ≡ Frame.Hull m → ⊥) → (r : Judgement) → r ≡ judgementOf (refused (numberOf (o .frame)) 1) → Told (reading f) r kept
+    input-stops n r d = told-refused kept (opens ∙ first-stops opening (lines (drop (end + 1) f)) o g n) d
 
-    pub input-goes-on : (r : Judgement) → o .number ≡ 0 → Told (readFrom (inside (o .hull) start) 2 (lines (drop (end + 1) f))) r kept → Told (reading f) r kept
-    input-goes-on r n d =
-        let same : readFrom (inside (o .hull) start) 2 (lines (drop (end + 1) f)) ≡ reading f = rw (g, opens) (first-goes-on opening (lines (drop (end + 1) f)) kept (rw g at n)) in
+    pub input-goes-on : {m : ℕ} → o .frame ≡ Frame.Hull m → (r : Judgement) → Told (readFrom (inside (o .hull) start) 2 (lines (drop (end + 1) f))) r kept → Told (reading f) r kept
+    input-goes-on n r d =
+        let same : readFrom (inside (o .hull) start) 2 (lines (drop (end + 1) f)) ≡ reading f = first-goes-on opening (lines (drop (end + 1) f)) o g n ∙ sym opens in
         rw same at d

@@ -4,8 +4,8 @@ ghost use Prim.Native.Nat.{_+_, _*_, _≤_};
 ghost use lib.ListN.{length, drop};
 ghost use Rattle.lines.specs.Lines.{lines};
 ghost use Rattle.casefile.specs.Limits.{mostRows};
-ghost use Rattle.casefile.specs.Reading.{inside, start, readFrom, reading};
-ghost use Rattle.casefile.specs.Answer.{judgementOf};
+ghost use Rattle.casefile.specs.Reading.{refused, inside, start, readFrom, reading};
+ghost use Rattle.casefile.specs.Answer.{numberOf, judgementOf};
 ghost use Rattle.casefile.specs.Judging.{stepped, judgementAt};
 ghost use Rattle.casefile.specs.Kept.{Keeps};
 use casefile::Frame;
@@ -15,7 +15,39 @@ use casefile::Step;
 use records::Hull;
 use records::RowHead;
 
-// What a line's frame adds to what is known, or the refusal with the line's number.
+// A refusal's number and line, and zeros.
+fn refusal(number: u64, line: u64) -> Judgement
+    ensures { λ r. ⌜ r ≡ judgementOf (refused number line) ⌝ }
+{
+    let none = Hull {
+        length: 0,
+        breadth: 0,
+        deepest: 0,
+        light: 0,
+        zones: 0,
+        places: [0; 21],
+    };
+    Judgement {
+        number,
+        line,
+        rows: 0,
+        hull: none,
+    }
+}
+
+// The number of a line's refusal, 0 where it passes.
+fn number_of(frame: Frame) -> u64
+    ensures { λ r. ⌜ r ≡ numberOf frame ⌝ }
+{
+    match frame {
+        Frame::Hull(_) => 0,
+        Frame::Row(_) => 0,
+        Frame::End(_) => 0,
+        Frame::Wrong(number) => number,
+    }
+}
+
+// What a line's frame adds to what is known, or the refusal with the line's number: a hull stands in line 1 alone.
 fn step(frame: Frame, p: Progress, line: u64) -> Step
     requires { ⌜ p .rows ≤ mostRows ⌝ }
     ensures { λ r. ⌜ r ≡ stepped frame p line ⌝ }
@@ -23,6 +55,7 @@ fn step(frame: Frame, p: Progress, line: u64) -> Step
     let rows = p.rows;
     let last = p.last;
     match frame {
+        Frame::Hull(_) => Step::Refused(3, line),
         Frame::Row(head) => Step::Next(Progress {
             rows: rows + 1,
             last: head,
@@ -97,7 +130,7 @@ pub fn judge_rows(input: &[u8], h: Hull, from: usize, first: u64, kept: &mut [u8
             rows: p.rows,
             hull: h,
         },
-        Step::Refused(number, line) => hulls::refusal(number, line),
+        Step::Refused(number, line) => refusal(number, line),
     }
 }
 
@@ -109,17 +142,18 @@ pub fn judge(input: &[u8], kept: &mut [u8]) -> Judgement
 {
     let n = input.len();
     if 32768 < n {
-        return hulls::refusal(1, 0);
+        return refusal(1, 0);
     }
     if n == 0 {
-        return hulls::refusal(10, 1);
+        return refusal(10, 1);
     }
     let end = lines::line_end(input, 0);
     let closed = end < n;
-    let opened = hulls::judge_first(&input[..end], closed);
-    if opened.number != 0 {
-        return opened;
-    }
-    let h = opened.hull;
+    let first = hulls::judge_first(&input[..end], closed);
+    let frame = first.frame;
+    let h = first.hull;
+    let Frame::Hull(_) = frame else {
+        return refusal(number_of(frame), 1);
+    };
     judge_rows(input, h, end + 1, 2, kept)
 }

@@ -10,11 +10,11 @@ use native.Mathlib.Omega.{arith}
 use Rattle.hulls.proofs.judge_first.Statement.{statement}
 use Rattle.hulls.proofs.judge_first.Tie as tie
 
-refusal-requires : tie.Need-refusal-requires
-refusal-requires c κs = search needs
+refused-requires : tie.Need-refused-requires
+refused-requires c κs = search needs
 
 returns : tie.Need-returns
-returns c = c .refusal .ensures ∙ rw (not-true (c .before .before .before .args .closed) (c .before .if1 .taken)) (first-not-closed _)
+returns c = c .refused .ensures ∙ rw (not-true (c .before .before .before .args .closed) (c .before .if1 .taken)) (first-not-closed _)
 
 slice-aggregate-decode-text : tie.Need-slice-aggregate-decode-text
 slice-aggregate-decode-text c = search needs
@@ -28,20 +28,20 @@ enum-known-n c = search needs
 enum-told : tie.Need-enum-told
 enum-told c = search needs
 
-refusal-requires-2 : tie.Need-refusal-requires-2
-refusal-requires-2 c κs = search needs
+refused-requires-2 : tie.Need-refused-requires-2
+refused-requires-2 c κs = search needs
 
 returns-2 : tie.Need-returns-2
 returns-2 c =
-    c .refusal2 .ensures
+    c .refused2 .ensures
     ∙ rw (not-false (c .before .before .before .before .before .before .before .before .args .closed) (c .before .before .before .before .before .before .if1 .left)) (first-no-digits _ (badly-written _ (sym (c .before .before .before .before .decode-text .ensures .0) ∙ c .before .enum-told .given .1)))
 
-refusal-requires-3 : tie.Need-refusal-requires-3
-refusal-requires-3 c κs = search needs
+refused-requires-3 : tie.Need-refused-requires-3
+refused-requires-3 c κs = search needs
 
 returns-3 : tie.Need-returns-3
 returns-3 c =
-    c .refusal3 .ensures
+    c .refused3 .ensures
     ∙ rw (not-false (c .before .before .before .before .before .before .before .before .before .before .args .closed) (c .before .before .before .before .before .before .before .before .if1 .left)) (first-short _ _ (sym (c .before .before .before .before .before .before .decode-text .ensures .0) ∙ c .before .before .before .n .given .1) (c .before .if2 .taken))
 
 array-read-kind : tie.Need-array-read-kind
@@ -59,8 +59,8 @@ part-judge-hull-end c = search needs
 judge-hull-requires : tie.Need-judge-hull-requires
 judge-hull-requires c κs = search needs
 
-refusal-requires-4 : tie.Need-refusal-requires-4
-refusal-requires-4 c κs = search needs
+refused-requires-4 : tie.Need-refused-requires-4
+refused-requires-4 c κs = search needs
 
 returns-4 : tie.Need-returns-4
 returns-4 c =
@@ -73,28 +73,28 @@ returns-5 : tie.Need-returns-5
 returns-5 c =
     let w = sym (c .before .before .before .before .before .before .before .decode-text .ensures .0) ∙ c .before .before .before .before .n .given .1 in
     let text = now (c .before .before .before .before .before .before .before .before .before .before .before .args .text) in
-    c .refusal4 .ensures
+    c .refused4 .ensures
     ∙ rw (not-false (c .before .before .before .before .before .before .before .before .before .before .before .args .closed) (c .before .before .before .before .before .before .before .before .before .if1 .left)) (first-other _ _ w (λ f. c .before .match2 .rest .1 (kind-stored (pairs text) _ (stored text _ _ w (c .before .before .before .before .before .before .before .decode-text .ensures .1)) ∙ f)))
 
 pub judge-first-spec : {M : Type 1} → statement M
 judge-first-spec =
     tie.close
     (tie.spec
-    refusal-requires
+    refused-requires
     returns
     slice-aggregate-decode-text
     decode-text-requires
     enum-known-n
     enum-told
-    refusal-requires-2
+    refused-requires-2
     returns-2
-    refusal-requires-3
+    refused-requires-3
     returns-3
     array-read-kind
     sub-judge-hull
     part-judge-hull-start
     part-judge-hull-end
     judge-hull-requires
-    refusal-requires-4
+    refused-requires-4
     returns-4
     returns-5)

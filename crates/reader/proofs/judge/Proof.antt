@@ -1,11 +1,13 @@
 -- `judge` meets its contract. Assumes nothing.
-use mathlib.Core.Path.{sym}
+use mathlib.Core.Path.{sym, _∙_, ap}
 use denote.Ref.{now}
 use lib.Seq.{length-take-le}
 use native.Mathlib.Omega.{arith}
 use Rattle.lines.proofs.Lines.{end-within}
+use Rattle.casefile.specs.Reading.{refused}
+use Rattle.casefile.specs.Answer.{judgementOf}
 use Rattle.casefile.proofs.Steps.{too-long}
-use Rattle.reader.proofs.CodeRunning.{told-refused, no-line-at-all, input-stops, input-goes-on}
+use Rattle.reader.proofs.CodeRunning.{told-refused, no-line-at-all, no-hull, input-stops, input-goes-on}
 use borrow.Author.Needs.{needs}
 use Rattle.reader.proofs.judge.Statement.{statement}
 use Rattle.reader.proofs.judge.Tie as tie
@@ -31,8 +33,19 @@ slice-aggregate-judge-first c = sym (length-take-le _ _ (omega (arith, end-withi
 judge-first-requires : tie.Need-judge-first-requires
 judge-first-requires c κs = search needs
 
+enum-told : tie.Need-enum-told
+enum-told c = search needs
+
+number-of-requires : tie.Need-number-of-requires
+number-of-requires c κs = search needs
+
+refusal-requires-3 : tie.Need-refusal-requires-3
+refusal-requires-3 c κs = search needs
+
 returns-3 : tie.Need-returns-3
-returns-3 c = input-stops (now (c .before .before .before .before .before .before .before .before .before .args .input)) (omega arith) (omega arith) _ (c .before .before .before .before .line-end .ensures) _ (c .before .before .judge-first .ensures) _ (c .if3 .taken)
+returns-3 c =
+    input-stops (now (c .before .before .before .before .before .before .before .before .before .before .before .args .input)) (omega arith) (omega arith) _ (c .before .before .before .before .before .before .line-end .ensures) _ (c .before .before .before .before .judge-first .ensures) _
+    (no-hull _ (c .before .before .match .keys2)) _ (c .refusal3 .ensures ∙ ap (λ k. judgementOf (refused k 1)) (c .before .number-of .ensures))
 
 add-judge-rows : tie.Need-add-judge-rows
 add-judge-rows c = omega (arith, end-within (c .before .before .before .before .before .before .before .before .before .before .args .input .now) 0 (omega arith))
@@ -44,7 +57,9 @@ same-length : tie.Need-same-length
 same-length c = search needs
 
 returns-4 : tie.Need-returns-4
-returns-4 c = input-goes-on (now (c .before .before .before .before .before .before .before .before .before .before .before .before .before .before .args .input)) (omega arith) (omega arith) _ (c .before .before .before .before .before .before .before .before .before .line-end .ensures) _ (c .before .before .before .before .before .before .before .judge-first .ensures) _ _ (c .before .before .before .before .before .if3 .left) (c .before .before .judge-rows .ensures)
+returns-4 c =
+    input-goes-on (now (c .before .before .before .before .before .before .before .before .before .before .before .before .before .before .args .input)) (omega arith) (omega arith) _ (c .before .before .before .before .before .before .before .before .before .line-end .ensures) _ (c .before .before .before .before .before .before .before .judge-first .ensures) _
+    (c .before .before .before .before .enum-told .given .1) _ (c .before .before .judge-rows .ensures)
 
 pub judge-spec : {M : Type 1} → statement M
 judge-spec =
@@ -57,6 +72,9 @@ judge-spec =
     line-end-requires
     slice-aggregate-judge-first
     judge-first-requires
+    enum-told
+    number-of-requires
+    refusal-requires-3
     returns-3
     add-judge-rows
     judge-rows-requires

@@ -122,7 +122,7 @@ SETTLING = [
     ("the search does not stop at 200 places", "FIRST_PLACES, MOST_PLACES = 4, 200", "FIRST_PLACES, MOST_PLACES = 4, 256"),
     ("a root that is a fraction is rounded too", "if (top**4, bottom**4) == (fourth.numerator, fourth.denominator):", "if fourth == 0:"),
     ("a root is rounded down on both sides", "Fraction(down + 1, scale)", "Fraction(down, scale)"),
-    ("what has no weight counts", "if weight:", "if weight >= 0:"),
+    ("v does not count", "share * row_v(row, d) / WHOLE_V", "share"),
     ("A weighs each draught alike", "(Fraction(2, 5), Fraction(2, 5), Fraction(1, 5))", "(Fraction(1, 3),) * 3"),
     ("the ship fails only where all fall short", "if any(one.reaches is False", "if all(one.reaches is False"),
     ("a figure that stays open lets the ship meet", "if all(one.reaches for", "if all(one.reaches is not False for"),

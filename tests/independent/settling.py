@@ -56,13 +56,12 @@ def root_bounds(fourth, places):
 
 
 def sum_bounds(parts, places):
-    """A sum of roots, each by its weight and fourth power; what has no weight does not count."""
+    """A sum of roots, each by its weight and fourth power; one of no weight adds nothing, whatever its root."""
     lower = upper = Fraction(0)
     for weight, fourth in parts:
-        if weight:
-            down, up = root_bounds(fourth, places)
-            lower += weight * down
-            upper += weight * up
+        down, up = root_bounds(fourth, places)
+        lower += weight * down
+        upper += weight * up
     return lower, upper
 
 

@@ -6,7 +6,7 @@ from pathlib import Path
 
 sys.path.insert(0, str(Path(__file__).resolve().parent.parent))
 
-from independent import answer, exact_text, figures, printed, reading  # noqa: E402
+from independent import answer, exact_text, figures, printed, reading, settled_text, total_text  # noqa: E402
 
 
 def whole_number(text):
@@ -24,6 +24,8 @@ def arguments():
     form = parser.add_mutually_exclusive_group()
     form.add_argument("--exact", action="store_true", help="the exact figures as fractions")
     form.add_argument("--figures", action="store_true", help="the answer as decimal numbers, one a line")
+    form.add_argument("--settle", action="store_true", help="whether an unsettled ship meets or fails, with the roots to more places")
+    form.add_argument("--total", action="store_true", help="the total chance of the listed groups, and the groups that are not listed")
     return parser.parse_args()
 
 
@@ -33,6 +35,10 @@ def main():
     data = Path(asked.file).read_bytes() if asked.file else sys.stdin.buffer.read()
     if asked.exact:
         text = exact_text(reading(data))
+    elif asked.settle:
+        text = settled_text(reading(data))
+    elif asked.total:
+        text = total_text(reading(data))
     elif asked.figures:
         text = "".join(f"{figure}\n" for figure in figures(answer(data, asked.sheet)))
     else:

@@ -41,14 +41,15 @@ def first_failure(folder, tests):
 def with_fault(file, old, new):
     """How the tests of a copy of the program end where one place of it is changed."""
     with tempfile.TemporaryDirectory() as folder:
-        copy = Path(folder) / HERE.name
+        copy = Path(folder) / HERE.parent.name / HERE.name
         shutil.copytree(HERE, copy, ignore=shutil.ignore_patterns("__pycache__"))
+        shutil.copytree(HERE.parent.parent / "examples", Path(folder) / "examples")
         changed = copy / f"{file}.py"
         text = changed.read_text(encoding="utf-8")
         if text.count(old) != 1:
             return f"its place is there {text.count(old)} times"
         changed.write_text(text.replace(old, new), encoding="utf-8")
-        return first_failure(folder, tests_of(file))
+        return first_failure(copy.parent, tests_of(file))
 
 
 def main():

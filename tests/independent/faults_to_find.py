@@ -109,4 +109,25 @@ ANSWER = [
     ("a sheet of just two numbers a row is short", "sheet < 2 * len(read.rows)", "sheet <= 2 * len(read.rows)"),
 ]
 
-FAULTS = {"casefile": READING, "regulation": FIGURES, "rounding": ENDS, "answering": ANSWER}
+TEXT = [
+    ("the total takes in groups that are not listed", "(shares[group] for group in listed)", "(shares[group] for group in shares)"),
+    ("groups of no share are told as missing", "if share and (a, n) not in listed", "if (a, n) not in listed"),
+    ("a group is told as missing though it is listed", "if share and (a, n) not in listed", "if share"),
+]
+
+SETTLING = [
+    ("a figure reaches its mark by its upper bound", "if lower >= figure.mark:", "if upper >= figure.mark:"),
+    ("a figure at its mark does not reach it", "if lower >= figure.mark:", "if lower > figure.mark:"),
+    ("the search stops at 4 places", "FIRST_PLACES, MOST_PLACES = 4, 200", "FIRST_PLACES, MOST_PLACES = 4, 4"),
+    ("the search does not stop at 200 places", "FIRST_PLACES, MOST_PLACES = 4, 200", "FIRST_PLACES, MOST_PLACES = 4, 256"),
+    ("a root that is a fraction is rounded too", "if (top**4, bottom**4) == (fourth.numerator, fourth.denominator):", "if fourth == 0:"),
+    ("a root is rounded down on both sides", "Fraction(down + 1, scale)", "Fraction(down, scale)"),
+    ("v does not count", "share * row_v(row, d) / WHOLE_V", "share"),
+    ("A weighs each draught alike", "(Fraction(2, 5), Fraction(2, 5), Fraction(1, 5))", "(Fraction(1, 3),) * 3"),
+    ("the ship fails only where all fall short", "if any(one.reaches is False", "if all(one.reaches is False"),
+    ("a figure that stays open lets the ship meet", "if all(one.reaches for", "if all(one.reaches is not False for"),
+]
+
+FAULTS = {
+    "casefile": READING, "regulation": FIGURES, "rounding": ENDS, "answering": ANSWER, "printing": TEXT, "settling": SETTLING,
+}

@@ -1,7 +1,10 @@
-"""The text of an answer: the lines of the program damindex, the bare figures, and the exact figures for reading."""
+"""The text of an answer: the lines of the program damindex, the bare figures, and the exact figures and total for reading."""
+
+from fractions import Fraction
+from math import floor
 
 from .casefile import Refusal
-from .regulation import R, WHOLE_SURVIVAL, WHOLE_V, draughts, row_share, row_v, s_fourth
+from .regulation import R, WHOLE_SURVIVAL, WHOLE_V, draughts, group_share, row_share, row_v, s_fourth
 
 DRAUGHTS = ("deepest", "partial", "light")
 
@@ -46,4 +49,33 @@ def exact_text(read):
     for d, name in zip(depths, DRAUGHTS):
         total = sum(share * row_v(row, d) for row, share in zip(read.rows, shares)) / WHOLE_V if shares else 0
         lines.append(f"total chance at {name} draught {d}: {total}")
+    return "".join(line + "\n" for line in lines)
+
+
+def decimal(count, places):
+    """A count of the last place as a decimal number."""
+    return f"{count // 10**places}.{count % 10**places:0{places}d}"
+
+
+def cut(value, places):
+    """A fraction to so many places, with dots where more follows."""
+    scaled = value * 10**places
+    return decimal(floor(scaled), places) + ("" if scaled.denominator == 1 else "...")
+
+
+def with_decimal(fraction):
+    """A fraction, and its first nine places where it is none of the whole numbers."""
+    return f"{fraction}" if fraction.denominator == 1 else f"{fraction} = {cut(fraction, 9)}"
+
+
+def total_text(read):
+    """Shares: what the listed groups come to together, and the groups of any share that are not listed, one a line."""
+    if isinstance(read, Refusal):
+        return f"refused {read.number} at line {read.line}\n"
+    zones = len(read.hull.zones)
+    shares = {(a, n): group_share(read.hull, a, n) for a in range(1, zones + 1) for n in range(1, zones - a + 2)}
+    listed = {row.group for row in read.rows}
+    lines = [f"total {with_decimal(sum((shares[group] for group in listed), Fraction(0)))}"]
+    lines += [f"not listed: group ({a}, {n}) share {with_decimal(share)}"
+              for (a, n), share in shares.items() if share and (a, n) not in listed]
     return "".join(line + "\n" for line in lines)

@@ -5,7 +5,7 @@ import sys
 import unittest
 from pathlib import Path
 
-from independent import answer, figures, run
+from independent import answer, figures, reading, run, total_text
 from independent.writing import end_line, file_of, given_row, hull_line, whole_file
 
 PROGRAM = Path(__file__).resolve().parent
@@ -82,6 +82,30 @@ class Sheet(unittest.TestCase):
         self.assertEqual(run(whole_file(hull_line(9_900, 1_600, 6_000, 4_000, []), []), 0)[:4], b"8102")
 
 
+class Total(unittest.TestCase):
+    """What the listed groups come to."""
+
+    def of(self, bulkheads, groups):
+        rows = [given_row(a, n, b, H, (0, 0, 0)) for a, n in groups for b in (200, 800) for H in (9_000, 18_500)]
+        return total_text(reading(whole_file(hull_line(9_900, 1_600, 6_000, 4_000, bulkheads), rows))).splitlines()
+
+    def test_missing_groups(self):
+        self.assertEqual(self.of([1_500], [(1, 1), (2, 1)]), [
+            "total 2221/2376 = 0.934764309...",
+            "not listed: group (1, 2) share 155/2376 = 0.065235690...",
+        ])
+        self.assertEqual(len(self.of([1_500], [])), 4)
+        self.assertEqual(self.of([1_500], [])[0], "total 0")
+
+    def test_group_of_no_share_is_not_missed(self):
+        groups = [(a, n) for a in range(1, 5) for n in range(1, 6 - a)]
+        bulkheads = [1_000, 4_000, 5_000]  # zone 2 is as long as the longest damage
+        self.assertEqual(self.of(bulkheads, groups), ["total 1"])
+        self.assertEqual(self.of(bulkheads, [group for group in groups if group not in ((1, 3), (1, 4))]), ["total 1"])
+        told = self.of(bulkheads, [group for group in groups if group not in ((1, 3), (2, 3))])
+        self.assertEqual([line.split(" share ")[0] for line in told[1:]], ["not listed: group (2, 3)"])
+
+
 class CommandLine(unittest.TestCase):
     """The program as others call it."""
 
@@ -105,6 +129,10 @@ class CommandLine(unittest.TestCase):
         self.assertIn("partial mark 12177/49954", lines)
         self.assertIn("total chance at partial draught 5200: 1", lines)
         self.assertEqual(program("--exact"), b"refused 10 at line 1\n")
+
+    def test_total(self):
+        self.assertEqual(program("--total", data=PRINTED_CASE), b"total 1\n")
+        self.assertEqual(program("--total"), b"refused 10 at line 1\n")
 
     def test_every_byte_is_a_byte(self):
         self.assertEqual(program(data=bytes(range(256))), b"8f020001\n")

@@ -10,8 +10,9 @@ use borrow.Author.Tests.{ltb-true, ltb-false, lt-ltb, le-ltb}
 use Rattle.casefile.specs.Record.{Case}
 use Rattle.casefile.specs.Reading.{Reading, refused, accepted, reading}
 use Rattle.casefile.proofs.Refusal.{is-refusal, refusal-is, nonzero}
+use Rattle.casefile.proofs.CaseLines.{lines-say-the-case}
 use Rattle.answers.specs.Answer.{figures, answer, refusal, answered, sheetAfter}
-use Rattle.promises.specs.Service.{FileOf, AcceptedExactly, RefusedFor, by-table, no-room, RefusedExactly, RefusalsAreBare}
+use Rattle.promises.specs.Service.{FileOf, AcceptedExactly, AcceptedLineByLine, RefusedFor, by-table, no-room, RefusedExactly, RefusalsAreBare}
 use Rattle.promises.proofs.Files.{is-file, file-is}
 -- checked first, so that a sentence that is not so is refused at a number
 use Rattle.promises.proofs.WitnessService.{too-short}
@@ -44,6 +45,9 @@ accepted-exactly f size = (
   λ z. accepting f size (reading f) refl z,
   λ (c, k, room). rw (file-is f c k, with-room c size room) (no-number c),
 )
+
+pub accepted-line-by-line : AcceptedLineByLine
+accepted-line-by-line f size z = let (c, k, room) = accepting f size (reading f) refl z in (c, k, lines-say-the-case f c (file-is f c k))
 
 refusing : (f : List ℕ) (size k l : ℕ) → (k ≡ 0 → ⊥) → (r : Reading) → reading f ≡ r → answered r size ≡ refusal k l → RefusedFor f size k l
 unfolding answered

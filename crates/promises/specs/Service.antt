@@ -4,11 +4,13 @@ use mathlib.Core.Path.{_≡_}
 use mathlib.Core.List.{List}
 use mathlib.Core.Logic.{_↔_}
 use lib.ListN.{length}
+use Rattle.lines.specs.Lines.{lines}
 use Rattle.casefile.specs.Record.{Case}
 use Rattle.casefile.specs.Limits.{longestInput}
 use Rattle.casefile.specs.Valid.{Valid}
 use Rattle.casefile.specs.Encode.{encode}
-use Rattle.casefile.specs.Reading.{reading}
+use Rattle.casefile.specs.Reading.{begin, reading}
+use Rattle.casefile.specs.Acceptance.{valuesFrom, caseValues}
 use Rattle.casefile.specs.Refusal.{Refusal}
 use Rattle.answers.specs.Answer.{refusal, answered, sheetAfter}
 
@@ -21,6 +23,10 @@ pub record FileOf (f : List ℕ) (c : Case) : Type 0 where
 -- "A file is accepted exactly when it keeps 01's rules and the sheet has room"
 abbrev pub AcceptedExactly : Type 0
 AcceptedExactly = (f : List ℕ) (size : ℕ) → (answered (reading f) size .number ≡ 0) ↔ ((c : Case) × FileOf f c × (2 * length (c .rows) ≤ size))
+
+-- such a file line by line: what each line is judged to be, in 01's numbers, says the case
+abbrev pub AcceptedLineByLine : Type 0
+AcceptedLineByLine = (f : List ℕ) (size : ℕ) → answered (reading f) size .number ≡ 0 → (c : Case) × FileOf f c × (valuesFrom begin (lines f) ≡ caseValues c)
 
 -- why an input gets the number k and the line l: by the table; or 11 and line 0, where the file keeps the rules and the sheet has too little room
 pub data RefusedFor (f : List ℕ) (size k l : ℕ) : Type 0 where

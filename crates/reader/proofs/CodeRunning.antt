@@ -167,8 +167,8 @@ module _ (f : List ℕ) (few : length f ≤ longestInput) (some : 0 < length f) 
   opens = not-too-long f few ∙ ap (readFrom begin 1) (lines-next f 0 end e some ∙ rw (sub-zero end) refl)
 
   module _ (o : FirstLine) (g : o ≡ firstJudged opening) (kept : List ℕ) where
-    pub input-stops : ((m : ℕ) → o .frame ≡ Frame.Hull m → ⊥) → (r : Judgement) → r ≡ judgementOf (refused (numberOf (o .frame)) 1) → Told (reading f) r kept
-    input-stops n r d = told-refused kept (opens ∙ first-stops opening (lines (drop (end + 1) f)) o g n) d
+    pub input-stops : ((m : ℕ) → o .frame ≡ Frame.Hull m → ⊥) → (k : ℕ) → k ≡ numberOf (o .frame) → (r : Judgement) → r ≡ judgementOf (refused k 1) → Told (reading f) r kept
+    input-stops n k is r d = told-refused kept (opens ∙ first-stops opening (lines (drop (end + 1) f)) o g n) (rw is at d)
 
     pub input-goes-on : {m : ℕ} → o .frame ≡ Frame.Hull m → (r : Judgement) → Told (readFrom (inside (o .hull) start) 2 (lines (drop (end + 1) f))) r kept → Told (reading f) r kept
     input-goes-on n r d =

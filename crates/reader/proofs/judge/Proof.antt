@@ -1,11 +1,9 @@
 -- `judge` meets its contract. Assumes nothing.
-use mathlib.Core.Path.{sym, _∙_, ap}
+use mathlib.Core.Path.{sym}
 use denote.Ref.{now}
 use lib.Seq.{length-take-le}
 use native.Mathlib.Omega.{arith}
 use Rattle.lines.proofs.Lines.{end-within}
-use Rattle.casefile.specs.Reading.{refused}
-use Rattle.casefile.specs.Answer.{judgementOf}
 use Rattle.casefile.proofs.Steps.{too-long}
 use Rattle.reader.proofs.CodeRunning.{told-refused, no-line-at-all, no-hull, input-stops, input-goes-on}
 use borrow.Author.Needs.{needs}
@@ -45,7 +43,7 @@ refusal-requires-3 c κs = search needs
 returns-3 : tie.Need-returns-3
 returns-3 c =
     input-stops (now (c .before .before .before .before .before .before .before .before .before .before .before .args .input)) (omega arith) (omega arith) _ (c .before .before .before .before .before .before .line-end .ensures) _ (c .before .before .before .before .judge-first .ensures) _
-    (no-hull _ (c .before .before .match .keys2)) _ (c .refusal3 .ensures ∙ ap (λ k. judgementOf (refused k 1)) (c .before .number-of .ensures))
+    (no-hull _ (c .before .before .match .keys2)) _ (c .before .number-of .ensures) _ (c .refusal3 .ensures)
 
 add-judge-rows : tie.Need-add-judge-rows
 add-judge-rows c = omega (arith, end-within (c .before .before .before .before .before .before .before .before .before .before .args .input .now) 0 (omega arith))

@@ -49,7 +49,7 @@ SONAME, OBJECT = "libdamindex.so.%d" % VERSION[0], "libdamindex.so." + DOTTED
 
 
 def version_faults():
-    """Definition, header, pkg-config file and shared object have the version of the code."""
+    """Definition, header and pkg-config file have the version of the code; the names of the shared object are held to it below."""
     places = {
         "the definition": [int(n) for n in re.search(r"^version = numbered (\d+) (\d+) (\d+)$", DEFINED, re.M).groups()],
         "the header": parts(r"^#define DAMINDEX_VERSION_%s (\d+)$", HEADER),
@@ -58,8 +58,6 @@ def version_faults():
     }
     for place, found in places.items():
         yield None if found == VERSION else "%s has version %s, the code %s" % (place, found, VERSION)
-    told = re.findall(r"\(SONAME\).*\[(.*)\]", dynamic())
-    yield None if told == [SONAME] else "the shared object is named %s, not %s" % (told, SONAME)
 
 
 # ---- what is there
@@ -69,7 +67,9 @@ def file_faults(folder):
     links = {Path("lib/libdamindex.so"): SONAME, Path("lib", SONAME): OBJECT}
     files = {Path("include/damindex.h"), Path("lib/libdamindex.a"), Path("lib", OBJECT), Path("lib/pkgconfig/damindex.pc")}
     found = {path.relative_to(folder) for path in folder.rglob("*") if path.is_symlink() or not path.is_dir()}
-    yield None if found == files | links.keys() else "the package has %s" % sorted(map(str, found ^ (files | links.keys())))
+    if found != files | links.keys():
+        yield "too much or too little in the package: %s" % sorted(map(str, found ^ (files | links.keys())))
+        return
     for link, target in links.items():
         there = (folder / link).is_symlink() and os.readlink(folder / link) == target
         yield None if there else "%s is no link to %s" % (link, target)
@@ -116,11 +116,12 @@ def shared_faults():
     found, told, parts_of_it = symbols("-D", PACKAGE / "lib" / OBJECT), dynamic(), list(segments())
     shown, needed = {name for kind, name in found if kind == "T"}, {name for kind, name in found if kind in "Uwv"}
     tags = set(re.findall(r"^ *0x\w+ +\((\w+)\)", told, re.M))
-    asked = re.findall(r"\(NEEDED\).*\[(.*)\]", told)
+    asked, named = (re.findall(r"\(%s\).*\[(.*)\]" % tag, told) for tag in ("NEEDED", "SONAME"))
     sealed = [(at, at + size) for kind, at, size, _ in parts_of_it if kind == "GNU_RELRO"]
     written = [(at, at + size) for kind, at, size, flags in parts_of_it if kind == "LOAD" and "W" in flags]
     yield None if shown == declared() and len(found) == len(shown) + len(needed) else "the shared object shows %s" % sorted(found)
     yield None if needed == OF_C else "the shared object calls %s" % sorted(needed)
+    yield None if named == [SONAME] else "the shared object is named %s, not %s" % (named, SONAME)
     yield None if asked == ["libc.so.6"] else "the shared object asks for %s" % asked
     yield None if "BIND_NOW" in told and "TEXTREL" not in told else "the shared object is not bound when it is loaded, or has its code changed"
     yield None if not tags & STARTED else "the shared object runs code of its own: %s" % sorted(tags & STARTED)
@@ -217,6 +218,9 @@ def manner_faults():
 
 
 def package_faults():
-    """Every fault of the package, None where something is right."""
+    """Every fault of the package, None where something is right, up to the first part that has one: the others build on it."""
     for part in (version_faults(), file_faults(PACKAGE), archive_faults(), shared_faults(), flag_faults(PACKAGE), manner_faults()):
-        yield from part
+        found = list(part)
+        yield from found
+        if any(found):
+            return

@@ -1,14 +1,16 @@
 /* Calls the library from many threads at once, each with a stack of 64 kilobytes, and tells what each of them was answered.
  *
  * Asked: how many threads, how many files, and the files, as `asking.h` has them. The threads start together, each at another file, and go
- * through all files once. Told, thread by thread and file by file: what damindex_figures returned, the twelve figures and each row's share,
- * what damindex_report returned and the text. The files are lent to all threads; what a call writes is its own. */
+ * through all files three times; where a later answer is not the first one, the program ends with status 3. Told, thread by thread and file by
+ * file: what damindex_figures returned, the twelve figures and each row's share, what damindex_report returned and the text. The files are lent
+ * to all threads; what a call writes is its own. */
 #define _POSIX_C_SOURCE 200809L
 #include "asking.h"
 #include "damindex.h"
 #include <pthread.h>
+#include <string.h>
 
-enum { STACK = 65536 };
+enum { STACK = 65536, TURNS = 3 };
 
 struct file {
     uint8_t *bytes;
@@ -24,7 +26,7 @@ struct answer {
 struct worker {
     pthread_t thread;
     size_t first;
-    struct answer *answers;
+    struct answer *answers, *later;
 };
 
 static struct file *files;
@@ -37,16 +39,23 @@ static void *room(size_t count, size_t size) {
     return array;
 }
 
+static void take_answer(const struct file *file, struct answer *answer) {
+    answer->returned = damindex_figures(file->bytes, file->length, answer->sheet, DAMINDEX_LONGEST_SHEET, answer->figures, DAMINDEX_FIGURES);
+    answer->length = damindex_report(file->bytes, file->length, answer->report, sizeof answer->report);
+}
+
 static void *work(void *given) {
     struct worker *worker = given;
     pthread_barrier_wait(&start);
-    for (size_t turn = 0; turn < file_count; turn++) {
+    for (size_t turn = 0; turn < TURNS * file_count; turn++) {
         size_t place = (worker->first + turn) % file_count;
-        const struct file *file = &files[place];
-        struct answer *answer = &worker->answers[place];
-        answer->returned =
-            damindex_figures(file->bytes, file->length, answer->sheet, DAMINDEX_LONGEST_SHEET, answer->figures, DAMINDEX_FIGURES);
-        answer->length = damindex_report(file->bytes, file->length, answer->report, sizeof answer->report);
+        if (turn < file_count) {
+            take_answer(&files[place], &worker->answers[place]);
+        } else {
+            memset(worker->later, 0, sizeof *worker->later);
+            take_answer(&files[place], worker->later);
+            if (memcmp(worker->later, &worker->answers[place], sizeof *worker->later) != 0) exit(3);
+        }
     }
     return NULL;
 }
@@ -72,6 +81,7 @@ int main(void) {
     for (size_t i = 0; i < count; i++) {
         workers[i].first = i * file_count / count;
         workers[i].answers = room(file_count, sizeof *workers[i].answers);
+        workers[i].later = room(1, sizeof *workers[i].later);
         if (pthread_create(&workers[i].thread, &small, work, &workers[i])) return 2;
     }
     for (size_t i = 0; i < count; i++)

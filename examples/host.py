@@ -105,7 +105,7 @@ def main():
     try:
         library = load(chosen.library)
     except (OSError, AttributeError) as fault:  # no such file, none for this machine, another version, or a function that is not there
-        arguments.error("%s (./library makes it)" % fault)
+        arguments.error("%s%s" % (fault, "" if Path(chosen.library).exists() else "; ./library makes it"))
     try:
         with open(chosen.file or sys.stdin.fileno(), "rb") as source:
             data = source.read(LONGEST_INPUT + 1)  # one byte more than the longest is enough to be refused

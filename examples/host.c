@@ -1,10 +1,12 @@
 /* A program that calls the library: reads a case file from standard input and tells its answer in words.
  *
- *     rt staticlib host
- *     cc -I include -o host examples/host.c target/staticlib/libhost.a
+ *     ./library
+ *     cc -I target/library/include -o host examples/host.c target/library/lib/libdamindex.a
  *     ./host < FILE
  *
- * Exit status: 0 meets, 2 fails, 3 unsettled, 4 refused; 1 where the input could not be read. */
+ * The guide says how it is linked with the shared object in place of the archive.
+ *
+ * Exit status: 0 meets, 2 fails, 3 unsettled, 4 refused; 1 where the input could not be read or the library is another one. */
 #include "damindex.h"
 #include <inttypes.h>
 #include <stdio.h>
@@ -36,11 +38,21 @@ static void tell_index(const char *name, const uint64_t ends[2]) {
     printf("%-2s %10" PRIu64 " to %10" PRIu64 " billionths\n", name, ends[0], ends[1]);
 }
 
+/* Whether the library that runs is one that this program was compiled for: of the same major version, and not older. */
+static int library_fits(void) {
+    uint32_t version = damindex_version();
+    return version / 10000 == DAMINDEX_VERSION_MAJOR && version >= DAMINDEX_VERSION;
+}
+
 int main(void) {
     static uint8_t input[DAMINDEX_LONGEST_INPUT + 1];
     static uint64_t sheet[DAMINDEX_LONGEST_SHEET];
     uint64_t figures[DAMINDEX_FIGURES];
 
+    if (!library_fits()) {
+        fprintf(stderr, "compiled for damindex %s, and the library's number is %" PRIu32 "\n", DAMINDEX_VERSION_STRING, damindex_version());
+        return 1;
+    }
     size_t length = fread(input, 1, sizeof input, stdin);
     if (ferror(stdin)) return 1;
     damindex_figures(input, length, sheet, DAMINDEX_LONGEST_SHEET, figures, DAMINDEX_FIGURES);

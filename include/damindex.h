@@ -1,22 +1,26 @@
-/* The damage subdivision index for programs in C: two functions, which the archive of crate `host` defines.
+/* The damage subdivision index for programs in C, and in every language that calls C: three functions of the library damindex.
  *
- *     rt staticlib host        proves the library and writes target/staticlib/libhost.a (x86-64)
- *     cc program.c target/staticlib/libhost.a
+ *     ./library                                               proves the library and makes its package in target/library (x86-64 Linux)
+ *     cc program.c $(pkg-config --cflags --libs damindex)     links with the shared object
+ *     cc program.c -I target/library/include target/library/lib/libdamindex.a     or with the archive
  *
  * Slices. Whatever is lent goes as two arguments: a pointer to the first element, and how many elements there are. The length is all that
  * the library knows of the room behind the pointer, and it neither reads nor writes outside of it.
  *
- * What both functions promise, of any bytes whatever (proved of the library's own text): they return; they read `input` and never write it;
+ * What all functions promise, of any bytes whatever (proved of the library's own text): they return; they read `input` and never write it;
  * they write what is said below and leave every other element as it was; the same input with the same lengths gives the same answer.
  *
- * Run, not proved, because no contract speaks of it: 64 kilobytes of stack are enough; nothing is taken from the heap and nothing is kept
- * between calls; of the C library memcpy and memset alone are called.
+ * Run, not proved, because no contract speaks of it: 64 kilobytes of stack are enough, in whatever thread; nothing is taken from the heap and
+ * nothing is kept between calls; of the C library memcpy and memset alone are called; loading the shared object runs nothing.
  *
  * What the caller keeps, because no proof reaches into C:
  *   - no pointer is NULL, also where the length is 0; numbers of 64 bits are aligned as C aligns them;
  *   - each length is at most the number of elements that are there;
  *   - what is written (`out`, `sheet`, `figures`) overlaps nothing else that is lent in the same call;
- *   - nobody else writes what is lent until the call returns. Calls on slices of their own may run at the same time.
+ *   - nobody else writes what is lent until the call returns, and nobody reads what is written until then.
+ *
+ * Threads. Calls may run at the same time, in as many threads as there are, with no lock: what a call writes is its own until it returns, and
+ * what it reads (`input`) may be lent to several calls at once.
  */
 #ifndef DAMINDEX_H
 #define DAMINDEX_H
@@ -27,6 +31,14 @@
 #ifdef __cplusplus
 extern "C" {
 #endif
+
+/* The version of this header. The library tells its own by damindex_version. Major: something that a program relies on has changed. Minor:
+ * something was added. Patch: neither. A program runs with a library of its own major version that is not older. */
+#define DAMINDEX_VERSION_MAJOR 1
+#define DAMINDEX_VERSION_MINOR 0
+#define DAMINDEX_VERSION_PATCH 0
+#define DAMINDEX_VERSION (10000 * DAMINDEX_VERSION_MAJOR + 100 * DAMINDEX_VERSION_MINOR + DAMINDEX_VERSION_PATCH)
+#define DAMINDEX_VERSION_STRING "1.0.0"
 
 /* Sizes that serve every input (proved). A longer input than the longest is refused for its length, whatever it holds: to read one byte more
  * than that is enough to tell. */
@@ -74,6 +86,9 @@ enum {
     DAMINDEX_END_FRAME = 10,      /* a line after the end frame; or no end frame, at the line after the last */
     DAMINDEX_SHEET_TOO_SHORT = 11 /* fewer than two numbers a row on the sheet, in a file that is accepted otherwise; line 0 */
 };
+
+/* The version of the library that the program runs with: 10000 times major, and 100 times minor, and patch. */
+uint32_t damindex_version(void);
 
 /* The printed answer, as the program damindex writes it.
  *

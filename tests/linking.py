@@ -1,4 +1,4 @@
-"""Links a program in C with the archive of a proved crate, and says how the program is run on this machine."""
+"""Links a program in C with the archive of a proved crate or with the library's shared object, and says how the program is run on this machine."""
 
 import os
 import platform
@@ -8,7 +8,10 @@ from pathlib import Path
 
 TESTS = Path(__file__).resolve().parent
 ROOT = TESTS.parent
-FLAGS = ["-std=c11", "-Wall", "-Wextra", "-pedantic", "-Werror", "-O2", "-pthread", "-I", ROOT / "include", "-I", TESTS]
+STRICT = ["-std=c11", "-Wall", "-Wextra", "-pedantic", "-Werror", "-O2", "-pthread", "-I", TESTS]
+FLAGS = [*STRICT, "-I", ROOT / "include"]
+AT_HOME = platform.machine() == "x86_64"  # this machine runs what is linked, with no emulator
+COMPILER = "cc" if AT_HOME else "x86_64-linux-gnu-gcc"
 
 
 def archive(crate):
@@ -26,18 +29,33 @@ def kit_tool(name):
     return str(kit / "on" / platform.machine() / "toolchain" / "bin" / name)
 
 
-def reader_of_symbols():
-    """The program that lists what an archive for x86-64 defines and needs."""
-    return "nm" if platform.machine() == "x86_64" else "x86_64-linux-gnu-nm"
+def tool_for_objects(name):
+    """A program, as `nm` or `readelf`, that reads archives and objects for x86-64."""
+    return name if AT_HOME else "x86_64-linux-gnu-" + name
+
+
+def compiled(source, place, words):
+    """The program that a source in C becomes, with the compiler's words behind it."""
+    program = ROOT / "target" / "linked" / place / source.stem
+    program.parent.mkdir(parents=True, exist_ok=True)
+    subprocess.run([COMPILER, "-o", program, source, *words], check=True)
+    return str(program)
 
 
 def linked(source, crate, *others):
     """The words that run a program in C, linked with a crate's archive and with other objects and archives; where this machine is no x86-64 one,
     the emulator's come first."""
-    library, program = archive(crate), ROOT / "target" / "linked" / crate / source.stem
-    program.parent.mkdir(parents=True, exist_ok=True)
-    if platform.machine() == "x86_64":
-        subprocess.run(["cc", *FLAGS, "-o", program, source, library, *others], check=True)
-        return [str(program)]
-    subprocess.run(["x86_64-linux-gnu-gcc", *FLAGS, "-static", "-o", program, source, library, *others], check=True)
-    return [kit_tool("qemu-x86_64"), str(program)]
+    words = [*FLAGS, archive(crate), *others]
+    if AT_HOME:
+        return [compiled(source, crate, words)]
+    return [kit_tool("qemu-x86_64"), compiled(source, crate, ["-static", *words])]
+
+
+def linked_shared(source, place, folder, flags):
+    """The words that run a program in C, linked by a package's flags, with the shared object of a folder; where this machine is no x86-64 one,
+    those of the emulator and of the cross compiler's own loader come first."""
+    program = compiled(source, place, [*STRICT, *flags, "-Wl,-rpath,%s" % folder])
+    if AT_HOME:
+        return [program]
+    loader = subprocess.run([COMPILER, "-print-file-name=ld-linux-x86-64.so.2"], stdout=subprocess.PIPE, check=True, text=True).stdout.strip()
+    return [kit_tool("qemu-x86_64"), loader, "--library-path", "%s:%s" % (Path(loader).parent, folder), program]

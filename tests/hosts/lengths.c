@@ -3,6 +3,7 @@
  * A question is a letter and what `asking.h` says of its numbers and files:
  *   f sheet figures file   -> what is returned, the array around the sheet, the array around the figures
  *   r out file             -> what is returned, the array around the buffer, byte by byte
+ *   v                      -> the library's version, the header's
  * All of it runs on a stack of 64 kilobytes, which the header says is enough. */
 #include "asking.h"
 #include "damindex.h"
@@ -73,6 +74,7 @@ static void *answer_questions(void *none) {
     for (int question; (question = getchar()) != EOF;) {
         if (question == 'f') figures_of_a_file();
         else if (question == 'r') report_of_a_file();
+        else if (question == 'v') tell(damindex_version()), tell(DAMINDEX_VERSION);
         else exit(2);
     }
     return none;

@@ -1,9 +1,27 @@
-// The service for a host in another language: the printed answer, or its twelve figures, on numbers and lent slices alone.
+// The service for a host in another language: the printed answer, or its twelve figures, on numbers and lent slices alone, and the version.
 ghost use mathlib.Core.Path.{_≡_};
 ghost use lib.ListN.{length};
 ghost use Rattle.casefile.specs.Reading.{reading};
 ghost use Rattle.answers.specs.Report.{reportLength, reportedIn};
 ghost use Rattle.host.specs.Figures.{figureCount, figuresAfter, sheetBeside};
+ghost use Rattle.host.specs.Version.{version};
+
+// This version: the one place of it in code. The header, the shared object's name and the pkg-config file are held to it.
+const MAJOR: u32 = 1;
+
+const MINOR: u32 = 0;
+
+const PATCH: u32 = 0;
+
+const VERSION: u32 = 10_000 * MAJOR + 100 * MINOR + PATCH;
+
+// The version as one number, so that a host can tell whether it has the library that it was written for.
+#[no_mangle]
+pub extern "C" fn damindex_version() -> u32
+    ensures { λ r. ⌜ r ≡ version ⌝ }
+{
+    VERSION
+}
 
 // The printed answer of any bytes, in front of the buffer, and how many bytes that is: none where there is too little room.
 #[no_mangle]

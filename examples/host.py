@@ -1,0 +1,122 @@
+#!/usr/bin/env python3
+"""A program in Python that calls the library by ctypes: reads a case file and tells its answer in words.
+
+    ./library
+    python3 examples/host.py FILE
+
+Exit status: 0 meets, 2 fails, 3 unsettled, 4 refused; 1 where the input or the library could not be read, or the call was wrong."""
+
+import argparse
+import ctypes
+import sys
+from pathlib import Path
+
+LIBRARY = Path(__file__).resolve().parent.parent / "target" / "library" / "lib" / "libdamindex.so"
+WRITTEN_FOR = 10000  # version 1.0.0; another one serves where the major number is the same and it is not older
+
+# as include/damindex.h has them
+LONGEST_INPUT, LONGEST_REPORT, LONGEST_SHEET, FIGURES = 32768, 9569, 1000, 12
+
+VERDICTS = {
+    1: "meets the required index",
+    2: "fails the required index",
+    3: "unsettled: a mark lies between the ends",
+}
+
+REFUSALS = {
+    1: "the input is too long",
+    2: "not a line of hexadecimal digits",
+    3: "no frame that may stand here",
+    4: "length, breadth or a draught is outside its limits",
+    5: "zone count or bulkheads are wrong",
+    6: "too many rows, or they are counted wrongly",
+    7: "a number of the row is outside its limits",
+    8: "the row is out of order",
+    9: "the layer or group before is not closed",
+    10: "the end frame is missing, or not the last line",
+    11: "the sheet is too short",
+}
+
+STATUSES = {1: 0, 2: 2, 3: 3}
+CANNOT, REFUSED = 1, 4
+
+
+def load(path):
+    """The library of a path, its functions declared. CDLL lets other threads of Python run during a call, and calls may run at the same time."""
+    library = ctypes.CDLL(str(path))
+    numbers = ctypes.POINTER(ctypes.c_uint64)
+    # bytes go as c_char_p with their length beside it, so that a zero byte among them is nothing special
+    library.damindex_version.argtypes = []
+    library.damindex_version.restype = ctypes.c_uint32
+    library.damindex_figures.argtypes = [ctypes.c_char_p, ctypes.c_size_t, numbers, ctypes.c_size_t, numbers, ctypes.c_size_t]
+    library.damindex_figures.restype = ctypes.c_size_t
+    library.damindex_report.argtypes = [ctypes.c_char_p, ctypes.c_size_t, ctypes.POINTER(ctypes.c_char), ctypes.c_size_t]
+    library.damindex_report.restype = ctypes.c_size_t
+    version = library.damindex_version()
+    if version // 10000 != WRITTEN_FOR // 10000 or version < WRITTEN_FOR:
+        raise OSError("%s has the version number %d, and this program was written for %d" % (path, version, WRITTEN_FOR))
+    return library
+
+
+def figures(library, data):
+    """The twelve figures of any bytes, and each row's share as a pair: lower end, upper end, in billionths."""
+    sheet, told = (ctypes.c_uint64 * LONGEST_SHEET)(), (ctypes.c_uint64 * FIGURES)()
+    library.damindex_figures(data, len(data), sheet, len(sheet), told, len(told))
+    rows = told[3]
+    return list(told), [(sheet[2 * row], sheet[2 * row + 1]) for row in range(rows)]
+
+
+def report(library, data):
+    """The printed answer of any bytes, as the program damindex writes it."""
+    out = ctypes.create_string_buffer(LONGEST_REPORT)
+    length = library.damindex_report(data, len(data), out, len(out))
+    return out.raw[:length].decode("ascii")
+
+
+def decimal(billionths):
+    return "%d.%09d" % divmod(billionths, 10 ** 9)
+
+
+def tell(told, shares):
+    """The answer in words, and the status that the program ends with."""
+    number, line, verdict, _, *ends = told
+    if number:
+        print("refused, number %d at line %d: %s" % (number, line, REFUSALS[number]))
+        return REFUSED
+    print(VERDICTS[verdict])
+    for name, lower, upper in zip(("A", "As", "Ap", "Al"), ends[::2], ends[1::2]):
+        print("%-2s %s to %s" % (name, decimal(lower), decimal(upper)))
+    for row, (lower, upper) in enumerate(shares, 1):
+        print("row %3d: share %s to %s" % (row, decimal(lower), decimal(upper)))
+    return STATUSES[verdict]
+
+
+class Arguments(argparse.ArgumentParser):
+    def error(self, message):
+        self.exit(CANNOT, "%s: %s\n" % (self.prog, message))  # not argparse's own 2, which is a verdict here
+
+
+def main():
+    arguments = Arguments(description="Tells the damage subdivision index of a case file, by the library damindex.")
+    arguments.add_argument("file", nargs="?", help="the case file; standard input where none is named")
+    arguments.add_argument("--library", default=LIBRARY, metavar="PATH", help="the shared object; as ./library makes it by default")
+    arguments.add_argument("--report", action="store_true", help="print the answer as the program damindex does, and nothing in words")
+    chosen = arguments.parse_args()
+    try:
+        library = load(chosen.library)
+    except (OSError, AttributeError) as fault:  # no such file, none for this machine, another version, or a function that is not there
+        arguments.error("%s%s" % (fault, "" if Path(chosen.library).exists() else "; ./library makes it"))
+    try:
+        with open(chosen.file or sys.stdin.fileno(), "rb") as source:
+            data = source.read(LONGEST_INPUT + 1)  # one byte more than the longest is enough to be refused
+    except OSError as fault:
+        arguments.error(str(fault))
+    told, shares = figures(library, data)
+    if not chosen.report:
+        return tell(told, shares)
+    sys.stdout.write(report(library, data))
+    return REFUSED if told[0] else STATUSES[told[2]]
+
+
+if __name__ == "__main__":
+    sys.exit(main())

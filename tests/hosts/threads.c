@@ -1,0 +1,92 @@
+/* Calls the library from many threads at once, each with a stack of 64 kilobytes, and tells what each of them was answered.
+ *
+ * Asked: how many threads, how many files, and the files, as `asking.h` has them. The threads start together, each at another file, and go
+ * through all files three times; where a later answer is not the first one, the program ends with status 3. Told, thread by thread and file by
+ * file: what damindex_figures returned, the twelve figures and each row's share, what damindex_report returned and the text. The files are lent
+ * to all threads; what a call writes is its own. */
+#define _POSIX_C_SOURCE 200809L
+#include "asking.h"
+#include "damindex.h"
+#include <pthread.h>
+#include <string.h>
+
+enum { STACK = 65536, TURNS = 3 };
+
+struct file {
+    uint8_t *bytes;
+    size_t length;
+};
+
+struct answer {
+    size_t returned, length;
+    uint64_t figures[DAMINDEX_FIGURES], sheet[DAMINDEX_LONGEST_SHEET];
+    uint8_t report[DAMINDEX_LONGEST_REPORT];
+};
+
+struct worker {
+    pthread_t thread;
+    size_t first;
+    struct answer *answers, *later;
+};
+
+static struct file *files;
+static size_t file_count;
+static pthread_barrier_t start;
+
+static void *room(size_t count, size_t size) {
+    void *array = calloc(count ? count : 1, size);
+    if (!array) exit(2);
+    return array;
+}
+
+static void take_answer(const struct file *file, struct answer *answer) {
+    answer->returned = damindex_figures(file->bytes, file->length, answer->sheet, DAMINDEX_LONGEST_SHEET, answer->figures, DAMINDEX_FIGURES);
+    answer->length = damindex_report(file->bytes, file->length, answer->report, sizeof answer->report);
+}
+
+static void *work(void *given) {
+    struct worker *worker = given;
+    pthread_barrier_wait(&start);
+    for (size_t turn = 0; turn < TURNS * file_count; turn++) {
+        size_t place = (worker->first + turn) % file_count;
+        if (turn < file_count) {
+            take_answer(&files[place], &worker->answers[place]);
+        } else {
+            memset(worker->later, 0, sizeof *worker->later);
+            take_answer(&files[place], worker->later);
+            if (memcmp(worker->later, &worker->answers[place], sizeof *worker->later) != 0) exit(3);
+        }
+    }
+    return NULL;
+}
+
+static void tell_answer(const struct answer *answer) {
+    tell(answer->returned);
+    for (size_t i = 0; i < DAMINDEX_FIGURES; i++) tell(answer->figures[i]);
+    for (size_t i = 0; i < 2 * answer->figures[DAMINDEX_ROWS]; i++) tell(answer->sheet[i]);
+    tell(answer->length);
+    fwrite(answer->report, 1, answer->length, stdout);
+}
+
+int main(void) {
+    size_t count = (size_t)ask();
+    file_count = (size_t)ask();
+    files = room(file_count, sizeof *files);
+    for (size_t i = 0; i < file_count; i++) files[i].bytes = ask_file(&files[i].length);
+
+    pthread_attr_t small;
+    struct worker *workers = room(count, sizeof *workers);
+    if (pthread_attr_init(&small) || pthread_attr_setstacksize(&small, STACK)) return 2;
+    if (pthread_barrier_init(&start, NULL, (unsigned)count)) return 2;
+    for (size_t i = 0; i < count; i++) {
+        workers[i].first = i * file_count / count;
+        workers[i].answers = room(file_count, sizeof *workers[i].answers);
+        workers[i].later = room(1, sizeof *workers[i].later);
+        if (pthread_create(&workers[i].thread, &small, work, &workers[i])) return 2;
+    }
+    for (size_t i = 0; i < count; i++)
+        if (pthread_join(workers[i].thread, NULL)) return 2;
+    for (size_t i = 0; i < count; i++)
+        for (size_t place = 0; place < file_count; place++) tell_answer(&workers[i].answers[place]);
+    return 0;
+}

@@ -18,6 +18,7 @@ pub mod Files
 pub mod Service
 pub mod Fits
 pub mod OfSolas
+pub mod LayerSums
 pub mod Values
 pub mod OneFile
 pub mod Sizes

@@ -19,6 +19,8 @@ pub mod Service
 pub mod Fits
 pub mod OfSolas
 pub mod LayerSums
+pub mod CaseLayers
+pub mod Sums
 pub mod Values
 pub mod OneFile
 pub mod Sizes

@@ -49,9 +49,9 @@ pub ⊹-nothing : (f : Fraction) → f ⊹ whole 0 ≈ f
 -- ---- a layer's rows, from the row below them at H′ on: what is so of each row is so of their sums
 module _ (difference : Boundary → Boundary → Fraction → Fraction) {R : Fraction → Fraction → Type 0} (o : Ordering R) (ds d : ℕ) (K : ℕ → Type 0) (N : Fraction → Type 0)
     (inner : (H′ H : ℕ) (x : Fraction) → H′ < H → K H′ → K H → N x →
-        R ((rowV H′ H d over 916500) ⊛ x) (difference (counted (millimetres H′) (millimetres d)) (counted (millimetres H) (millimetres d)) (millimetres d) ⊛ x))
+    R ((rowV H′ H d over 916500) ⊛ x) (difference (counted (millimetres H′) (millimetres d)) (counted (millimetres H) (millimetres d)) (millimetres d) ⊛ x))
     (topmost : (H′ H : ℕ) (x : Fraction) → top ds ≤ H → K H′ → N x →
-        R ((rowV H′ H d over 916500) ⊛ x) (difference (counted (millimetres H′) (millimetres d)) (uppermost (millimetres H)) (millimetres d) ⊛ x)) where
+    R ((rowV H′ H d over 916500) ⊛ x) (difference (counted (millimetres H′) (millimetres d)) (uppermost (millimetres H)) (millimetres d) ⊛ x)) where
   from : (H′ H : ℕ) (Hs : List ℕ) (xs : List Fraction) → Linked _<_ H′ (H ∷ Hs) → top ds ≤ last H Hs → Linked (λ F G. K F) H′ (H ∷ Hs) → length xs ≡ length (H ∷ Hs) → Every N xs →
       R (vSum (rowsV H′ (H ∷ Hs) d) xs) (inBrackets difference (counted (millimetres H′) (millimetres d)) (limits (H ∷ Hs) xs) (millimetres d))
   unfolding inBrackets

@@ -10,3 +10,4 @@ pub mod RegulationSurvival
 pub mod Examples
 pub mod SumExamples
 pub mod RegulationSums
+pub mod PlainSums

@@ -1,7 +1,7 @@
 -- The sum over rows in layers, with a fraction each, is the layers' shares times the sums of their rows' v; what is so of each of these terms is so of
 -- the sum. Assumes nothing.
 use Prim.Native.Nat.{ℕ, suc, _≤_, _<_}
-use mathlib.Core.Path.{_≡_, refl, sym, _∙_, subst}
+use mathlib.Core.Path.{_≡_, refl, sym, subst}
 use mathlib.Core.List.{List, [], _∷_, _++_, map}
 use native.Mathlib.Omega.{arith}
 use lib.ListN.{length, getD, take, drop, length-append, length-drop}
@@ -34,7 +34,9 @@ use Rattle.rows.specs.declared.Standing.{Standing}
 use Rattle.rows.specs.Standing.{stands}
 use Rattle.rows.proofs.Stands.{in-layer, head-is}
 use Rattle.promises.specs.Rows.{exactRow, exactRows}
-use Rattle.promises.specs.Sums.{Between, heights, floodings}
+use Rattle.promises.specs.Sums.{Between, heights, floodings, EachLayer}
+-- checked first, so that a sentence that is not so is refused at a number
+use Rattle.promises.proofs.WitnessSums.{same-at-deepest}
 
 -- ---- fractions
 spread : (s v x w : Fraction) → s ⊛ v ⊛ x ⊹ s ⊛ w ≈ s ⊛ (v ⊛ x ⊹ w)
@@ -115,11 +117,6 @@ pub record Sits (h : Hull) (K : Row → Type 0) (l : Between) : Type 0 where
   pub fits : LayerFits h (l .layer)
   pub deeper : l .before < layerHead (l .layer) .depth
   pub rows : Every (λ (r : Row). ValidRow h r × K r) (layerRows (l .layer))
-
--- what is asked of the fractions of each layer
-abbrev pub EachLayer : (List Fraction → Type 0) → List Between → List Fraction → Type 0
-EachLayer C [] xs = Unit {0}
-EachLayer C (l ∷ ls) xs = let n = length (layerRows (l .layer)) in C (take n xs) × EachLayer C ls (drop n xs)
 
 module _ (h : Hull) (√ : Fraction) (i d : ℕ) (v-is : (H′ H : ℕ) → getD (rowVs H′ H (draughts (h .deepest) (h .light))) i 0 ≡ rowV H′ H d) {R : Fraction → Fraction → Type 0} (o : Ordering R)
     (difference : Boundary → Boundary → Fraction → Fraction) (K : Row → Type 0) (C : List Fraction → Type 0) where

@@ -5,6 +5,7 @@ pub mod WitnessVerdict
 pub mod WitnessChances
 pub mod WitnessSheet
 pub mod WitnessService
+pub mod WitnessSums
 pub mod CaseRows
 pub mod Numerators
 pub mod Weighed

@@ -1,5 +1,5 @@
 -- The sums that the promises speak of are the regulation's, of every accepted file, at each draught and with A's weights. Assumes nothing.
-use Prim.Native.Nat.{ℕ, zero, suc, _*_, _/_, _≤_, _<_}
+use Prim.Native.Nat.{ℕ, zero, suc, _*_, _≤_, _<_}
 use mathlib.Core.Path.{_≡_, refl, sym, _∙_, ap, subst}
 use mathlib.Core.List.{List, [], _∷_, _++_, map}
 use native.Mathlib.Nat.{le-refl}
@@ -15,21 +15,22 @@ use Rattle.records.specs.declared.RowHead.{RowHead}
 use Rattle.solas.specs.Ship.{Ship}
 use Rattle.solas.specs.Share.{rowShare}
 use Rattle.solas.specs.Height.{rowV, top}
-use Rattle.solas.specs.Layers.{layerV, Complete}
+use Rattle.solas.specs.Layers.{Complete}
 use Rattle.solas.specs.Index.{draughts, dp, attained}
 use Rattle.solas.proofs.Height.{dp-below-deepest}
 use Rattle.solas.proofs.Promises.{no-share-negative}
 use Rattle.regulation.specs.Regulation.{IsRoot, under√, pi}
 use Rattle.regulation.specs.RegulationIndex.{millimetres, Boundary, vm}
-use Rattle.regulation.specs.RegulationSums.{si, dA, partialA}
+use Rattle.regulation.specs.RegulationSums.{plain, dA, partialA}
 use Rattle.regulation.specs.OfSolasSums as solas
-use Rattle.regulation.specs.OfSolasSums.{limits, vSum, LowButLast}
+use Rattle.regulation.specs.OfSolasSums.{NoneNegative, NoneRises, SameWhereLow, NotAboveFor}
 use Rattle.regulation.proofs.RegulationShares.{shares-are-the-regulation's}
 use Rattle.regulation.proofs.RegulationIndices.{attained-is-01's}
 use Rattle.regulation.proofs.RegulationSums.{Ordering, sameness, at-most, ⊛-keeps, every-one, layer-sums-are-01's, layer-sums-not-above}
+use Rattle.regulation.proofs.PlainSums.{plain-layer-sums-are-01's, plain-layer-sums-not-above}
 use Rattle.spans.specs.Hull.{shipOf}
 use Rattle.heights.specs.Height.{rowVs}
-use Rattle.indices.specs.Exact.{weightedSum, rowAt, Thrice}
+use Rattle.indices.specs.Exact.{weightedSum, rowAt}
 use Rattle.indices.proofs.Enclosure.{attained-rises}
 use Rattle.casefile.specs.Record.{Row, Case}
 use Rattle.casefile.specs.Limits.{rowFits}
@@ -40,9 +41,9 @@ use Rattle.casefile.proofs.Groups.{every-map, into-groups}
 use Rattle.casefile.proofs.Soundness.{sound}
 use Rattle.rows.specs.Standing.{nowhere}
 use Rattle.promises.specs.Rows.{exactRows, rowsOf}
-use Rattle.promises.specs.Sums.{Between, inward, layersOf, heights, floodings, LowButTops, OneEach, NoneNegative, partialAt, Summed, middle, attainedIn, SummedUp, GroupsAreThere, SumsOfSolas}
+use Rattle.promises.specs.Sums.{Between, inward, layersOf, heights, floodings, EachLayer, LowButTops, OneEach, partialAt, Summed, SummedUp, GroupsAreThere, SumsOfSolas, PlainSumsOfSolas}
 use Rattle.promises.proofs.Chances as chances
-use Rattle.promises.proofs.LayerSums.{Sits, EachLayer, rowsIn, from, shareOf, inLetters, inRows, layers-sum}
+use Rattle.promises.proofs.LayerSums.{Sits, rowsIn, from, inLetters, inRows, layers-sum}
 use Rattle.promises.proofs.CaseLayers.{rows-are, all-sit, in-turn, first-begins}
 
 -- ---- the heights of a layer's rows
@@ -152,41 +153,44 @@ module _ (c : Case) (v : Valid c) (√ : Fraction) (root : IsRoot √ (under√ 
           subst (λ rs. R (weightedSum (from h i d v-is o nowhere rs) xs) (partialA difference (floodings s √ (layersOf (q .groups)) xs) (millimetres d))) rows
           (of-groups (q .groups) (q .fit) (q .order) fine xs (n ∙ ap length (sym rows)) e)
 
-    same-at : LowButTops c d → (xs : List Fraction) → OneEach c xs → partialAt c √ q d xs ≈ weightedSum (map (rowAt i) (exactRows h nowhere (c .rows))) xs
-    unfolding dA
-    same-at k xs n =
-        ≈-sym
-        (of-rows sameness vm (Low h d) (λ ys. Unit {0})
-        (λ l ys y m e. share-times (Low h d) l y
-        (≈-sym (layer-sums-are-01's (h .deepest) d (heights (layerRows (l .layer))) ys (at-draught (Low h d) l y d afloat ys m) (omega arith, heights-low h d (l .layer .lowest) (l .layer .above) (y .fits .below) (y .rows)))))
-        k xs n (each-layer (λ ys. Unit {0}) (λ m ys e. tt) (λ m ys e. tt) (layersOf (q .groups)) xs tt))
+    -- ---- by what is so of each layer
+    module _ (difference : Boundary → Boundary → Fraction → Fraction) (Such C : List Fraction → Type 0) (each : (xs : List Fraction) → Such xs → EachLayer C (layersOf (q .groups)) xs)
+        (low : SameWhereLow difference) (any : NotAboveFor difference C) where
+      same-at : LowButTops c d → (xs : List Fraction) → OneEach c xs → partialAt difference Such c √ q d xs ≈ weightedSum (map (rowAt i) (exactRows h nowhere (c .rows))) xs
+      unfolding dA
+      same-at k xs n =
+          ≈-sym
+          (of-rows sameness difference (Low h d) (λ ys. Unit {0})
+          (λ l ys y m e. share-times (Low h d) l y
+          (≈-sym (low (h .deepest) d (heights (layerRows (l .layer))) ys (at-draught (Low h d) l y d afloat ys m) (omega arith, heights-low h d (l .layer .lowest) (l .layer .above) (y .fits .below) (y .rows)))))
+          k xs n (each-layer (λ ys. Unit {0}) (λ m ys e. tt) (λ m ys e. tt) (layersOf (q .groups)) xs tt))
 
-    not-above-at : (xs : List Fraction) → OneEach c xs → NoneNegative xs → weightedSum (map (rowAt i) (exactRows h nowhere (c .rows))) xs ≼ partialAt c √ q d xs
-    unfolding dA
-    not-above-at xs n e =
-        of-rows at-most vm (λ r. Unit {0}) NoneNegative
-        (λ l ys y m e. share-times-below (λ r. Unit {0}) l y (layer-sums-not-above (h .deepest) d (heights (layerRows (l .layer))) ys (at-draught (λ r. Unit {0}) l y d afloat ys m) e))
-        (every-one (c .rows)) xs n (each-layer NoneNegative none-negative-front none-negative-back (layersOf (q .groups)) xs e)
+      not-above-at : (xs : List Fraction) → OneEach c xs → Such xs → weightedSum (map (rowAt i) (exactRows h nowhere (c .rows))) xs ≼ partialAt difference Such c √ q d xs
+      unfolding dA
+      not-above-at xs n e =
+          of-rows at-most difference (λ r. Unit {0}) C
+          (λ l ys y m e. share-times-below (λ r. Unit {0}) l y (any (h .deepest) d (heights (layerRows (l .layer))) ys (at-draught (λ r. Unit {0}) l y d afloat ys m) e))
+          (every-one (c .rows)) xs n (each xs e)
+
+      summed : Summed difference Such c √ q d (map (rowAt i) (exactRows h nowhere (c .rows)))
+      summed = record { same = same-at; not-above = not-above-at }
 
   -- ---- the three draughts, and A
-  module _ (q : Grouped h (c .rows)) where
-    summed : (i d : ℕ) (afloat : d ≤ h .deepest) (v-is : (H′ H : ℕ) → getD (rowVs H′ H (draughts (h .deepest) (h .light))) i 0 ≡ rowV H′ H d) →
-        Summed c √ q d (map (rowAt i) (exactRows h nowhere (c .rows)))
-    summed i d afloat v-is = record { same = same-at q i d afloat v-is; not-above = not-above-at q i d afloat v-is }
+  low-at-deepest : LowButTops c (h .deepest)
+  low-at-deepest = every-map (λ (r : Row). Unit {0}) (Low h (h .deepest)) (λ r e low. omega (arith, low)) (c .rows) (every-one (c .rows))
 
-    low-at-deepest : LowButTops c (h .deepest)
-    low-at-deepest = every-map (λ (r : Row). Unit {0}) (Low h (h .deepest)) (λ r e low. omega (arith, low)) (c .rows) (every-one (c .rows))
+  low-at-middle : LowButTops c (h .light) → LowButTops c (dp (h .deepest) (h .light))
+  unfolding dp
+  low-at-middle k = every-map (Low h (h .light)) (Low h (dp (h .deepest) (h .light))) (λ r e low. omega (arith, e low)) (c .rows) k
 
-    low-at-middle : LowButTops c (h .light) → LowButTops c (dp (h .deepest) (h .light))
-    unfolding dp
-    low-at-middle k = every-map (Low h (h .light)) (Low h (dp (h .deepest) (h .light))) (λ r e low. omega (arith, e low)) (c .rows) k
-
-    summed-up : SummedUp c √ q
+  module _ (q : Grouped h (c .rows)) (difference : Boundary → Boundary → Fraction → Fraction) (Such C : List Fraction → Type 0)
+      (each : (xs : List Fraction) → Such xs → EachLayer C (layersOf (q .groups)) xs) (low : SameWhereLow difference) (any : NotAboveFor difference C) where
+    summed-up : SummedUp difference Such c √ q
     unfolding rowsOf
     summed-up =
-        let at-deepest = summed 0 (h .deepest) (le-refl (h .deepest)) (chances.v-first c v) in
-        let at-middle = summed 1 (dp (h .deepest) (h .light)) (dp-below-deepest (chances.sizes c v .lighter)) (chances.v-second c v) in
-        let at-light = summed 2 (h .light) (chances.sizes c v .lighter) (chances.v-third c v) in
+        let at-deepest = summed q 0 (h .deepest) (le-refl (h .deepest)) (chances.v-first c v) difference Such C each low any in
+        let at-middle = summed q 1 (dp (h .deepest) (h .light)) (dp-below-deepest (chances.sizes c v .lighter)) (chances.v-second c v) difference Such C each low any in
+        let at-light = summed q 2 (h .light) (chances.sizes c v .lighter) (chances.v-third c v) difference Such C each low any in
         record {
           deepest = at-deepest;
           partial = at-middle;
@@ -202,4 +206,9 @@ pub groups-are-there : GroupsAreThere
 groups-are-there f c e = into-groups (c .hull) (c .rows) (sound f c e .1 .order)
 
 pub sums-of-solas : SumsOfSolas
-sums-of-solas f c e √ root q = summed-up c (sound f c e .1) √ root q
+sums-of-solas f c e √ root q =
+    summed-up c (sound f c e .1) √ root q vm NoneNegative NoneNegative (λ xs n. each-layer NoneNegative none-negative-front none-negative-back (layersOf (q .groups)) xs n) layer-sums-are-01's layer-sums-not-above
+
+pub plain-sums-of-solas : PlainSumsOfSolas
+plain-sums-of-solas f c e √ root q =
+    summed-up c (sound f c e .1) √ root q plain (EachLayer NoneRises (layersOf (q .groups))) NoneRises (λ xs n. n) plain-layer-sums-are-01's plain-layer-sums-not-above

@@ -5,15 +5,15 @@ use mathlib.Core.Path.{_≡_}
 use mathlib.Core.List.{List, [], _∷_, _++_, map}
 use lib.ListN.{length, take, drop}
 use Rattle.laws.specs.Lists.{Every}
-use Rattle.laws.specs.Fraction.{Fraction, whole, _≈_, _≼_}
+use Rattle.laws.specs.Fraction.{Fraction, _≈_, _≼_}
 use Rattle.solas.specs.Ship.{Ship}
 use Rattle.solas.specs.Height.{top}
 use Rattle.solas.specs.Index.{dp}
 use Rattle.regulation.specs.Regulation.{IsRoot, under√, pi}
 use Rattle.regulation.specs.RegulationIndex as regulation
-use Rattle.regulation.specs.RegulationIndex.{millimetres, vm}
-use Rattle.regulation.specs.RegulationSums.{Flooding, partialA}
-use Rattle.regulation.specs.OfSolasSums.{limits}
+use Rattle.regulation.specs.RegulationIndex.{millimetres, Boundary, vm}
+use Rattle.regulation.specs.RegulationSums.{Flooding, plain, partialA}
+use Rattle.regulation.specs.OfSolasSums.{limits, NoneNegative, NoneRises}
 use Rattle.spans.specs.Hull.{shipOf}
 use Rattle.indices.specs.Exact.{RowAt, weightedSum, Thrice, AtAll, exactA}
 use Rattle.casefile.specs.Record.{Row, Case}
@@ -49,6 +49,11 @@ module _ (s : Ship) (√ : Fraction) where
       let rows = layerRows (y .layer) in
       record { pi = pi s √ (y .before) (k .depth) (k .first) (k .count); limits = limits (heights rows) (take (length rows) xs) } ∷ floodings ys (drop (length rows) xs)
 
+-- what is asked of the fractions of each layer
+abbrev pub EachLayer : (List Fraction → Type 0) → List Between → List Fraction → Type 0
+EachLayer Such [] xs = Unit {0}
+EachLayer Such (y ∷ ys) xs = let n = length (layerRows (y .layer)) in Such (take n xs) × EachLayer Such ys (drop n xs)
+
 -- ---- the sums
 
 -- no row but a layer's last, which is at the top or above it, ends more than 12.5 m above the draught d
@@ -58,25 +63,21 @@ LowButTops c d = Every (λ (r : Row). BelowTop (c .hull) (r .head) → r .head .
 abbrev pub OneEach : Case → List Fraction → Type 0
 OneEach c xs = length xs ≡ length (c .rows)
 
-abbrev pub NoneNegative : List Fraction → Type 0
-NoneNegative xs = Every (λ x. whole 0 ≼ x) xs
-
-module _ (c : Case) (√ : Fraction) (q : Grouped (c .hull) (c .rows)) where
-  -- 2.5.1's partial index at the draught d
+module _ (difference : Boundary → Boundary → Fraction → Fraction) (Such : List Fraction → Type 0) (c : Case) (√ : Fraction) (q : Grouped (c .hull) (c .rows)) where
+  -- 2.5.1's partial index at the draught d, and its A
   abbrev pub partialAt : ℕ → List Fraction → Fraction
-  partialAt d xs = partialA vm (floodings (shipOf (c .hull)) √ (layersOf (q .groups)) xs) (millimetres d)
-
-  -- at a draught and for the case's rows there: the same where no row but a layer's last is so high; elsewhere the promises' sum is not above
-  pub record Summed (d : ℕ) (rows : List RowAt) : Type 0 where
-    pub same : LowButTops c d → (xs : List Fraction) → OneEach c xs → partialAt d xs ≈ weightedSum rows xs
-    pub not-above : (xs : List Fraction) → OneEach c xs → NoneNegative xs → weightedSum rows xs ≼ partialAt d xs
+  partialAt d xs = partialA difference (floodings (shipOf (c .hull)) √ (layersOf (q .groups)) xs) (millimetres d)
 
   abbrev pub middle : ℕ
   middle = dp (c .hull .deepest) (c .hull .light)
 
-  -- 2.5.1's A, with its weights
   abbrev pub attainedIn : Thrice (List Fraction) → Fraction
   attainedIn xs = regulation.A (partialAt (c .hull .deepest) (xs .deepest)) (partialAt middle (xs .partial)) (partialAt (c .hull .light) (xs .light))
+
+  -- at a draught and for the case's rows there: the same where no row but a layer's last is so high; elsewhere the promises' sum is not above
+  pub record Summed (d : ℕ) (rows : List RowAt) : Type 0 where
+    pub same : LowButTops c d → (xs : List Fraction) → OneEach c xs → partialAt d xs ≈ weightedSum rows xs
+    pub not-above : (xs : List Fraction) → OneEach c xs → Such xs → weightedSum rows xs ≼ partialAt d xs
 
   pub record SummedUp : Type 0 where
     pub deepest : Summed (c .hull .deepest) (rowsOf c .deepest)
@@ -84,9 +85,9 @@ module _ (c : Case) (√ : Fraction) (q : Grouped (c .hull) (c .rows)) where
     pub light : Summed (c .hull .light) (rowsOf c .light)
     -- at the deepest draught no row but a layer's last is so high
     pub same-at-deepest : (xs : List Fraction) → OneEach c xs → partialAt (c .hull .deepest) xs ≈ weightedSum (rowsOf c .deepest) xs
-    -- and what is so low at the light draught is so at all three
+    -- and where none is at the light draught, none is at any of the three
     pub attained-same : LowButTops c (c .hull .light) → (xs : Thrice (List Fraction)) → AtAll (OneEach c) xs → attainedIn xs ≈ exactA (rowsOf c) xs
-    pub attained-not-above : (xs : Thrice (List Fraction)) → AtAll (OneEach c) xs → AtAll NoneNegative xs → exactA (rowsOf c) xs ≼ attainedIn xs
+    pub attained-not-above : (xs : Thrice (List Fraction)) → AtAll (OneEach c) xs → AtAll Such xs → exactA (rowsOf c) xs ≼ attainedIn xs
 
 -- ---- the promises
 
@@ -94,6 +95,11 @@ module _ (c : Case) (√ : Fraction) (q : Grouped (c .hull) (c .rows)) where
 abbrev pub GroupsAreThere : Type 0
 GroupsAreThere = (f : List ℕ) (c : Case) → reading f ≡ accepted c → Grouped (c .hull) (c .rows)
 
--- √ is the root in the ship's Jk
+-- √ is the root in the ship's Jk; differences are held between 0 and 1
 abbrev pub SumsOfSolas : Type 0
-SumsOfSolas = (f : List ℕ) (c : Case) → reading f ≡ accepted c → (√ : Fraction) → IsRoot √ (under√ (c .hull .length)) → (q : Grouped (c .hull) (c .rows)) → SummedUp c √ q
+SumsOfSolas = (f : List ℕ) (c : Case) → reading f ≡ accepted c → (√ : Fraction) → IsRoot √ (under√ (c .hull .length)) → (q : Grouped (c .hull) (c .rows)) → SummedUp vm NoneNegative c √ q
+
+-- the same with plain differences, and for fractions that do not rise within a layer
+abbrev pub PlainSumsOfSolas : Type 0
+PlainSumsOfSolas = (f : List ℕ) (c : Case) → reading f ≡ accepted c → (√ : Fraction) → IsRoot √ (under√ (c .hull .length)) → (q : Grouped (c .hull) (c .rows)) →
+    SummedUp plain (EachLayer NoneRises (layersOf (q .groups))) c √ q

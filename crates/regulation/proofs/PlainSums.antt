@@ -1,13 +1,13 @@
 -- The same of a layer's sum with the differences of v as 2.7.7.3 prints them, not held: document 01's where no height but the last is more than 12.5 m
 -- above the draught, and elsewhere not below it for fractions that do not rise. Assumes nothing.
-use Prim.Native.Nat.{ℕ, _+_, _-_, _≤_, _<_}
+use Prim.Native.Nat.{ℕ, _-_, _≤_, _<_}
 use mathlib.Core.Path.{_≡_}
 use mathlib.Core.List.{List, [], _∷_}
 use native.Mathlib.Omega.{arith}
 use lib.Dec.{lit<}
 use lib.ListN.{length}
 use Rattle.laws.specs.Lists.{last, Linked}
-use Rattle.laws.specs.Fraction.{Fraction, _over_, whole, Is, _≈_, _≼_, _⊹_, _⊝_, _⊛_}
+use Rattle.laws.specs.Fraction.{Fraction, _over_, whole, _≈_, _≼_, _⊹_, _⊝_, _⊛_}
 use Rattle.laws.proofs.Choice.{split}
 use Rattle.laws.proofs.Fraction.{is-nothing, is-shifted, is-⊝, same, below, ≈-refl, ≈-sym, ≈-trans, ⊹-≈, ⊝-≈, ⊛-≈, ≼-of-≈, ≼-trans, ⊹-≼}
 use Rattle.laws.proofs.FractionTerm.{number, parts, first, second, third, fourth, _⊹ᵗ_, _⊝ᵗ_, _⊛ᵗ_, agree}
@@ -15,7 +15,7 @@ use Rattle.laws.proofs.FractionRing.{⊛-comm}
 use Rattle.solas.specs.Height.{vAt, rowV, top}
 use Rattle.solas.specs.Layers.{rowsV}
 use Rattle.solas.proofs.Height.{vAt-rises, vAt-at-most, vAt-full, vAt-top, vAt-waterline}
-use Rattle.regulation.specs.RegulationIndex.{millimetres, none, uppermost, counted, vOf}
+use Rattle.regulation.specs.RegulationIndex.{millimetres, uppermost, counted, vOf}
 use Rattle.regulation.specs.RegulationSums.{plain, inBrackets, si}
 use Rattle.regulation.specs.OfSolasSums.{limits, vSum, NoneRises, PlainLayerSumsAre01's, PlainLayerSumsNotAbove}
 use Rattle.regulation.proofs.RegulationHeights.{in-parts, is-v-high, is-uppermost, is-counted, not-above-none, above-counts}

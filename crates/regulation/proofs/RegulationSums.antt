@@ -6,7 +6,7 @@ use mathlib.Core.List.{List, [], _∷_}
 use native.Mathlib.Omega.{arith}
 use lib.ListN.{length}
 use Rattle.laws.specs.Lists.{Every, last, Linked}
-use Rattle.laws.specs.Fraction.{Fraction, den, _over_, whole, Is, _≈_, _≼_, _≺_, _⊹_, _⊛_}
+use Rattle.laws.specs.Fraction.{Fraction, den, _over_, whole, _≈_, _≼_, _≺_, _⊹_, _⊛_}
 use Rattle.laws.proofs.Choice.{split}
 use Rattle.laws.proofs.Fraction.{positive, is-self, is-nothing, is-over, is-shifted, same, numerators-below, ≈-refl, ≈-sym, ≈-trans, ⊹-≈, ⊛-≈, ≼-of-≈, ≼-trans, ⊹-≼}
 use Rattle.laws.proofs.FractionTerm.{number, parts, first, _⊹ᵗ_, agree}

@@ -3,7 +3,7 @@
 use Prim.Native.Nat.{ℕ}
 use mathlib.Core.Path.{refl}
 use mathlib.Core.List.{List, [], _∷_}
-use Rattle.laws.specs.Fraction.{Fraction, _less_over_, _over_, whole, _≈_, _≼?_, _⊹_, _⊝_, _⊛_, _⊘_, total}
+use Rattle.laws.specs.Fraction.{Fraction, _less_over_, _over_, _≈_, _≼?_, _⊹_, _⊝_, _⊛_, _⊘_, total}
 use Rattle.solas.specs.Height.{v, vAt, rowV}
 use Rattle.solas.specs.Layers.{layerV}
 use Rattle.regulation.specs.RegulationIndex as regulation

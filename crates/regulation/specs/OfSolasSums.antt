@@ -7,7 +7,7 @@ use Rattle.laws.specs.Lists.{Every, Linked}
 use Rattle.laws.specs.Fraction.{Fraction, _over_, whole, _≈_, _≼_, _⊹_, _⊛_}
 use Rattle.solas.specs.Height.{top}
 use Rattle.solas.specs.Layers.{layerV, Complete}
-use Rattle.regulation.specs.RegulationIndex.{millimetres, vm}
+use Rattle.regulation.specs.RegulationIndex.{millimetres, Boundary, vm}
 use Rattle.regulation.specs.RegulationSums.{Limit, plain, si}
 
 -- a layer's heights in millimetres, from the lowest up, each with a fraction
@@ -32,22 +32,32 @@ pub record Layer (ds d : ℕ) (Hs : List ℕ) (xs : List Fraction) : Type 0 wher
 abbrev pub LowButLast : ℕ → List ℕ → Type 0
 LowButLast d Hs = Linked (λ H K. H ≤ top d) 0 Hs
 
--- no fraction is above the one before it: so with smin, the least over all lesser extents
+abbrev pub NoneNegative : List Fraction → Type 0
+NoneNegative xs = Every (λ x. whole 0 ≼ x) xs
+
+-- none is above the one before it: so with smin, the least over all lesser extents
 abbrev pub NoneRises : List Fraction → Type 0
 NoneRises [] = Unit {0}
 NoneRises (x ∷ xs) = Linked (λ f g. g ≼ f) x xs
 
--- there the two are the same
+module _ (difference : Boundary → Boundary → Fraction → Fraction) where
+  -- the two sums are the same where no height but the last is so high
+  abbrev pub SameWhereLow : Type 0
+  SameWhereLow = (ds d : ℕ) (Hs : List ℕ) (xs : List Fraction) → Layer ds d Hs xs → LowButLast d Hs → si difference (limits Hs xs) (millimetres d) ≈ vSum (layerV Hs d) xs
+
+  -- elsewhere document 01's is not above, for such fractions
+  abbrev pub NotAboveFor : (List Fraction → Type 0) → Type 0
+  NotAboveFor Such = (ds d : ℕ) (Hs : List ℕ) (xs : List Fraction) → Layer ds d Hs xs → Such xs → vSum (layerV Hs d) xs ≼ si difference (limits Hs xs) (millimetres d)
+
+-- ---- the promises: with differences that are held between 0 and 1, and with plain ones
 abbrev pub LayerSumsAre01's : Type 0
-LayerSumsAre01's = (ds d : ℕ) (Hs : List ℕ) (xs : List Fraction) → Layer ds d Hs xs → LowButLast d Hs → si vm (limits Hs xs) (millimetres d) ≈ vSum (layerV Hs d) xs
+LayerSumsAre01's = SameWhereLow vm
 
--- elsewhere document 01's is not above, for fractions none of which is negative
 abbrev pub LayerSumsNotAbove : Type 0
-LayerSumsNotAbove = (ds d : ℕ) (Hs : List ℕ) (xs : List Fraction) → Layer ds d Hs xs → Every (λ x. whole 0 ≼ x) xs → vSum (layerV Hs d) xs ≼ si vm (limits Hs xs) (millimetres d)
+LayerSumsNotAbove = NotAboveFor vm NoneNegative
 
--- both with the differences plain; elsewhere for fractions that do not rise
 abbrev pub PlainLayerSumsAre01's : Type 0
-PlainLayerSumsAre01's = (ds d : ℕ) (Hs : List ℕ) (xs : List Fraction) → Layer ds d Hs xs → LowButLast d Hs → si plain (limits Hs xs) (millimetres d) ≈ vSum (layerV Hs d) xs
+PlainLayerSumsAre01's = SameWhereLow plain
 
 abbrev pub PlainLayerSumsNotAbove : Type 0
-PlainLayerSumsNotAbove = (ds d : ℕ) (Hs : List ℕ) (xs : List Fraction) → Layer ds d Hs xs → NoneRises xs → vSum (layerV Hs d) xs ≼ si plain (limits Hs xs) (millimetres d)
+PlainLayerSumsNotAbove = NotAboveFor plain NoneRises

@@ -156,7 +156,7 @@ module _ (c : Case) (v : Valid c) (√ : Fraction) (root : IsRoot √ (under√ 
     -- ---- by what is so of each layer
     module _ (difference : Boundary → Boundary → Fraction → Fraction) (Such C : List Fraction → Type 0) (each : (xs : List Fraction) → Such xs → EachLayer C (layersOf (q .groups)) xs)
         (low : SameWhereLow difference) (any : NotAboveFor difference C) where
-      same-at : LowButTops c d → (xs : List Fraction) → OneEach c xs → partialAt difference Such c √ q d xs ≈ weightedSum (map (rowAt i) (exactRows h nowhere (c .rows))) xs
+      same-at : LowButTops c d → (xs : List Fraction) → OneEach c xs → partialAt difference c √ q d xs ≈ weightedSum (map (rowAt i) (exactRows h nowhere (c .rows))) xs
       unfolding dA
       same-at k xs n =
           ≈-sym
@@ -165,14 +165,14 @@ module _ (c : Case) (v : Valid c) (√ : Fraction) (root : IsRoot √ (under√ 
           (≈-sym (low (h .deepest) d (heights (layerRows (l .layer))) ys (at-draught (Low h d) l y d afloat ys m) (omega arith, heights-low h d (l .layer .lowest) (l .layer .above) (y .fits .below) (y .rows)))))
           k xs n (each-layer (λ ys. Unit {0}) (λ m ys e. tt) (λ m ys e. tt) (layersOf (q .groups)) xs tt))
 
-      not-above-at : (xs : List Fraction) → OneEach c xs → Such xs → weightedSum (map (rowAt i) (exactRows h nowhere (c .rows))) xs ≼ partialAt difference Such c √ q d xs
+      not-above-at : (xs : List Fraction) → OneEach c xs → Such xs → weightedSum (map (rowAt i) (exactRows h nowhere (c .rows))) xs ≼ partialAt difference c √ q d xs
       unfolding dA
       not-above-at xs n e =
           of-rows at-most difference (λ r. Unit {0}) C
           (λ l ys y m e. share-times-below (λ r. Unit {0}) l y (any (h .deepest) d (heights (layerRows (l .layer))) ys (at-draught (λ r. Unit {0}) l y d afloat ys m) e))
           (every-one (c .rows)) xs n (each xs e)
 
-      summed : Summed difference Such c √ q d (map (rowAt i) (exactRows h nowhere (c .rows)))
+      summed : Summed difference c √ q Such d (map (rowAt i) (exactRows h nowhere (c .rows)))
       summed = record { same = same-at; not-above = not-above-at }
 
   -- ---- the three draughts, and A
@@ -185,7 +185,7 @@ module _ (c : Case) (v : Valid c) (√ : Fraction) (root : IsRoot √ (under√ 
 
   module _ (q : Grouped h (c .rows)) (difference : Boundary → Boundary → Fraction → Fraction) (Such C : List Fraction → Type 0)
       (each : (xs : List Fraction) → Such xs → EachLayer C (layersOf (q .groups)) xs) (low : SameWhereLow difference) (any : NotAboveFor difference C) where
-    summed-up : SummedUp difference Such c √ q
+    summed-up : SummedUp difference c √ q Such
     unfolding rowsOf
     summed-up =
         let at-deepest = summed q 0 (h .deepest) (le-refl (h .deepest)) (chances.v-first c v) difference Such C each low any in

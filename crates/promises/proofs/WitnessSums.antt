@@ -36,7 +36,7 @@ module _ (fit : Every (GroupFits (tall .hull)) groups) where
   abbrev q : Grouped (tall .hull) (tall .rows)
   q = record { groups = groups; rows = refl; fit = fit; order = tt }
 
-  module _ (said : SummedUp vm NoneNegative tall (whole 1) q) where
+  module _ (said : SummedUp vm tall (whole 1) q NoneNegative) where
     pub same-at-deepest : Said (said .same-at-deepest xs refl)
     unfolding partialA dA total si inBrackets vm held vOf counted v pi pr r G G2 J0 G1 C Jb p p1or2 p2 p1 Jn J b22 b21 b12 b11 Jk Jm b0 lmax pk Jkn Jmax lesser _≼?_ _⊹_ _⊝_ _⊛_ _⊘_ _less_over_
         rowsOf exactRows stands sameGroup sameLayer rowShare share within penetration.Q penetration.G span.P span.p penetration.C penetration.G1 penetration.G3 span.touch rowVs height.rowV height.vAt height.v dp
@@ -49,7 +49,7 @@ module _ (fit : Every (GroupFits (tall .hull)) groups) where
     parted-at-light = (λ low ys n. absurd (omega (arith, low .1 .0 (lit< tt))), λ e. refl)
 
   -- and there they do part
-  pub less-at-light : weightedSum (rowsOf tall .light) xs ≺ partialAt vm NoneNegative tall (whole 1) q 4000 xs
+  pub less-at-light : weightedSum (rowsOf tall .light) xs ≺ partialAt vm tall (whole 1) q 4000 xs
   unfolding partialA dA total si inBrackets vm held vOf counted v pi pr r G G2 J0 G1 C Jb p p1or2 p2 p1 Jn J b22 b21 b12 b11 Jk Jm b0 lmax pk Jkn Jmax lesser _≼?_ _⊹_ _⊝_ _⊛_ _⊘_ _less_over_
       rowsOf exactRows stands sameGroup sameLayer rowShare share within penetration.Q penetration.G span.P span.p penetration.C penetration.G1 penetration.G3 span.touch rowVs height.rowV height.vAt height.v dp
   less-at-light = less-than refl

@@ -24,7 +24,7 @@ use Rattle.promises.specs.Rows.{rowsOf}
 
 -- ---- a file's rows in the regulation's letters: each layer of a group is a flooding between two penetrations, with its rows' heights as boundaries
 
--- a layer, and the penetration of the layer before it in its group: 0 under the first
+-- a layer, and the penetration of the layer before it in its group: 0, at the shell, for the first
 pub record Between : Type 0 where
   pub before : ℕ
   pub layer : Layer
@@ -47,7 +47,8 @@ module _ (s : Ship) (√ : Fraction) where
   floodings (y ∷ ys) xs =
       let k = layerHead (y .layer) in
       let rows = layerRows (y .layer) in
-      record { pi = pi s √ (y .before) (k .depth) (k .first) (k .count); limits = limits (heights rows) (take (length rows) xs) } ∷ floodings ys (drop (length rows) xs)
+      record { pi = pi s √ (y .before) (k .depth) (k .first) (k .count); limits = limits (heights rows) (take (length rows) xs) }
+      ∷ floodings ys (drop (length rows) xs)
 
 -- what is asked of the fractions of each layer
 abbrev pub EachLayer : (List Fraction → Type 0) → List Between → List Fraction → Type 0
@@ -63,26 +64,28 @@ LowButTops c d = Every (λ (r : Row). BelowTop (c .hull) (r .head) → r .head .
 abbrev pub OneEach : Case → List Fraction → Type 0
 OneEach c xs = length xs ≡ length (c .rows)
 
-module _ (difference : Boundary → Boundary → Fraction → Fraction) (Such : List Fraction → Type 0) (c : Case) (√ : Fraction) (q : Grouped (c .hull) (c .rows)) where
-  -- 2.5.1's partial index at the draught d, and its A
+-- the partial draught, which is the regulation's (DraughtIs01's)
+abbrev pub middle : Case → ℕ
+middle c = dp (c .hull .deepest) (c .hull .light)
+
+module _ (difference : Boundary → Boundary → Fraction → Fraction) (c : Case) (√ : Fraction) (q : Grouped (c .hull) (c .rows)) where
+  -- 2.5.1: the partial index at the draught d, and A with its weights
   abbrev pub partialAt : ℕ → List Fraction → Fraction
   partialAt d xs = partialA difference (floodings (shipOf (c .hull)) √ (layersOf (q .groups)) xs) (millimetres d)
 
-  abbrev pub middle : ℕ
-  middle = dp (c .hull .deepest) (c .hull .light)
-
   abbrev pub attainedIn : Thrice (List Fraction) → Fraction
-  attainedIn xs = regulation.A (partialAt (c .hull .deepest) (xs .deepest)) (partialAt middle (xs .partial)) (partialAt (c .hull .light) (xs .light))
+  attainedIn xs = regulation.A (partialAt (c .hull .deepest) (xs .deepest)) (partialAt (middle c) (xs .partial)) (partialAt (c .hull .light) (xs .light))
 
-  -- at a draught and for the case's rows there: the same where no row but a layer's last is so high; elsewhere the promises' sum is not above
-  pub record Summed (d : ℕ) (rows : List RowAt) : Type 0 where
+  -- at a draught, and for the case's rows there: the same where no row but a layer's last is so high; elsewhere the promises' sum is not above, for such
+  -- fractions
+  pub record Summed (Such : List Fraction → Type 0) (d : ℕ) (rows : List RowAt) : Type 0 where
     pub same : LowButTops c d → (xs : List Fraction) → OneEach c xs → partialAt d xs ≈ weightedSum rows xs
     pub not-above : (xs : List Fraction) → OneEach c xs → Such xs → weightedSum rows xs ≼ partialAt d xs
 
-  pub record SummedUp : Type 0 where
-    pub deepest : Summed (c .hull .deepest) (rowsOf c .deepest)
-    pub partial : Summed middle (rowsOf c .partial)
-    pub light : Summed (c .hull .light) (rowsOf c .light)
+  pub record SummedUp (Such : List Fraction → Type 0) : Type 0 where
+    pub deepest : Summed Such (c .hull .deepest) (rowsOf c .deepest)
+    pub partial : Summed Such (middle c) (rowsOf c .partial)
+    pub light : Summed Such (c .hull .light) (rowsOf c .light)
     -- at the deepest draught no row but a layer's last is so high
     pub same-at-deepest : (xs : List Fraction) → OneEach c xs → partialAt (c .hull .deepest) xs ≈ weightedSum (rowsOf c .deepest) xs
     -- and where none is at the light draught, none is at any of the three
@@ -95,11 +98,12 @@ module _ (difference : Boundary → Boundary → Fraction → Fraction) (Such : 
 abbrev pub GroupsAreThere : Type 0
 GroupsAreThere = (f : List ℕ) (c : Case) → reading f ≡ accepted c → Grouped (c .hull) (c .rows)
 
--- √ is the root in the ship's Jk; differences are held between 0 and 1
+-- √ is the root in the ship's Jk; differences of v are held between 0 and 1
 abbrev pub SumsOfSolas : Type 0
-SumsOfSolas = (f : List ℕ) (c : Case) → reading f ≡ accepted c → (√ : Fraction) → IsRoot √ (under√ (c .hull .length)) → (q : Grouped (c .hull) (c .rows)) → SummedUp vm NoneNegative c √ q
+SumsOfSolas = (f : List ℕ) (c : Case) → reading f ≡ accepted c → (√ : Fraction) → IsRoot √ (under√ (c .hull .length)) →
+    (q : Grouped (c .hull) (c .rows)) → SummedUp vm c √ q NoneNegative
 
--- the same with plain differences, and for fractions that do not rise within a layer
+-- the same with plain differences, elsewhere for fractions that do not rise within a layer
 abbrev pub PlainSumsOfSolas : Type 0
-PlainSumsOfSolas = (f : List ℕ) (c : Case) → reading f ≡ accepted c → (√ : Fraction) → IsRoot √ (under√ (c .hull .length)) → (q : Grouped (c .hull) (c .rows)) →
-    SummedUp plain (EachLayer NoneRises (layersOf (q .groups))) c √ q
+PlainSumsOfSolas = (f : List ℕ) (c : Case) → reading f ≡ accepted c → (√ : Fraction) → IsRoot √ (under√ (c .hull .length)) →
+    (q : Grouped (c .hull) (c .rows)) → SummedUp plain c √ q (EachLayer NoneRises (layersOf (q .groups)))

@@ -43,11 +43,13 @@ NoneRises (x ∷ xs) = Linked (λ f g. g ≼ f) x xs
 module _ (difference : Boundary → Boundary → Fraction → Fraction) where
   -- the two sums are the same where no height but the last is so high
   abbrev pub SameWhereLow : Type 0
-  SameWhereLow = (ds d : ℕ) (Hs : List ℕ) (xs : List Fraction) → Layer ds d Hs xs → LowButLast d Hs → si difference (limits Hs xs) (millimetres d) ≈ vSum (layerV Hs d) xs
+  SameWhereLow = (ds d : ℕ) (Hs : List ℕ) (xs : List Fraction) → Layer ds d Hs xs → LowButLast d Hs →
+      si difference (limits Hs xs) (millimetres d) ≈ vSum (layerV Hs d) xs
 
   -- elsewhere document 01's is not above, for such fractions
   abbrev pub NotAboveFor : (List Fraction → Type 0) → Type 0
-  NotAboveFor Such = (ds d : ℕ) (Hs : List ℕ) (xs : List Fraction) → Layer ds d Hs xs → Such xs → vSum (layerV Hs d) xs ≼ si difference (limits Hs xs) (millimetres d)
+  NotAboveFor Such = (ds d : ℕ) (Hs : List ℕ) (xs : List Fraction) → Layer ds d Hs xs → Such xs →
+      vSum (layerV Hs d) xs ≼ si difference (limits Hs xs) (millimetres d)
 
 -- ---- the promises: with differences that are held between 0 and 1, and with plain ones
 abbrev pub LayerSumsAre01's : Type 0

@@ -21,7 +21,9 @@ pub mod Fits
 pub mod OfSolas
 pub mod LayerSums
 pub mod CaseLayers
+pub mod CutLists
 pub mod Sums
+pub mod MeetsBySolas
 pub mod Values
 pub mod OneFile
 pub mod Sizes

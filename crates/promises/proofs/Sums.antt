@@ -1,11 +1,11 @@
 -- The sums that the promises speak of are the regulation's, of every accepted file, at each draught and with A's weights. Assumes nothing.
-use Prim.Native.Nat.{ℕ, zero, suc, _*_, _≤_, _<_}
-use mathlib.Core.Path.{_≡_, refl, sym, _∙_, ap, subst}
+use Prim.Native.Nat.{ℕ, _*_, _≤_}
+use mathlib.Core.Path.{_≡_, sym, _∙_, ap, subst}
 use mathlib.Core.List.{List, [], _∷_, _++_, map}
 use native.Mathlib.Nat.{le-refl}
 use native.Mathlib.Omega.{arith}
-use lib.ListN.{length, getD, take, drop, length-map}
-use Rattle.laws.specs.Lists.{Every, last, Linked}
+use lib.ListN.{length, getD, length-map}
+use Rattle.laws.specs.Lists.{Every}
 use Rattle.laws.specs.Fraction.{Fraction, whole, _≈_, _≼_, _⊛_, total}
 use Rattle.laws.proofs.Fraction.{≈-refl, ≈-sym, ≈-trans, ⊹-≈, ⊛-≈, ≼-of-≈, ≼-trans}
 use Rattle.laws.proofs.FractionRing.{⊛-comm}
@@ -14,7 +14,7 @@ use Rattle.records.specs.declared.Hull.{Hull}
 use Rattle.records.specs.declared.RowHead.{RowHead}
 use Rattle.solas.specs.Ship.{Ship}
 use Rattle.solas.specs.Share.{rowShare}
-use Rattle.solas.specs.Height.{rowV, top}
+use Rattle.solas.specs.Height.{rowV}
 use Rattle.solas.specs.Layers.{Complete}
 use Rattle.solas.specs.Index.{draughts, dp, attained}
 use Rattle.solas.proofs.Height.{dp-below-deepest}
@@ -34,7 +34,7 @@ use Rattle.indices.specs.Exact.{weightedSum, rowAt}
 use Rattle.indices.proofs.Enclosure.{attained-rises}
 use Rattle.casefile.specs.Record.{Row, Case}
 use Rattle.casefile.specs.Limits.{rowFits}
-use Rattle.casefile.specs.Valid.{BelowTop, ValidRow, Valid}
+use Rattle.casefile.specs.Valid.{ValidRow, Valid}
 use Rattle.casefile.specs.Groups.{Group, layerRows, allRows, layerHead, groupHead, GroupFits, GroupsRise, Grouped}
 use Rattle.casefile.proofs.Limits.{Head, row-is}
 use Rattle.casefile.proofs.Groups.{every-map, into-groups}
@@ -44,46 +44,10 @@ use Rattle.promises.specs.Rows.{exactRows, rowsOf}
 use Rattle.promises.specs.Sums.{Between, inward, layersOf, heights, floodings, EachLayer, LowButTops, OneEach, partialAt, Summed, SummedUp, GroupsAreThere, SumsOfSolas, PlainSumsOfSolas}
 use Rattle.promises.proofs.Chances as chances
 use Rattle.promises.proofs.LayerSums.{Sits, rowsIn, from, inLetters, inRows, layers-sum}
+use Rattle.promises.proofs.CutLists.{heights-rise, heights-end, Low, heights-low, both-every, each-layer, none-negative-front, none-negative-back}
 use Rattle.promises.proofs.CaseLayers.{rows-are, all-sit, in-turn, first-begins}
 
--- ---- the heights of a layer's rows
-heights-rise : (r : Row) (above : List Row) → Linked (λ (x : Row) (y : Row). x .head .height < y .head .height) r above → Linked _<_ (r .head .height) (heights above)
-heights-rise r [] l = tt
-heights-rise r (x ∷ above) l = (l .0, heights-rise x above (l .1))
-
-heights-end : (r : Row) (above : List Row) → last (r .head .height) (heights above) ≡ last r above .head .height
-heights-end r [] = refl
-heights-end r (x ∷ above) = heights-end x above
-
-module _ (h : Hull) (d : ℕ) where
-  abbrev Low : Row → Type 0
-  Low r = BelowTop h (r .head) → r .head .height ≤ top d
-
-  heights-low : (r : Row) (above : List Row) → Linked (λ (x : Row) (y : Row). BelowTop h (x .head)) r above → Every (λ (r : Row). ValidRow h r × Low r) (r ∷ above) →
-      Linked (λ F G. F ≤ top d) (r .head .height) (heights above)
-  heights-low r [] l k = tt
-  heights-low r (x ∷ above) l k = (k .0 .1 (l .0), heights-low x above (l .1) (k .1))
-
-both-every : {A : Type 0} (P Q : A → Type 0) (xs : List A) → Every P xs → Every Q xs → Every (λ x. P x × Q x) xs
-both-every P Q [] p q = tt
-both-every P Q (x ∷ xs) p q = ((p .0, q .0), both-every P Q xs (p .1) (q .1))
-
--- ---- fractions that all have something have it in each layer
-module _ (C : List Fraction → Type 0) (front : (n : ℕ) (xs : List Fraction) → C xs → C (take n xs)) (back : (n : ℕ) (xs : List Fraction) → C xs → C (drop n xs)) where
-  each-layer : (ls : List Between) (xs : List Fraction) → C xs → EachLayer C ls xs
-  each-layer [] xs c = tt
-  each-layer (l ∷ ls) xs c = let n = length (layerRows (l .layer)) in (front n xs c, each-layer ls (drop n xs) (back n xs c))
-
-none-negative-front : (n : ℕ) (xs : List Fraction) → NoneNegative xs → NoneNegative (take n xs)
-none-negative-front zero xs e = tt
-none-negative-front (suc n) [] e = tt
-none-negative-front (suc n) (x ∷ xs) e = (e .0, none-negative-front n xs (e .1))
-
-none-negative-back : (n : ℕ) (xs : List Fraction) → NoneNegative xs → NoneNegative (drop n xs)
-none-negative-back zero xs e = e
-none-negative-back (suc n) [] e = tt
-none-negative-back (suc n) (x ∷ xs) e = none-negative-back n xs (e .1)
-
+-- ---- A
 attained-same : {s p l s′ p′ l′ : Fraction} → s ≈ s′ → p ≈ p′ → l ≈ l′ → attained s p l ≈ attained s′ p′ l′
 unfolding attained
 attained-same s p l = ⊛-≈ (⊹-≈ (⊹-≈ (⊛-≈ (≈-refl (whole 2)) s) (⊛-≈ (≈-refl (whole 2)) p)) l) (≈-refl _)

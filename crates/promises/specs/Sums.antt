@@ -11,15 +11,17 @@ use Rattle.solas.specs.Height.{top}
 use Rattle.solas.specs.Index.{dp}
 use Rattle.regulation.specs.Regulation.{IsRoot, under√, pi}
 use Rattle.regulation.specs.RegulationIndex as regulation
-use Rattle.regulation.specs.RegulationIndex.{millimetres, Boundary, vm}
+use Rattle.regulation.specs.RegulationIndex.{millimetres, centimetres, Boundary, vm}
 use Rattle.regulation.specs.RegulationSums.{Flooding, plain, partialA}
 use Rattle.regulation.specs.OfSolasSums.{limits, NoneNegative, NoneRises}
 use Rattle.spans.specs.Hull.{shipOf}
-use Rattle.indices.specs.Exact.{RowAt, weightedSum, Thrice, AtAll, exactA}
+use Rattle.indices.specs.Exact.{RowAt, NoneBelow, weightedSum, Thrice, AtAll, AtEach, exactA}
+use Rattle.verdicts.specs.Promises.{AllFour}
 use Rattle.casefile.specs.Record.{Row, Case}
 use Rattle.casefile.specs.Valid.{BelowTop}
 use Rattle.casefile.specs.Groups.{Layer, Group, layerRows, layerHead, Grouped}
 use Rattle.casefile.specs.Reading.{accepted, reading}
+use Rattle.answers.specs.Answer.{answer}
 use Rattle.promises.specs.Rows.{rowsOf}
 
 -- ---- a file's rows in the regulation's letters: each layer of a group is a flooding between two penetrations, with its rows' heights as boundaries
@@ -107,3 +109,12 @@ SumsOfSolas = (f : List ℕ) (c : Case) → reading f ≡ accepted c → (√ : 
 abbrev pub PlainSumsOfSolas : Type 0
 PlainSumsOfSolas = (f : List ℕ) (c : Case) → reading f ≡ accepted c → (√ : Fraction) → IsRoot √ (under√ (c .hull .length)) →
     (q : Grouped (c .hull) (c .rows)) → SummedUp plain c √ q (EachLayer NoneRises (layersOf (q .groups)))
+
+-- so a ship that is said to meet does so by the regulation's own sums, whatever the heights of its rows, for every list with no fourth power below: A
+-- reaches R, and each partial index its mark
+abbrev pub MeetsBySolas : Type 0
+MeetsBySolas = (f : List ℕ) (c : Case) → reading f ≡ accepted c → (√ : Fraction) → IsRoot √ (under√ (c .hull .length)) → (q : Grouped (c .hull) (c .rows)) →
+    answer c .verdict ≡ 1 → (xs : Thrice (List Fraction)) → AtEach NoneBelow (rowsOf c) xs →
+    let mark = regulation.partialMark (centimetres (c .hull .length)) in
+    AllFour (regulation.R (centimetres (c .hull .length)) ≼ attainedIn vm c √ q xs) (mark ≼ partialAt vm c √ q (c .hull .deepest) (xs .deepest))
+    (mark ≼ partialAt vm c √ q (middle c) (xs .partial)) (mark ≼ partialAt vm c √ q (c .hull .light) (xs .light))

@@ -1,5 +1,5 @@
--- The layers of a case's groups in turn: they have its rows, each fits and goes deeper than the one before it in its group, and each begins where it is
--- said to. Assumes nothing.
+-- The layers of a case's groups in turn: they have its rows, each fits and goes deeper than the one before it in its group, and each begins where
+-- it is said to. Assumes nothing.
 use Prim.Native.Nat.{ℕ, _<_}
 use mathlib.Core.Path.{_≡_, refl, sym, _∙_, ap, ap₂, subst}
 use mathlib.Core.Bool.{false}

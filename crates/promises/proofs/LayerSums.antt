@@ -1,5 +1,5 @@
--- The sum over rows in layers, with a fraction each, is the layers' shares times the sums of their rows' v; what is so of each of these terms is so of
--- the sum. Assumes nothing.
+-- The sum over rows in layers, with a fraction each, is the layers' shares times the sums of their rows' v; what is so of each of these terms is
+-- so of the sum. Assumes nothing.
 use Prim.Native.Nat.{ℕ, suc, _≤_, _<_}
 use mathlib.Core.Path.{_≡_, refl, sym, subst}
 use mathlib.Core.List.{List, [], _∷_, _++_, map}
@@ -36,7 +36,7 @@ use Rattle.rows.proofs.Stands.{in-layer, head-is}
 use Rattle.promises.specs.Rows.{exactRow, exactRows}
 use Rattle.promises.specs.Sums.{Between, heights, floodings, EachLayer}
 -- checked first, so that a sentence that is not so is refused at a number
-use Rattle.promises.proofs.WitnessSums.{same-at-deepest}
+use Rattle.promises.proofs.WitnessSums.{same}
 
 -- ---- fractions
 spread : (s v x w : Fraction) → s ⊛ v ⊛ x ⊹ s ⊛ w ≈ s ⊛ (v ⊛ x ⊹ w)

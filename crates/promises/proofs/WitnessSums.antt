@@ -21,7 +21,7 @@ use Rattle.casefile.specs.Order.{sameGroup, sameLayer}
 use Rattle.casefile.specs.Groups.{Group, GroupFits, Grouped}
 use Rattle.rows.specs.Standing.{stands}
 use Rattle.promises.specs.Rows.{exactRows, rowsOf}
-use Rattle.promises.specs.Sums.{partialAt, SummedUp}
+use Rattle.promises.specs.Sums.{LowButTops, middle, partialAt, SummedUp}
 use Rattle.promises.proofs.WitnessNumbers.{Said, Compared, less-than}
 use Rattle.promises.proofs.WitnessCases.{tallRow, tall}
 
@@ -37,12 +37,13 @@ module _ (fit : Every (GroupFits (tall .hull)) groups) where
   q = record { groups = groups; rows = refl; fit = fit; order = tt }
 
   module _ (said : SummedUp vm tall (whole 1) q NoneNegative) where
-    pub same-at-deepest : Said (said .same-at-deepest xs refl)
+    -- 17 m are not more than 12.5 m above a partial draught of 5.2 m
+    pub same : Said (said .same-at-deepest xs refl) × ((low : LowButTops tall (middle tall)) → Said (said .partial .same low xs refl))
     unfolding partialA dA total si inBrackets vm held vOf counted v pi pr r G G2 J0 G1 C Jb p p1or2 p2 p1 Jn J b22 b21 b12 b11 Jk Jm b0 lmax pk Jkn Jmax lesser _≼?_ _⊹_ _⊝_ _⊛_ _⊘_ _less_over_
         rowsOf exactRows stands sameGroup sameLayer rowShare share within penetration.Q penetration.G span.P span.p penetration.C penetration.G1 penetration.G3 span.touch rowVs height.rowV height.vAt height.v dp
-    same-at-deepest = record { cross = refl }
+    same = (record { cross = refl }, λ low. record { cross = refl })
 
-    -- 17 m are more than 12.5 m above a light draught of 4 m
+    -- but they are above a light draught of 4 m
     pub parted-at-light : Said (said .light .same) × Compared (said .light .not-above xs refl)
     unfolding partialA dA total si inBrackets vm held vOf counted v pi pr r G G2 J0 G1 C Jb p p1or2 p2 p1 Jn J b22 b21 b12 b11 Jk Jm b0 lmax pk Jkn Jmax lesser _≼?_ _⊹_ _⊝_ _⊛_ _⊘_ _less_over_
         rowsOf exactRows stands sameGroup sameLayer rowShare share within penetration.Q penetration.G span.P span.p penetration.C penetration.G1 penetration.G3 span.touch rowVs height.rowV height.vAt height.v dp

@@ -76,10 +76,11 @@ module _ (difference : Boundary → Boundary → Fraction → Fraction) (c : Cas
   partialAt d xs = partialA difference (floodings (shipOf (c .hull)) √ (layersOf (q .groups)) xs) (millimetres d)
 
   abbrev pub attainedIn : Thrice (List Fraction) → Fraction
-  attainedIn xs = regulation.A (partialAt (c .hull .deepest) (xs .deepest)) (partialAt (middle c) (xs .partial)) (partialAt (c .hull .light) (xs .light))
+  attainedIn xs =
+      regulation.A (partialAt (c .hull .deepest) (xs .deepest)) (partialAt (middle c) (xs .partial)) (partialAt (c .hull .light) (xs .light))
 
-  -- at a draught, and for the case's rows there: the same where no row but a layer's last is so high; elsewhere the promises' sum is not above, for such
-  -- fractions
+  -- at a draught, and for the case's rows there: the same where no row but a layer's last is so high; elsewhere the promises' sum is not above, for
+  -- such fractions
   pub record Summed (Such : List Fraction → Type 0) (d : ℕ) (rows : List RowAt) : Type 0 where
     pub same : LowButTops c d → (xs : List Fraction) → OneEach c xs → partialAt d xs ≈ weightedSum rows xs
     pub not-above : (xs : List Fraction) → OneEach c xs → Such xs → weightedSum rows xs ≼ partialAt d xs
@@ -110,11 +111,11 @@ abbrev pub PlainSumsOfSolas : Type 0
 PlainSumsOfSolas = (f : List ℕ) (c : Case) → reading f ≡ accepted c → (√ : Fraction) → IsRoot √ (under√ (c .hull .length)) →
     (q : Grouped (c .hull) (c .rows)) → SummedUp plain c √ q (EachLayer NoneRises (layersOf (q .groups)))
 
--- so a ship that is said to meet does so by the regulation's own sums, whatever the heights of its rows, for every list with no fourth power below: A
--- reaches R, and each partial index its mark
+-- so a ship that is said to meet does so by the regulation's own sums, whatever the heights of its rows, for every list with no fourth power below:
+-- A reaches R, and each partial index its mark
 abbrev pub MeetsBySolas : Type 0
-MeetsBySolas = (f : List ℕ) (c : Case) → reading f ≡ accepted c → (√ : Fraction) → IsRoot √ (under√ (c .hull .length)) → (q : Grouped (c .hull) (c .rows)) →
-    answer c .verdict ≡ 1 → (xs : Thrice (List Fraction)) → AtEach NoneBelow (rowsOf c) xs →
+MeetsBySolas = (f : List ℕ) (c : Case) → reading f ≡ accepted c → (√ : Fraction) → IsRoot √ (under√ (c .hull .length)) →
+    (q : Grouped (c .hull) (c .rows)) → answer c .verdict ≡ 1 → (xs : Thrice (List Fraction)) → AtEach NoneBelow (rowsOf c) xs →
     let mark = regulation.partialMark (centimetres (c .hull .length)) in
     AllFour (regulation.R (centimetres (c .hull .length)) ≼ attainedIn vm c √ q xs) (mark ≼ partialAt vm c √ q (c .hull .deepest) (xs .deepest))
     (mark ≼ partialAt vm c √ q (middle c) (xs .partial)) (mark ≼ partialAt vm c √ q (c .hull .light) (xs .light))

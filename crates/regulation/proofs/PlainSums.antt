@@ -1,5 +1,5 @@
--- The same of a layer's sum with the differences of v as 2.7.7.3 prints them, not held: document 01's where no height but the last is more than 12.5 m
--- above the draught, and elsewhere not below it for fractions that do not rise. Assumes nothing.
+-- The same of a layer's sum with the differences of v as 2.7.7.3 prints them, not held: document 01's where no height but the last is more than
+-- 12.5 m above the draught, and elsewhere not below it for fractions that do not rise. Assumes nothing.
 use Prim.Native.Nat.{ℕ, _-_, _≤_, _<_}
 use mathlib.Core.Path.{_≡_}
 use mathlib.Core.List.{List, [], _∷_}

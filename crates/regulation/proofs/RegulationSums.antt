@@ -1,5 +1,5 @@
--- The regulation's sum over the boundaries of a complete layer is document 01's where no height but the last is more than 12.5 m above the draught, and
--- elsewhere document 01's is not above. Assumes nothing.
+-- The regulation's sum over the boundaries of a complete layer is document 01's where no height but the last is more than 12.5 m above the draught,
+-- and elsewhere document 01's is not above. Assumes nothing.
 use Prim.Native.Nat.{ℕ, _-_, _≤_, _<_}
 use mathlib.Core.Path.{_≡_}
 use mathlib.Core.List.{List, [], _∷_}

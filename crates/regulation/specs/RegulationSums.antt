@@ -19,8 +19,8 @@ unfoldable pub plain : Boundary → Boundary → Fraction → Fraction
 plain before m d = vOf m d ⊝ vOf before d
 
 module _ (difference : Boundary → Boundary → Fraction → Fraction) where
-  -- 2.7.7.3, in brackets: v1·smin1 + (v2 - v1)·smin2 + .. + (1 - v(m-1))·smin m, at the draught d, after the boundary before; one that is not above the
-  -- waterline adds nothing
+  -- 2.7.7.3, in brackets: v1·smin1 + (v2 - v1)·smin2 + .. + (1 - v(m-1))·smin m, at the draught d, from the boundary before on; one that is not
+  -- above the waterline adds nothing
   unfoldable pub inBrackets : Boundary → List Limit → Fraction → Fraction
   inBrackets before [] d = whole 0
   inBrackets before (m ∷ []) d = difference before (uppermost (m .H)) d ⊛ m .smin

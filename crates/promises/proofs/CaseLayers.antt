@@ -36,7 +36,8 @@ every-joined P (x ∷ xs) ys l r = (l .0, every-joined P xs ys (l .1) r)
 -- ---- the rows are the groups' rows
 rows-joined : (ls ms : List Between) → rowsIn (ls ++ ms) ≡ rowsIn ls ++ rowsIn ms
 rows-joined [] ms = refl
-rows-joined (l ∷ ls) ms = ap (λ rs. layerRows (l .layer) ++ rs) (rows-joined ls ms) ∙ sym (append-assoc (layerRows (l .layer)) (rowsIn ls) (rowsIn ms))
+rows-joined (l ∷ ls) ms =
+    ap (λ rs. layerRows (l .layer) ++ rs) (rows-joined ls ms) ∙ sym (append-assoc (layerRows (l .layer)) (rowsIn ls) (rowsIn ms))
 
 rows-inward : (b′ : ℕ) (ls : List Layer) → rowsIn (inward b′ ls) ≡ rowsOfLayers ls
 rows-inward b′ [] = refl
@@ -69,7 +70,8 @@ module _ (h : Hull) (K : Row → Type 0) where
   head-of r v = row-is h r (holds (rowFits h r) (v .limits)) .0
 
   -- ---- each fits
-  sit-inward : (b′ : ℕ) (l : Layer) (ls : List Layer) → b′ < layerHead l .depth → LayerFits h l → Every (LayerFits h) ls → Linked (λ (k : Layer) (m : Layer). layerHead k .depth < layerHead m .depth) l ls →
+  sit-inward : (b′ : ℕ) (l : Layer) (ls : List Layer) → b′ < layerHead l .depth → LayerFits h l → Every (LayerFits h) ls →
+      Linked (λ (k : Layer) (m : Layer). layerHead k .depth < layerHead m .depth) l ls →
       Every Fine (rowsOfLayers (l ∷ ls)) → Every (Sits h K) (inward b′ (l ∷ ls))
   sit-inward b′ l [] d f fs up v = (record { fits = f; deeper = d; rows = every-parts Fine (layerRows l) [] v .0 }, tt)
   sit-inward b′ l (m ∷ ls) d f fs up v =
@@ -81,7 +83,8 @@ module _ (h : Hull) (K : Row → Type 0) where
   all-sit (g ∷ gs) f v =
       let (here, others) = every-parts Fine (groupRows g) (allRows gs) v in
       let some : 0 < groupHead g .depth = omega (arith, head-of (g .outer .lowest) (here .0 .0) .shallowest) in
-      every-joined (Sits h K) (inward 0 (g .outer ∷ g .inner)) (layersOf gs) (sit-inward 0 (g .outer) (g .inner) some (f .0 .first) (f .0 .others) (f .0 .rises) here) (all-sit gs (f .1) others)
+      every-joined (Sits h K) (inward 0 (g .outer ∷ g .inner)) (layersOf gs)
+      (sit-inward 0 (g .outer) (g .inner) some (f .0 .first) (f .0 .others) (f .0 .rises) here) (all-sit gs (f .1) others)
 
   -- ---- each begins where it is said to
   top-same : (l : Layer) (b′ : ℕ) → LayerFits h l → SameLayer (layerHead l) (topOf (record { before = b′; layer = l }) .head)
@@ -91,13 +94,15 @@ module _ (h : Hull) (K : Row → Type 0) where
   InTurn l ls = Linked (λ (a : Between) (b : Between). Next (topOf a .head) b) l ls
 
   -- the layers after l in the group of k, and then others
-  in-group : (k : RowHead) (b′ : ℕ) (l : Layer) (ls : List Layer) (others : List Between) → SameGroup k (layerHead l) → LayerFits h l → Every (LayerFits h) ls → Every (λ (m : Layer). SameGroup k (layerHead m)) ls →
+  in-group : (k : RowHead) (b′ : ℕ) (l : Layer) (ls : List Layer) (others : List Between) → SameGroup k (layerHead l) → LayerFits h l →
+      Every (LayerFits h) ls → Every (λ (m : Layer). SameGroup k (layerHead m)) ls →
       Linked (λ (k : Layer) (m : Layer). layerHead k .depth < layerHead m .depth) l ls →
       ((b : ℕ) (m : Layer) → SameGroup k (layerHead m) → LayerFits h m → InTurn (record { before = b; layer = m }) others) →
       InTurn (record { before = b′; layer = l }) (inward (layerHead l .depth) ls ++ others)
   in-group k b′ l [] others s f fs one up after = after b′ l s f
   in-group k b′ l (m ∷ ls) others s f fs one up after = (
-    λ z e. in-deeper z (topOf (record { before = b′; layer = l }) .head) (layerHead l) (layerHead m) e (top-same l b′ f) (same-group k (layerHead l) (layerHead m) s (one .0)) (up .0),
+    λ z e. in-deeper z (topOf (record { before = b′; layer = l }) .head) (layerHead l) (layerHead m) e (top-same l b′ f)
+        (same-group k (layerHead l) (layerHead m) s (one .0)) (up .0),
     in-group k (layerHead l .depth) m ls others (one .0) (fs .0) (fs .1) (one .1) (up .1) after,
   )
 
@@ -105,11 +110,13 @@ module _ (h : Hull) (K : Row → Type 0) where
   FromShell g gs = InTurn (record { before = 0; layer = g .outer }) (inward (groupHead g .depth) (g .inner) ++ layersOf gs)
 
   pub in-turn : (g : Group) (gs : List Group) → Every (GroupFits h) (g ∷ gs) → GroupsRise (g ∷ gs) → FromShell g gs
-  in-turn g [] f o = in-group (groupHead g) 0 (g .outer) (g .inner) [] (refl, refl) (f .0 .first) (f .0 .others) (f .0 .one) (f .0 .rises) (λ b m s k. tt)
+  in-turn g [] f o =
+      in-group (groupHead g) 0 (g .outer) (g .inner) [] (refl, refl) (f .0 .first) (f .0 .others) (f .0 .one) (f .0 .rises) (λ b m s k. tt)
   in-turn g (x ∷ gs) f o =
       in-group (groupHead g) 0 (g .outer) (g .inner) (layersOf (x ∷ gs)) (refl, refl) (f .0 .first) (f .0 .others) (f .0 .one) (f .0 .rises)
       (λ b m s k. (
-        λ z e. in-later z (topOf (record { before = b; layer = m }) .head) (layerHead m) (groupHead x) e (top-same m b k) (later-of (groupHead g) (layerHead m) (groupHead x) s (o .0)),
+        λ z e. in-later z (topOf (record { before = b; layer = m }) .head) (layerHead m) (groupHead x) e (top-same m b k)
+            (later-of (groupHead g) (layerHead m) (groupHead x) s (o .0)),
         in-turn x gs (f .1) (o .1),
       ))
 

@@ -14,7 +14,8 @@ use Rattle.casefile.specs.Groups.{layerRows}
 use Rattle.promises.specs.Sums.{Between, heights, EachLayer}
 
 -- ---- the heights of a layer's rows
-pub heights-rise : (r : Row) (above : List Row) → Linked (λ (x : Row) (y : Row). x .head .height < y .head .height) r above → Linked _<_ (r .head .height) (heights above)
+pub heights-rise : (r : Row) (above : List Row) → Linked (λ (x : Row) (y : Row). x .head .height < y .head .height) r above →
+    Linked _<_ (r .head .height) (heights above)
 heights-rise r [] l = tt
 heights-rise r (x ∷ above) l = (l .0, heights-rise x above (l .1))
 
@@ -26,7 +27,8 @@ module _ (h : Hull) (d : ℕ) where
   abbrev pub Low : Row → Type 0
   Low r = BelowTop h (r .head) → r .head .height ≤ top d
 
-  pub heights-low : (r : Row) (above : List Row) → Linked (λ (x : Row) (y : Row). BelowTop h (x .head)) r above → Every (λ (r : Row). ValidRow h r × Low r) (r ∷ above) →
+  pub heights-low : (r : Row) (above : List Row) → Linked (λ (x : Row) (y : Row). BelowTop h (x .head)) r above →
+      Every (λ (r : Row). ValidRow h r × Low r) (r ∷ above) →
       Linked (λ F G. F ≤ top d) (r .head .height) (heights above)
   heights-low r [] l k = tt
   heights-low r (x ∷ above) l k = (k .0 .1 (l .0), heights-low x above (l .1) (k .1))
@@ -36,7 +38,8 @@ both-every P Q [] p q = tt
 both-every P Q (x ∷ xs) p q = ((p .0, q .0), both-every P Q xs (p .1) (q .1))
 
 -- ---- fractions that all have something have it in each layer
-module _ (C : List Fraction → Type 0) (front : (n : ℕ) (xs : List Fraction) → C xs → C (take n xs)) (back : (n : ℕ) (xs : List Fraction) → C xs → C (drop n xs)) where
+module _ (C : List Fraction → Type 0) (front : (n : ℕ) (xs : List Fraction) → C xs → C (take n xs))
+    (back : (n : ℕ) (xs : List Fraction) → C xs → C (drop n xs)) where
   pub each-layer : (ls : List Between) (xs : List Fraction) → C xs → EachLayer C ls xs
   each-layer [] xs c = tt
   each-layer (l ∷ ls) xs c = let n = length (layerRows (l .layer)) in (front n xs c, each-layer ls (drop n xs) (back n xs c))

@@ -84,56 +84,72 @@ module _ (c : Case) (v : Valid c) (√ : Fraction) (root : IsRoot √ (under√ 
     deep = omega (arith, head .deepest)
 
     share-is : pi s √ (l .before) (k .depth) (k .first) (k .count) ≈ rowShare s (k .first) (k .count) (l .before) (k .depth)
-    share-is = shares-are-the-regulation's s (chances.sound c v) √ root (k .first) (k .count) (l .before) (k .depth) (head .first) (head .within) (y .deeper) deep
+    share-is =
+        shares-are-the-regulation's s (chances.sound c v) √ root (k .first) (k .count) (l .before) (k .depth) (head .first) (head .within)
+        (y .deeper) deep
 
     share-not-negative : whole 0 ≼ rowShare s (k .first) (k .count) (l .before) (k .depth)
     share-not-negative =
-        no-share-negative s (chances.sound c v) (k .first) (k .count) (l .before) (k .depth) (record { from = head .first; some = head .count; fits = head .within }) (omega (arith, y .deeper)) deep
+        no-share-negative s (chances.sound c v) (k .first) (k .count) (l .before) (k .depth)
+        (record { from = head .first; some = head .count; fits = head .within }) (omega (arith, y .deeper)) deep
 
-    share-times : {f g : Fraction} → f ≈ g → rowShare s (k .first) (k .count) (l .before) (k .depth) ⊛ f ≈ pi s √ (l .before) (k .depth) (k .first) (k .count) ⊛ g
+    share-times : {f g : Fraction} → f ≈ g →
+        rowShare s (k .first) (k .count) (l .before) (k .depth) ⊛ f ≈ pi s √ (l .before) (k .depth) (k .first) (k .count) ⊛ g
     share-times e = ⊛-≈ (≈-sym share-is) e
 
-    share-times-below : {f g : Fraction} → f ≼ g → rowShare s (k .first) (k .count) (l .before) (k .depth) ⊛ f ≼ pi s √ (l .before) (k .depth) (k .first) (k .count) ⊛ g
+    share-times-below : {f g : Fraction} → f ≼ g →
+        rowShare s (k .first) (k .count) (l .before) (k .depth) ⊛ f ≼ pi s √ (l .before) (k .depth) (k .first) (k .count) ⊛ g
     share-times-below {f} {g} e =
         let a = rowShare s (k .first) (k .count) (l .before) (k .depth) in
         ≼-trans (≼-of-≈ (⊛-comm a f)) (≼-trans (⊛-keeps share-not-negative e) (≼-of-≈ (≈-trans (⊛-comm g a) (share-times (≈-refl g)))))
 
-  module _ (q : Grouped h (c .rows)) (i d : ℕ) (afloat : d ≤ h .deepest) (v-is : (H′ H : ℕ) → getD (rowVs H′ H (draughts (h .deepest) (h .light))) i 0 ≡ rowV H′ H d) where
-    module _ {R : Fraction → Fraction → Type 0} (o : Ordering R) (difference : Boundary → Boundary → Fraction → Fraction) (K : Row → Type 0) (C : List Fraction → Type 0)
+  module _ (q : Grouped h (c .rows)) (i d : ℕ) (afloat : d ≤ h .deepest)
+      (v-is : (H′ H : ℕ) → getD (rowVs H′ H (draughts (h .deepest) (h .light))) i 0 ≡ rowV H′ H d) where
+    module _ {R : Fraction → Fraction → Type 0} (o : Ordering R) (difference : Boundary → Boundary → Fraction → Fraction) (K : Row → Type 0)
+        (C : List Fraction → Type 0)
         (term : (l : Between) (ys : List Fraction) → Sits h K l → length ys ≡ length (layerRows (l .layer)) → C ys →
         R (inRows h √ i d v-is o difference K C l ys) (inLetters h √ i d v-is o difference K C l ys)) where
-      of-groups : (gs : List Group) → Every (GroupFits h) gs → GroupsRise gs → Every (λ (r : Row). ValidRow h r × K r) (allRows gs) → (xs : List Fraction) → length xs ≡ length (rowsIn (layersOf gs)) →
-          EachLayer C (layersOf gs) xs → R (weightedSum (from h i d v-is o nowhere (rowsIn (layersOf gs))) xs) (partialA difference (floodings s √ (layersOf gs) xs) (millimetres d))
+      of-groups : (gs : List Group) → Every (GroupFits h) gs → GroupsRise gs → Every (λ (r : Row). ValidRow h r × K r) (allRows gs) →
+          (xs : List Fraction) → length xs ≡ length (rowsIn (layersOf gs)) →
+          EachLayer C (layersOf gs) xs →
+          R (weightedSum (from h i d v-is o nowhere (rowsIn (layersOf gs))) xs) (partialA difference (floodings s √ (layersOf gs) xs) (millimetres d))
       unfolding exactRows partialA total
       of-groups [] f up k xs n e = o .of-same (≈-refl (whole 0))
       of-groups (g ∷ gs) f up k xs n e =
-          layers-sum h √ i d v-is o difference K C term nowhere (record { before = 0; layer = g .outer }) (inward (groupHead g .depth) (g .inner) ++ layersOf gs) xs (first-begins h K g gs k) (all-sit h K (g ∷ gs) f k) (in-turn h K g gs f up) n e
+          layers-sum h √ i d v-is o difference K C term nowhere (record { before = 0; layer = g .outer })
+          (inward (groupHead g .depth) (g .inner) ++ layersOf gs) xs (first-begins h K g gs k) (all-sit h K (g ∷ gs) f k) (in-turn h K g gs f up) n e
 
       of-rows : Every K (c .rows) → (xs : List Fraction) → OneEach c xs → EachLayer C (layersOf (q .groups)) xs →
           R (weightedSum (from h i d v-is o nowhere (c .rows)) xs) (partialA difference (floodings s √ (layersOf (q .groups)) xs) (millimetres d))
       of-rows k xs n e =
           let rows : rowsIn (layersOf (q .groups)) ≡ c .rows = rows-are (q .groups) ∙ q .rows in
           let fine = subst (Every (λ (r : Row). ValidRow h r × K r)) (sym (q .rows)) (both-every (ValidRow h) K (c .rows) (v .rows) k) in
-          subst (λ rs. R (weightedSum (from h i d v-is o nowhere rs) xs) (partialA difference (floodings s √ (layersOf (q .groups)) xs) (millimetres d))) rows
+          subst (λ rs. R (weightedSum (from h i d v-is o nowhere rs) xs)
+          (partialA difference (floodings s √ (layersOf (q .groups)) xs) (millimetres d))) rows
           (of-groups (q .groups) (q .fit) (q .order) fine xs (n ∙ ap length (sym rows)) e)
 
     -- ---- by what is so of each layer
-    module _ (difference : Boundary → Boundary → Fraction → Fraction) (Such C : List Fraction → Type 0) (each : (xs : List Fraction) → Such xs → EachLayer C (layersOf (q .groups)) xs)
+    module _ (difference : Boundary → Boundary → Fraction → Fraction) (Such C : List Fraction → Type 0)
+        (each : (xs : List Fraction) → Such xs → EachLayer C (layersOf (q .groups)) xs)
         (low : SameWhereLow difference) (any : NotAboveFor difference C) where
-      same-at : LowButTops c d → (xs : List Fraction) → OneEach c xs → partialAt difference c √ q d xs ≈ weightedSum (map (rowAt i) (exactRows h nowhere (c .rows))) xs
+      same-at : LowButTops c d → (xs : List Fraction) → OneEach c xs →
+          partialAt difference c √ q d xs ≈ weightedSum (map (rowAt i) (exactRows h nowhere (c .rows))) xs
       unfolding dA
       same-at k xs n =
           ≈-sym
           (of-rows sameness difference (Low h d) (λ ys. Unit {0})
           (λ l ys y m e. share-times (Low h d) l y
-          (≈-sym (low (h .deepest) d (heights (layerRows (l .layer))) ys (at-draught (Low h d) l y d afloat ys m) (omega arith, heights-low h d (l .layer .lowest) (l .layer .above) (y .fits .below) (y .rows)))))
+          (≈-sym (low (h .deepest) d (heights (layerRows (l .layer))) ys (at-draught (Low h d) l y d afloat ys m)
+          (omega arith, heights-low h d (l .layer .lowest) (l .layer .above) (y .fits .below) (y .rows)))))
           k xs n (each-layer (λ ys. Unit {0}) (λ m ys e. tt) (λ m ys e. tt) (layersOf (q .groups)) xs tt))
 
-      not-above-at : (xs : List Fraction) → OneEach c xs → Such xs → weightedSum (map (rowAt i) (exactRows h nowhere (c .rows))) xs ≼ partialAt difference c √ q d xs
+      not-above-at : (xs : List Fraction) → OneEach c xs → Such xs →
+          weightedSum (map (rowAt i) (exactRows h nowhere (c .rows))) xs ≼ partialAt difference c √ q d xs
       unfolding dA
       not-above-at xs n e =
           of-rows at-most difference (λ r. Unit {0}) C
-          (λ l ys y m e. share-times-below (λ r. Unit {0}) l y (any (h .deepest) d (heights (layerRows (l .layer))) ys (at-draught (λ r. Unit {0}) l y d afloat ys m) e))
+          (λ l ys y m e. share-times-below (λ r. Unit {0}) l y
+          (any (h .deepest) d (heights (layerRows (l .layer))) ys (at-draught (λ r. Unit {0}) l y d afloat ys m) e))
           (every-one (c .rows)) xs n (each xs e)
 
       summed : Summed difference c √ q Such d (map (rowAt i) (exactRows h nowhere (c .rows)))
@@ -148,12 +164,14 @@ module _ (c : Case) (v : Valid c) (√ : Fraction) (root : IsRoot √ (under√ 
   low-at-middle k = every-map (Low h (h .light)) (Low h (dp (h .deepest) (h .light))) (λ r e low. omega (arith, e low)) (c .rows) k
 
   module _ (q : Grouped h (c .rows)) (difference : Boundary → Boundary → Fraction → Fraction) (Such C : List Fraction → Type 0)
-      (each : (xs : List Fraction) → Such xs → EachLayer C (layersOf (q .groups)) xs) (low : SameWhereLow difference) (any : NotAboveFor difference C) where
+      (each : (xs : List Fraction) → Such xs → EachLayer C (layersOf (q .groups)) xs) (low : SameWhereLow difference)
+      (any : NotAboveFor difference C) where
     summed-up : SummedUp difference c √ q Such
     unfolding rowsOf
     summed-up =
         let at-deepest = summed q 0 (h .deepest) (le-refl (h .deepest)) (chances.v-first c v) difference Such C each low any in
-        let at-middle = summed q 1 (dp (h .deepest) (h .light)) (dp-below-deepest (chances.sizes c v .lighter)) (chances.v-second c v) difference Such C each low any in
+        let at-middle = summed q 1 (dp (h .deepest) (h .light)) (dp-below-deepest (chances.sizes c v .lighter))
+        (chances.v-second c v) difference Such C each low any in
         let at-light = summed q 2 (h .light) (chances.sizes c v .lighter) (chances.v-third c v) difference Such C each low any in
         record {
           deepest = at-deepest;
@@ -161,8 +179,11 @@ module _ (c : Case) (v : Valid c) (√ : Fraction) (root : IsRoot √ (under√ 
           light = at-light;
           same-at-deepest = at-deepest .same low-at-deepest;
           attained-same = λ k xs n. ≈-trans (attained-is-01's _ _ _)
-              (attained-same (at-deepest .same low-at-deepest (xs .deepest) (n .0)) (at-middle .same (low-at-middle k) (xs .partial) (n .1)) (at-light .same k (xs .light) (n .2)));
-          attained-not-above = λ xs n e. ≼-trans (attained-rises (at-deepest .not-above (xs .deepest) (n .0) (e .0)) (at-middle .not-above (xs .partial) (n .1) (e .1)) (at-light .not-above (xs .light) (n .2) (e .2)))
+              (attained-same (at-deepest .same low-at-deepest (xs .deepest) (n .0)) (at-middle .same (low-at-middle k) (xs .partial) (n .1))
+              (at-light .same k (xs .light) (n .2)));
+          attained-not-above =
+              λ xs n e. ≼-trans (attained-rises (at-deepest .not-above (xs .deepest) (n .0) (e .0)) (at-middle .not-above (xs .partial) (n .1) (e .1))
+              (at-light .not-above (xs .light) (n .2) (e .2)))
               (≼-of-≈ (≈-sym (attained-is-01's _ _ _)));
         }
 
@@ -171,8 +192,10 @@ groups-are-there f c e = into-groups (c .hull) (c .rows) (sound f c e .1 .order)
 
 pub sums-of-solas : SumsOfSolas
 sums-of-solas f c e √ root q =
-    summed-up c (sound f c e .1) √ root q vm NoneNegative NoneNegative (λ xs n. each-layer NoneNegative none-negative-front none-negative-back (layersOf (q .groups)) xs n) layer-sums-are-01's layer-sums-not-above
+    summed-up c (sound f c e .1) √ root q vm NoneNegative NoneNegative
+    (λ xs n. each-layer NoneNegative none-negative-front none-negative-back (layersOf (q .groups)) xs n) layer-sums-are-01's layer-sums-not-above
 
 pub plain-sums-of-solas : PlainSumsOfSolas
 plain-sums-of-solas f c e √ root q =
-    summed-up c (sound f c e .1) √ root q plain (EachLayer NoneRises (layersOf (q .groups))) NoneRises (λ xs n. n) plain-layer-sums-are-01's plain-layer-sums-not-above
+    summed-up c (sound f c e .1) √ root q plain (EachLayer NoneRises (layersOf (q .groups))) NoneRises
+    (λ xs n. n) plain-layer-sums-are-01's plain-layer-sums-not-above

@@ -37,7 +37,8 @@ at-most = record { of-same = ≼-of-≈; follows = ≼-trans; sums = ⊹-≼ }
 pub ⊛-keeps : {f g x : Fraction} → whole 0 ≼ x → f ≼ g → f ⊛ x ≼ g ⊛ x
 ⊛-keeps {f} {g} {x} p l =
     let n : x .down ≤ x .up = omega (arith, numerators-below p (is-nothing (positive x)) (is-self x)) in
-    let e : x ≈ ((x .up - x .down) over den x) = same (positive x) (is-shifted (x .up - x .down) 0 (omega arith) (is-self x)) (is-over (x .up - x .down) (positive x)) in
+    let e : x ≈ ((x .up - x .down) over den x) =
+    same (positive x) (is-shifted (x .up - x .down) 0 (omega arith) (is-self x)) (is-over (x .up - x .down) (positive x)) in
     ≼-trans (≼-of-≈ (⊛-≈ (≈-refl f) e)) (≼-trans (⊛-rises (x .up - x .down) (positive x) l) (≼-of-≈ (⊛-≈ (≈-refl g) (≈-sym e))))
 
 strictly-not-above : {f g : Fraction} → f ≺ g → f ≼ g
@@ -47,12 +48,15 @@ pub ⊹-nothing : (f : Fraction) → f ⊹ whole 0 ≈ f
 ⊹-nothing f = agree {ρ = parts (f ∷ [])} (first ⊹ᵗ number 0 1 tt) first tt
 
 -- ---- a layer's rows, from the row below them at H′ on: what is so of each row is so of their sums
-module _ (difference : Boundary → Boundary → Fraction → Fraction) {R : Fraction → Fraction → Type 0} (o : Ordering R) (ds d : ℕ) (K : ℕ → Type 0) (N : Fraction → Type 0)
+module _ (difference : Boundary → Boundary → Fraction → Fraction) {R : Fraction → Fraction → Type 0} (o : Ordering R) (ds d : ℕ) (K : ℕ → Type 0)
+    (N : Fraction → Type 0)
     (inner : (H′ H : ℕ) (x : Fraction) → H′ < H → K H′ → K H → N x →
-    R ((rowV H′ H d over 916500) ⊛ x) (difference (counted (millimetres H′) (millimetres d)) (counted (millimetres H) (millimetres d)) (millimetres d) ⊛ x))
+    R ((rowV H′ H d over 916500) ⊛ x)
+    (difference (counted (millimetres H′) (millimetres d)) (counted (millimetres H) (millimetres d)) (millimetres d) ⊛ x))
     (topmost : (H′ H : ℕ) (x : Fraction) → top ds ≤ H → K H′ → N x →
     R ((rowV H′ H d over 916500) ⊛ x) (difference (counted (millimetres H′) (millimetres d)) (uppermost (millimetres H)) (millimetres d) ⊛ x)) where
-  from : (H′ H : ℕ) (Hs : List ℕ) (xs : List Fraction) → Linked _<_ H′ (H ∷ Hs) → top ds ≤ last H Hs → Linked (λ F G. K F) H′ (H ∷ Hs) → length xs ≡ length (H ∷ Hs) → Every N xs →
+  from : (H′ H : ℕ) (Hs : List ℕ) (xs : List Fraction) → Linked _<_ H′ (H ∷ Hs) → top ds ≤ last H Hs → Linked (λ F G. K F) H′ (H ∷ Hs) →
+      length xs ≡ length (H ∷ Hs) → Every N xs →
       R (vSum (rowsV H′ (H ∷ Hs) d) xs) (inBrackets difference (counted (millimetres H′) (millimetres d)) (limits (H ∷ Hs) xs) (millimetres d))
   unfolding inBrackets
   from H′ H [] [] up t k e n = absurd (omega (arith, e))
@@ -63,7 +67,8 @@ module _ (difference : Boundary → Boundary → Fraction → Fraction) {R : Fra
   from H′ H (G ∷ Hs) (x ∷ y ∷ xs) up t k e n =
       o .sums (inner H′ H x (up .0) (k .0) (k .1 .0) (n .0)) (from H G Hs (y ∷ xs) (up .1) t (k .1) (omega (arith, e)) (n .1))
 
-  pub layer-sums : (Hs : List ℕ) (xs : List Fraction) → Layer ds d Hs xs → Linked (λ F G. K F) 0 Hs → Every N xs → R (vSum (layerV Hs d) xs) (si difference (limits Hs xs) (millimetres d))
+  pub layer-sums : (Hs : List ℕ) (xs : List Fraction) → Layer ds d Hs xs → Linked (λ F G. K F) 0 Hs → Every N xs →
+      R (vSum (layerV Hs d) xs) (si difference (limits Hs xs) (millimetres d))
   unfolding si
   layer-sums [] xs l k n = absurd (omega (arith, l .complete .closed))
   layer-sums (H ∷ Hs) xs l k n =
@@ -88,7 +93,8 @@ layer-sums-are-01's ds d Hs xs l k =
 row-not-above : (H′ H d : ℕ) → H′ < H → rowV H′ H d over 916500 ≼ vmOfRow H′ H d
 row-not-above H′ H d up =
     split H (top d) (λ low. ≼-of-≈ (≈-sym (row-is-01's H′ H d (omega arith) low)))
-    (λ high. let parted = rows-part-above H′ H d up high in split H′ d (λ none. ≼-of-≈ (≈-sym (parted .alone none))) (λ some. strictly-not-above (parted .less some)))
+    (λ high. let parted = rows-part-above H′ H d up high in split H′ d (λ none. ≼-of-≈ (≈-sym (parted .alone none)))
+    (λ some. strictly-not-above (parted .less some)))
 
 pub layer-sums-not-above : LayerSumsNotAbove
 layer-sums-not-above ds d Hs xs l n =

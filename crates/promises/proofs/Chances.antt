@@ -73,10 +73,10 @@ module _ (c : Case) (v : Valid c) where
   hull : Hulled h
   hull = hulled h (v .hull)
 
-  sound : Sound s
+  pub sound : Sound s
   sound = ship-sound hull
 
-  sizes : Sizes h
+  pub sizes : Sizes h
   sizes = sizes-are h (holds (sizesFit h) (v .hull .sizes))
 
   half : 2 * deep ≡ h .breadth
@@ -124,15 +124,15 @@ module _ (c : Case) (v : Valid c) where
     )
 
   -- ---- the three draughts
-  v-first : (H′ H : ℕ) → getD (rowVs H′ H (draughts (h .deepest) (h .light))) 0 0 ≡ rowV H′ H (h .deepest)
+  pub v-first : (H′ H : ℕ) → getD (rowVs H′ H (draughts (h .deepest) (h .light))) 0 0 ≡ rowV H′ H (h .deepest)
   unfolding rowVs
   v-first H′ H = refl
 
-  v-second : (H′ H : ℕ) → getD (rowVs H′ H (draughts (h .deepest) (h .light))) 1 0 ≡ rowV H′ H (dp (h .deepest) (h .light))
+  pub v-second : (H′ H : ℕ) → getD (rowVs H′ H (draughts (h .deepest) (h .light))) 1 0 ≡ rowV H′ H (dp (h .deepest) (h .light))
   unfolding rowVs
   v-second H′ H = refl
 
-  v-third : (H′ H : ℕ) → getD (rowVs H′ H (draughts (h .deepest) (h .light))) 2 0 ≡ rowV H′ H (h .light)
+  pub v-third : (H′ H : ℕ) → getD (rowVs H′ H (draughts (h .deepest) (h .light))) 2 0 ≡ rowV H′ H (h .light)
   unfolding rowVs
   v-third H′ H = refl
 

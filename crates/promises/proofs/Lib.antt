@@ -5,6 +5,7 @@ pub mod WitnessVerdict
 pub mod WitnessChances
 pub mod WitnessSheet
 pub mod WitnessService
+pub mod WitnessSums
 pub mod CaseRows
 pub mod Numerators
 pub mod Weighed
@@ -18,6 +19,11 @@ pub mod Files
 pub mod Service
 pub mod Fits
 pub mod OfSolas
+pub mod LayerSums
+pub mod CaseLayers
+pub mod CutLists
+pub mod Sums
+pub mod MeetsBySolas
 pub mod Values
 pub mod OneFile
 pub mod Sizes

@@ -81,6 +81,13 @@ decked = oneZone (row 3 1 1 400 13800 (given 10000 10000 10000) ∷ row 3 1 1 40
 abbrev pub deckedAnswer : Answer
 deckedAnswer = figured 1 3 (ends 735080659 735080663) (ends 713297123 713297126) (ends 737501052 737501055) (ends 773806946 773806949)
 
+-- two layers, the first with a deck between 12.5 m above the light draught and 12.5 m above the deepest
+abbrev pub tallRow : ℕ → ℕ → Row
+tallRow b H = row 3 1 1 b H (given 0 0 0)
+
+abbrev pub tall : Case
+tall = oneZone (tallRow 400 13800 ∷ tallRow 400 17000 ∷ tallRow 400 18500 ∷ tallRow 800 18500 ∷ [])
+
 -- R is 31/63. One row: "meets" with Al between R/2 and R
 abbrev pub meeting : Case
 meeting = oneZone (row 3 1 1 800 18500 (given 10000 10000 3000) ∷ [])

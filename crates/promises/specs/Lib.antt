@@ -7,3 +7,4 @@ pub mod OfSolas
 pub mod OneFile
 pub mod Values
 pub mod Sizes
+pub mod Sums

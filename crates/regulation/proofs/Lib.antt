@@ -8,3 +8,6 @@ pub mod RegulationIndices
 pub mod RegulationHeights
 pub mod RegulationSurvival
 pub mod Examples
+pub mod SumExamples
+pub mod RegulationSums
+pub mod PlainSums

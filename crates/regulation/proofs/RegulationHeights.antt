@@ -18,7 +18,7 @@ use Rattle.regulation.specs.OfSolasIndex.{HeightIs01's, PartedAbove, Upp
 use Rattle.regulation.proofs.Units.{is-millimetres}
 
 -- document 01's parts
-in-parts : (n : ℕ) → Is (n over 916500) n 0 916500
+pub in-parts : (n : ℕ) → Is (n over 916500) n 0 916500
 in-parts n = is-over n (lit< tt)
 
 is-full : Is (whole 1) 916500 0 916500
@@ -41,7 +41,7 @@ module _ (H d : ℕ) where
       rw (test-passes (below (lit< tt) is-above is-knuckle (omega arith)))
       (also (number 8 10 tt ⊛ᵗ quotient-by aboveᵗ (number 78 10 tt) 78 10 tt tt) (C 94 :* X 0) (C 94 :* X 1) (C 916500) tt)
 
-  is-v-high : d + 7800 < H → Is (regulation.v (millimetres H) (millimetres d)) (733200 + 39 * H) (39 * (d + 7800)) 916500
+  pub is-v-high : d + 7800 < H → Is (regulation.v (millimetres H) (millimetres d)) (733200 + 39 * H) (39 * (d + 7800)) 916500
   unfolding regulation.v
   is-v-high p =
       rw (test-fails (strictly-below is-knuckle is-above (omega arith)))
@@ -67,7 +67,7 @@ pub parted-above : PartedAbove
 parted-above H d p =
     record { uncapped = strictly-below is-full (is-v-high H d (omega arith)) (omega arith); rising = λ K. rises d; capped = vAt-full d (omega arith) }
 
-is-uppermost : (H d : ℕ) → Is (vOf (uppermost (millimetres H)) (millimetres d)) 916500 0 916500
+pub is-uppermost : (H d : ℕ) → Is (vOf (uppermost (millimetres H)) (millimetres d)) 916500 0 916500
 unfolding vOf
 is-uppermost H d = is-full
 
@@ -95,7 +95,7 @@ pub above-counts : {H d : ℕ} → d < H → counted (millimetres H) (millimetre
 unfolding counted
 above-counts {H} {d} l = rw (test-fails (strictly-below (is-millimetres d) (is-millimetres H) (omega arith))) refl
 
-is-counted : (H d : ℕ) → H ≤ d + 12500 → Is (vOf (counted (millimetres H) (millimetres d)) (millimetres d)) (vAt H d) 0 916500
+pub is-counted : (H d : ℕ) → H ≤ d + 12500 → Is (vOf (counted (millimetres H) (millimetres d)) (millimetres d)) (vAt H d) 0 916500
 unfolding vOf
 is-counted H d p =
     split H d (λ l. rw (not-above-none l, vAt-waterline l) (is-nothing (lit< tt))) (λ l. rw (above-counts l) (is-vAt H d (omega arith) p))

@@ -3,3 +3,5 @@ pub mod Regulation
 pub mod OfSolas
 pub mod RegulationIndex
 pub mod OfSolasIndex
+pub mod RegulationSums
+pub mod OfSolasSums

@@ -28,6 +28,9 @@ crates() {
 # the crates that the log has as proved so far: how many, how many of them anew, and the last
 proved() { awk '/^rt: [^ ]+ proved \(/ { all++; anew += !/unchanged/; last = $2 } END { print all + 0, anew + 0, last }' "$log"; }
 
+# what the log has beside the crates that are proved, and those that were not tried because of another; long lines cut
+why() { awk '!/^rt: [^ ]+ (proved \(|NOT PROVED: its dependency)/ { print length($0) > 240 ? substr($0, 1, 240) " .." : $0 }' "$log"; }
+
 # the changing line, every second, as long as this script runs
 tell() {
     while kill -0 $$ 2>/dev/null; do
@@ -35,7 +38,7 @@ tell() {
             read -r all anew last
             case $all in
                 0) over "damindex: building, $n crates to prove, $(seconds) s" ;;
-                *) over "damindex: building, crate $all of $n ($last), $(seconds) s" ;;
+                *) over "damindex: building, crate $all of $n proved ($last), $(seconds) s" ;;
             esac
         }
         sleep 1 </dev/null >/dev/null 2>&1
@@ -56,7 +59,7 @@ stop() { # SIGNAL
     trap '' HUP INT TERM
     if [ -n "$builder" ]; then
         kill -s TERM -- "-$builder" 2>/dev/null || kill -s TERM "$builder" 2>/dev/null
-        wait "$builder"
+        wait "$builder" 2>/dev/null
     fi
     tidy
     say 'the build was broken off; what was proved is kept, and the next run goes on from there'
@@ -88,7 +91,7 @@ build() {
     tidy
     trap - HUP INT TERM
     if [ $status != 0 ] || ! [ -x "$program" ]; then
-        grep -v 'NOT PROVED: its dependency' "$log" | tail -n 12 >&2
+        why | tail -n 12 >&2
         say "the build failed (rt check damindex, status $status); all that rt said is in $log"
         exit 2
     fi

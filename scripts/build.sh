@@ -29,7 +29,7 @@ crates() {
 proved() { awk '/^rt: [^ ]+ proved \(/ { all++; anew += !/unchanged/; last = $2 } END { print all + 0, anew + 0, last }' "$log"; }
 
 # what the log has beside the crates that are proved, and those that were not tried because of another; long lines cut
-why() { awk '!/^rt: [^ ]+ (proved \(|NOT PROVED: its dependency)/ { print length($0) > 240 ? substr($0, 1, 240) " .." : $0 }' "$log"; }
+why() { awk '!/^rt: [^ ]+ (proved \(|NOT PROVED: its dependency)/ { print (length($0) <= 240 ? $0 : substr($0, 1, 240) " ..") }' "$log"; }
 
 # the changing line, every second, as long as this script runs
 tell() {
@@ -103,7 +103,9 @@ build() {
 }
 
 if ! command -v rt >/dev/null; then
-    say "the program is not built, or older than its code, and to build it the Rattle kit's command rt must be on the path: see $here/README.md"
+    state='not built yet'
+    [ ! -f "$program" ] || state='older than its code, or its build was broken off'
+    say "the program is $state, and the Rattle kit's command rt, which builds it, is not on the path: see $here/README.md"
     exit 2
 fi
 mkdir -p "$here/target" || exit 2

@@ -9,8 +9,8 @@ for most in 8 "${room:-8}"; do [ "$jobs" -le "$most" ] || jobs=$most; done
 [ "$jobs" -ge 1 ] || jobs=1
 export RT_JOBS="${RT_JOBS:-$jobs}"
 
-# Each check writes what it reads to files of its own first, 200 megabytes at the most: into memory, where that has room for twice as much, where there
-# are 1.5 gigabytes for each check that runs at a time, and where a program may run from there.
+# Each check writes what it reads to files of its own first, 200 megabytes at the most: into memory, where that has room for twice as much, where
+# there are 1.5 gigabytes for each check that runs at a time, and where a program may run from there.
 memory_serves() (
     [ "$(df -Pk /dev/shm | awk 'END { print $4 + 0 }')" -gt $((RT_JOBS * 400000)) ] || exit
     [ "$(awk '$1 == "MemAvailable:" { print $2 }' /proc/meminfo)" -gt $((RT_JOBS * 1500000)) ] || exit

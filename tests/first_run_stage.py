@@ -14,7 +14,7 @@ LOADER = "/lib64/ld-linux-x86-64.so.2"
 CASE = b"0f0000\n"
 ANSWER = b"answer to 0f0000\n"
 
-# The program: tells what it read. Under the stand-in for the kit's loader it tells that too.
+# The program: tells what it read.
 PROGRAM = """#!/bin/sh
 read -r line
 echo "answer to $line"

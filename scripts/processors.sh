@@ -1,5 +1,5 @@
 # Keeps every processor busy while crates are proved: sets RT_JOBS, and TMPDIR to a folder in memory where there is room. Read by the build of
-# ./damindex and by tests/run, each of which removes the folder `memory`, where that is not empty, at its end.
+# ./damindex, by ./library and by tests/run, each of which removes the folder `memory`, where that is not empty, at its end.
 
 # Crates and edits are checked in batches, and a batch waits for its slowest: three a processor, and at most eight, keep every processor busy.
 # A check takes up to a gigabyte: no more of them than there is memory for.

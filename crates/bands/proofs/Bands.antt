@@ -17,6 +17,8 @@ use Rattle.solas.specs.Span.{p}
 use Rattle.laws.proofs.Polynomial.{pow-two, cube}
 use Rattle.bands.specs.declared.Ratio.{Ratio}
 use Rattle.bands.specs.Bands.{bands, bandOf, entry, counted, valued, quotientOf, Small, Within, Ready, Chance}
+-- checked first, so that a definition that gives another number is refused there
+use Rattle.bands.proofs.Values.{by-band}
 
 -- ---- the table, tested entry by entry
 

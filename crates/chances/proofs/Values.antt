@@ -19,6 +19,7 @@ use Rattle.layers.specs.Layer.{G1Ends, G3Ends}
 use Rattle.penetration.specs.Figures.{plus, minus}
 use Rattle.spans.specs.Span.{pEnds, PEnds}
 use Rattle.penetration.specs.Penetration.{partEnds, GEnds, mixed, QEnds}
+use Rattle.chances.specs.declared.Sums.{Sums}
 use Rattle.chances.specs.Share.{withinEnds, sumsOf, lowest, highest, rowOf, rowEnds}
 
 -- the group (a, n), its layer from b′ to b, and the ends of its share
@@ -35,6 +36,14 @@ ends lower upper = record { lower = lower; upper = upper }
 pub in-full : (rowEnds printed 1 1 0 800 ≡ ends 0x072648b6 0x072648b7) × (rowEnds printed 1 2 0 800 ≡ ends 0x03e36aea 0x03e36aec) × (rowEnds printed 2 1 0 800 ≡ ends 0x3091165e 0x3091165f)
 unfolding rowEnds rowOf lowest highest sumsOf withinEnds added taken QEnds mixed c d PEnds GEnds pEnds partEnds G1Ends G3Ends minus plus endsOf billionthsOf portionOf halvesOf ceil touch P p G1 G3 _⊹_ _⊛_ _less_over_
 in-full = (refl, refl, refl)
+
+-- held at 0 once: what the layer before lacks counts in this one
+abbrev sums : ℕ → ℕ → Sums
+sums a t = record { added = ends a a; taken = ends t t }
+
+pub held-once : lowest (sums 0 5) (sums 10 10) ≡ 5
+unfolding lowest
+held-once = refl
 
 -- five zones; the first row's ends lie as far apart as any
 abbrev five : Ship

@@ -3,6 +3,6 @@ use mathlib.Core.Path.{_≡_, refl}
 use mathlib.Core.List.{[], _∷_}
 use Rattle.fields.specs.Fields.{wordAt}
 
-count-high-first : wordAt (15 ∷ 1 ∷ 3 ∷ []) 1 ≡ 259
+pub count-high-first : wordAt (15 ∷ 1 ∷ 3 ∷ []) 1 ≡ 259
 unfolding wordAt
 count-high-first = refl

@@ -9,6 +9,8 @@ use Rattle.digits.specs.Splice.{splice}
 use Rattle.digits.proofs.Splice.{splice-front}
 use Rattle.printing.specs.ReadBack.{endsOf}
 use Rattle.figures.specs.Figures.{figuresOf, figuresIn}
+-- checked first, so that a definition that gives other figures is refused there
+use Rattle.figures.proofs.Examples.{rest-stays}
 
 pub two-written : (at first second : ℕ) (xs : List ℕ) → set (set xs at first) (at + 1) second ≡ splice at (first ∷ second ∷ []) xs
 unfolding splice

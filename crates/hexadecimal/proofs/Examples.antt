@@ -7,7 +7,7 @@ use lib.Dec.{T, eqb}
 use lib.ListN.{getD}
 use Rattle.laws.proofs.Table.{everyBelow}
 use Rattle.lines.specs.Lines.{Line}
-use Rattle.hexadecimal.specs.Hex.{digitOf, refusalOf, valueOf, pairOf, pairs, byteOf, bytesOf, digitsOnly, proper, badlyWritten, digit, hex}
+use Rattle.hexadecimal.specs.Hex.{digitOf, refusalOf, valueOf, pairOf, pairs, byteOf, bytesOf, digitsOnly, proper, badlyWritten, digit, hex, lineOf}
 
 -- 0123456789abcdef
 abbrev digits : List ℕ
@@ -16,6 +16,15 @@ digits = 48 ∷ 49 ∷ 50 ∷ 51 ∷ 52 ∷ 53 ∷ 54 ∷ 55 ∷ 56 ∷ 57 ∷ 9
 abbrev has : ℕ → List ℕ → Bool
 has b [] = false
 has b (x ∷ xs) = eqb b x || has b xs
+
+-- g and A are no digits: refusal 2
+letter-g : refusalOf (digitOf 103) ≡ 2
+unfolding digitOf
+letter-g = refl
+
+capital-a : refusalOf (digitOf 65) ≡ 2
+unfolding digitOf
+capital-a = refl
 
 -- a byte among the digits has its place for a value, and any other is refused
 abbrev read-right : ℕ → Bool
@@ -29,7 +38,7 @@ every-byte = tt
 abbrev endLine : List ℕ
 endLine = 48 ∷ 102 ∷ 48 ∷ 48 ∷ 48 ∷ 51 ∷ []
 
-end-bytes : pairs endLine ≡ 15 ∷ 0 ∷ 3 ∷ []
+pub end-bytes : pairs endLine ≡ 15 ∷ 0 ∷ 3 ∷ []
 unfolding pairs pairOf digitOf
 end-bytes = refl
 
@@ -41,6 +50,10 @@ no-digit = refl
 end-digits : hex (15 ∷ 0 ∷ 3 ∷ []) ≡ endLine
 unfolding hex digit
 end-digits = refl
+
+end-line : lineOf (15 ∷ 0 ∷ 3 ∷ []) ≡ 48 ∷ 102 ∷ 48 ∷ 48 ∷ 48 ∷ 51 ∷ 10 ∷ []
+unfolding lineOf hex digit
+end-line = refl
 
 abbrev line : List ℕ → Bool → Line
 line s c = record { text = s; closed = c }

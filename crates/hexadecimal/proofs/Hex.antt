@@ -10,6 +10,8 @@ use Rattle.laws.proofs.Tests.{both, picked}
 use Rattle.hexadecimal.specs.declared.Digit.{Digit}
 use Rattle.hexadecimal.specs.declared.Digit.the-variants.{Value, Bad}
 use Rattle.hexadecimal.specs.Hex.{digitOf, joined, pairOf, byteOf, digit}
+-- checked first, so that a definition that gives another number is refused there
+use Rattle.hexadecimal.proofs.Examples.{end-bytes}
 
 -- ---- one digit
 

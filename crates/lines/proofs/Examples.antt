@@ -8,6 +8,6 @@ use Rattle.lines.specs.Lines.{Line, lines}
 abbrev line : List ℕ → Bool → Line
 line s c = record { text = s; closed = c }
 
-two-and-a-rest : lines (97 ∷ 10 ∷ 10 ∷ 98 ∷ []) ≡ line (97 ∷ []) true ∷ line [] true ∷ line (98 ∷ []) false ∷ []
+pub two-and-a-rest : lines (97 ∷ 10 ∷ 10 ∷ 98 ∷ []) ≡ line (97 ∷ []) true ∷ line [] true ∷ line (98 ∷ []) false ∷ []
 unfolding lines
 two-and-a-rest = refl

@@ -11,6 +11,8 @@ use lib.Seq.{drop-cons, drop-drop, getD-drop}
 use borrow.Author.Tests.{eq-eqb, ne-eqb, lt-ltb, ltb-true, eqb-true}
 use Rattle.laws.proofs.Tests.{neither, same-test}
 use Rattle.lines.specs.Lines.{Line, onto, lines, lineLength, hasFeed}
+-- checked first, so that a definition that gives other lines is refused there
+use Rattle.lines.proofs.Examples.{two-and-a-rest}
 
 -- ---- the length of the first line, byte by byte
 

@@ -8,6 +8,8 @@ use Rattle.laws.proofs.Rounding.{ceil-lower, ceil-least, ceil-near-floor, floor
 use Rattle.laws.proofs.Equal.{same-floor, same-ceil}
 use Rattle.records.specs.declared.Ends.{Ends}
 use Rattle.numbers.specs.Figures.{Encloses, bothWays, billionthsOf, portionOf, halvesOf}
+-- checked first, so that a definition that gives another number is refused there
+use Rattle.numbers.proofs.Values.{chances}
 
 -- figures with the same ends are the same
 pub both : {a b l u : ℕ} → a ≡ l → b ≡ u → _≡_ {A = Ends} (record { lower = a; upper = b }) (record { lower = l; upper = u })

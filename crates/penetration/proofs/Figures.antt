@@ -17,6 +17,8 @@ use Rattle.spans.specs.Rounded.{Probable, Near}
 use Rattle.spans.proofs.Rounded.{Enclosed}
 use Rattle.penetration.specs.Figures.{plus, minus}
 use Rattle.penetration.specs.Penetration.{mixed}
+-- checked first, so that a definition that gives another number is refused there
+use Rattle.penetration.proofs.Values.{opposite}
 
 -- two fractions over one denominator
 module _ {f f′ : Fraction} {n n′ d d′ : ℕ} (h : Is f n 0 d) (k : Is f′ n′ 0 d′) where

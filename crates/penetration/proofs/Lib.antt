@@ -1,3 +1,4 @@
 pub mod Enclosure
+mod Values
 mod Figures
 pub mod Reached

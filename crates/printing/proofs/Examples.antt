@@ -105,7 +105,7 @@ refusal-in-full : text refused sheet ≡ refusalLine
 unfolding text
 refusal-in-full = refl
 
-refusal-length : printedLength refused ≡ length refusalLine
+pub refusal-length : printedLength refused ≡ length refusalLine
 unfolding printedLength
 refusal-length = refl
 

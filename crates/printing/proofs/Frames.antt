@@ -13,6 +13,8 @@ use Rattle.digits.specs.Fields.{endsField, partialsField}
 use Rattle.digits.proofs.Text.{digits-then, feed-then}
 use Rattle.digits.proofs.Fields.{length-ends, length-partials}
 use Rattle.printing.specs.Printed.{refusalFrame, figuresFrame, shareFrame}
+-- checked first, so that a definition that prints otherwise is refused there
+use Rattle.printing.proofs.Examples.{refusal-length}
 
 -- ---- how long each is
 

@@ -17,6 +17,8 @@ use Rattle.numbers.specs.Ratio.{ratioOf}
 use Rattle.numbers.proofs.Ratios.{ratio-positive, is-ratio}
 use Rattle.survival.specs.Survival.{fourthPower, Factor, root, given, ends, Sensible, Bottom, Top, BottomAndTop, scaledOf, roundedOf, tenThousandths, NotAbove, NotBelow}
 use Rattle.survival.proofs.Factors.{same-survival, times-down, times-up}
+-- checked first, so that a definition that gives another number is refused there
+use Rattle.survival.proofs.Values.{apart}
 
 -- ---- fourth powers
 is-fourth : {x : Fraction} {n d : ℕ} → Is x n 0 d → Is (fourthPower x) (n ^ 4) 0 (d ^ 4)

@@ -1,5 +1,5 @@
 -- Document 01, "Proved values" and "One file in full": R as the ratio that an index is held to, and the verdict, computed. Assumes nothing.
-use Prim.Native.Nat.{_*_}
+use Prim.Native.Nat.{ℕ, _*_}
 use mathlib.Core.Path.{_≡_, refl}
 use Rattle.laws.specs.Fraction.{_less_over_, _⊛_}
 use Rattle.records.specs.declared.Ends.{Ends}
@@ -22,3 +22,13 @@ printed = record { lower = 0x34243ab9; upper = 0x34243abb }
 pub one-file : verdictOf printed (trio printed printed printed) (ratioOf (R 9900)) (ratioOf (partialMark 9900)) ≡ 1
 unfolding R partialMark ratioOf _⊛_ _less_over_ reaches allReach verdictOf
 one-file = refl
+
+-- ---- at 100 m the mark, 31/63, lies between 492,063,492 and 492,063,493 billionths
+abbrev verdictBetween : ℕ → ℕ → ℕ
+verdictBetween low high =
+    let e : Ends = record { lower = low; upper = high } in
+    verdictOf e (trio e e e) (ratioOf (R 10000)) (ratioOf (partialMark 10000))
+
+pub at-the-mark : (verdictBetween 492063492 492063493 ≡ 3) × (verdictBetween 492063493 492063493 ≡ 1) × (verdictBetween 492063492 492063492 ≡ 2)
+unfolding R partialMark ratioOf _⊛_ _less_over_ reaches allReach verdictOf
+at-the-mark = (refl, refl, refl)

@@ -24,6 +24,8 @@ use Rattle.indices.proofs.Enclosure.{billionths-none, no-more-than-upper, no-le
 use Rattle.verdicts.specs.Verdict.{reaches, allReach, verdictOf}
 use Rattle.verdicts.specs.Promises.{AllFour, OneOfFour, attained, atDeepest, atPartial, atLight, Meets, Fails, ByEnds, VerdictByEnds, MeetsIsRight, OneShort, FailsIsRight}
 use Rattle.verdicts.proofs.Marks.{required-not-negative, mark-not-negative}
+-- checked first, so that a definition that gives another verdict is refused there
+use Rattle.verdicts.proofs.Values.{at-the-mark}
 
 -- a test that tells which of two facts holds, of which only one can
 data Tells (P Q : Type 0) : Bool → Type 0 where

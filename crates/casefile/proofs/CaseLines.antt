@@ -13,9 +13,9 @@ use Rattle.casefile.specs.declared.FirstLine.{FirstLine}
 use Rattle.casefile.specs.declared.Frame.{Frame}
 use Rattle.casefile.specs.declared.Progress.{Progress}
 use Rattle.casefile.specs.Record.{Row, Case}
-use Rattle.casefile.specs.Layout.{kindOf, fieldsOf, isRow, hullOf, headOf, rowOf, countOf}
+use Rattle.casefile.specs.Layout.{kindOf, fieldsOf, isRow, hullOf, rowOf, countOf}
 use Rattle.casefile.specs.Table.{firstHolds, lineChecks}
-use Rattle.casefile.specs.Reading.{accepted, begin, inside, start, withRow, withEnd, readFrom, reading}
+use Rattle.casefile.specs.Reading.{accepted, begin, inside, start, withRow, withEnd, readFrom}
 use Rattle.casefile.specs.Answer.{valuesOf}
 use Rattle.casefile.specs.Acceptance.{valuesFrom, rowValues, valuesAfter, caseValues, LinesSayTheCase}
 use Rattle.casefile.proofs.Checks.{line-of-end}
@@ -54,8 +54,8 @@ whole (l ∷ ls) c e =
     let h : Hull = hullOf (fieldsOf (pairs (l .text))) in
     let after = rest-accepted begin 1 l ls c e in
     let rest : valuesFrom (inside h start) ls ≡ valuesAfter (c .rows) (0 + length (c .rows)) = rows-say ls h start 2 c refl after in
-    ap (λ (a : FirstLine). valuesOf (a .hull) (a .frame) ∷ valuesFrom (inside h start) ls) (first-passes l (passes begin 1 l ls c e))
-    ∙ ap (valuesOf h (Frame.Hull (h .zones)) ∷_) rest
+    ap (λ (a : FirstLine). valuesOf (a .hull) [] (a .frame) ∷ valuesFrom (inside h start) ls) (first-passes l (passes begin 1 l ls c e))
+    ∙ ap (valuesOf h [] Frame.Hull ∷_) rest
     ∙ rw (zero-add (length (c .rows)), accounts ls h start 2 c refl (omega arith) after .hull) refl
 
 pub lines-say-the-case : LinesSayTheCase

@@ -76,7 +76,7 @@ unfolding read
 printed-accepted = refl
 
 -- what its lines are judged to be, in document 01's numbers
-printed-values : valuesFrom begin (lines printed) ≡ (1 ∷ 9900 ∷ 1600 ∷ 6000 ∷ 4000 ∷ 2 ∷ 1500 ∷ []) ∷ (2 ∷ 1 ∷ 1 ∷ 800 ∷ 18500 ∷ []) ∷ (3 ∷ 1 ∷ 2 ∷ 800 ∷ 18500 ∷ []) ∷ (3 ∷ 2 ∷ 1 ∷ 800 ∷ 18500 ∷ []) ∷ (15 ∷ 3 ∷ []) ∷ []
+printed-values : valuesFrom begin (lines printed) ≡ (1 ∷ 9900 ∷ 1600 ∷ 6000 ∷ 4000 ∷ 2 ∷ 1500 ∷ []) ∷ (2 ∷ 1 ∷ 1 ∷ 800 ∷ 18500 ∷ 30 ∷ 400 ∷ 0 ∷ 30 ∷ 400 ∷ 0 ∷ 30 ∷ 400 ∷ 0 ∷ []) ∷ (3 ∷ 1 ∷ 2 ∷ 800 ∷ 18500 ∷ 0 ∷ 0 ∷ 0 ∷ []) ∷ (3 ∷ 2 ∷ 1 ∷ 800 ∷ 18500 ∷ 10000 ∷ 10000 ∷ 10000 ∷ []) ∷ (15 ∷ 3 ∷ []) ∷ []
 unfolding read firstJudged frameOf judged valuesFrom
 printed-values = refl
 

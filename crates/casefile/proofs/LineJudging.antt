@@ -11,9 +11,10 @@ use Rattle.records.specs.declared.Hull.{Hull}
 use Rattle.lines.specs.Lines.{Line}
 use Rattle.hexadecimal.specs.Hex.{pairs}
 use Rattle.fields.specs.Fields.{byteAt, wordAt}
+use Rattle.fields.proofs.Fields.{word-drop}
 use Rattle.casefile.specs.declared.Frame.{Frame}
 use Rattle.casefile.specs.declared.Progress.{Progress}
-use Rattle.casefile.specs.Layout.{kindOf, fieldsOf, isRow, hullOf, headOf, rowOf, countOf, innerOf}
+use Rattle.casefile.specs.Layout.{kindOf, fieldsOf, isRow, hullOf, headOf, findingOf, resultsOf, rowOf, countOf, resultNumbers}
 use Rattle.casefile.specs.Table.{firstHolds, hullChecks, lineChecks}
 use Rattle.casefile.specs.Reading.{Stage, begin, inside, checks}
 use Rattle.casefile.specs.Answer.{numberOf, valuesOf, givenFirst, refusedFirst, unlessRefused, firstJudged, frameOf, judged, SaysTheLine, frameAt}
@@ -43,7 +44,7 @@ module _ (l : Line) where
   first-says-number = let k : ℕ = firstHolds (hullChecks l) in ap (λ a. numberOf (a .frame)) (first-by k refl) ∙ number-first k (eqb k 0) refl
 
   -- the fields of a hull's line: the numbers after the zone count are its inner bulkheads
-  hull-values : (p : HullPasses l) → let f = fieldsOf (pairs (l .text)) in valuesOf hull (Frame.Hull (hull .zones))
+  hull-values : (p : HullPasses l) → let f = fieldsOf (pairs (l .text)) in valuesOf hull [] Frame.Hull
       ≡ kindOf (pairs (l .text)) ∷ wordAt f 0 ∷ wordAt f 2 ∷ wordAt f 4 ∷ wordAt f 6 ∷ byteAt f 8 ∷ tabulate (λ i. wordAt f (9 + 2 * i)) (byteAt f 8 - 1)
   unfolding hullOf
   hull-values p =
@@ -77,6 +78,15 @@ module _ (h : Hull) (p : Progress) (l : Line) where
 
 -- ---- what the answer says
 
+-- the results' numbers are those that stand after a, n, b and H
+results-read : (kind : ℕ) (f : List ℕ) → resultNumbers kind (resultsOf kind f) ≡ tabulate (λ i. wordAt f (6 + 2 * i)) (cond (eqb kind 2) 9 3)
+unfolding resultsOf findingOf tabulate
+results-read kind f = by (eqb kind 2) refl
+  where
+    by : (t : Bool) → eqb kind 2 ≡ t → resultNumbers kind (resultsOf kind f) ≡ tabulate (λ i. wordAt f (6 + 2 * i)) (cond (eqb kind 2) 9 3)
+    by true t = rw (t, word-drop 6 0 f, word-drop 6 2 f, word-drop 6 4 f, word-drop 12 0 f, word-drop 12 2 f, word-drop 12 4 f, word-drop 18 0 f, word-drop 18 2 f, word-drop 18 4 f) refl
+    by false t = rw (t, word-drop 6 0 f, word-drop 8 0 f, word-drop 10 0 f) refl
+
 number-case : (k : ℕ) (f : Frame) (t : Bool) → eqb k 0 ≡ t → numberOf f ≡ 0 → numberOf (cond t f (Frame.Wrong k)) ≡ k
 number-case k f true e z = z ∙ sym (eqb-true k 0 e)
 number-case k f false e z = refl
@@ -95,10 +105,13 @@ pub says-the-line : SaysTheLine
 unfolding headOf
 says-the-line = record {
   first-number = first-says-number;
-  hull = λ l e. ap (λ a. valuesOf (a .hull) (a .frame)) (first-passes l e) ∙ hull-values l (hull-passes l e);
+  hull = λ l e. ap (λ a. valuesOf (a .hull) [] (a .frame)) (first-passes l e) ∙ hull-values l (hull-passes l e);
   number = λ h p l. let k : ℕ = firstHolds (lineChecks h p l) in ap numberOf (by-number h p l k refl) ∙ number-case k (frameOf (pairs (l .text))) (eqb k 0) refl (frame-number (pairs (l .text)));
-  row = λ h p l e k. ap (valuesOf h) (row-judged h p l e k);
-  end = λ h p l e k. ap (valuesOf h) (end-judged h p l e k) ∙ ap (_∷ wordAt (fieldsOf (pairs (l .text))) 0 ∷ []) (end-kind h p l e k);
+  row = λ h p l e k.
+      let kind : ℕ = kindOf (pairs (l .text)) in
+      let f : List ℕ = fieldsOf (pairs (l .text)) in
+      ap (valuesOf h (resultsOf kind f)) (row-judged h p l e k) ∙ ap (λ ns. kind ∷ byteAt f 0 ∷ byteAt f 1 ∷ wordAt f 2 ∷ wordAt f 4 ∷ ns) (results-read kind f);
+  end = λ h p l e k. ap (valuesOf h []) (end-judged h p l e k) ∙ ap (_∷ wordAt (fieldsOf (pairs (l .text))) 0 ∷ []) (end-kind h p l e k);
 }
 
 -- ---- the lines in turn

@@ -70,13 +70,13 @@ module _ (h : Hull) (p : Progress) (l : Line) where
   end-case c true false e g = let z : countOf bytes ≡ c = cc in (eqb-true number 0 e, refl, sym z)
   end-case c false u e g = let z : _≡_ {A = ℕ} 0 1 = cc in absurd (omega arith)
 
-  hull-case : {m : ℕ} (t u : Bool) → cond t (cond u (Frame.Row (rowOf bytes .head)) (Frame.End (countOf bytes))) (Frame.Wrong number) ≡ Frame.Hull m → ⊥
+  hull-case : (t u : Bool) → cond t (cond u (Frame.Row (rowOf bytes .head)) (Frame.End (countOf bytes))) (Frame.Wrong number) ≡ Frame.Hull → ⊥
   hull-case true true g = let z : _≡_ {A = ℕ} 0 1 = cc in omega arith
   hull-case true false g = let z : _≡_ {A = ℕ} 0 1 = cc in omega arith
   hull-case false u g = let z : _≡_ {A = ℕ} 0 1 = cc in omega arith
 
   -- no later line is judged to be a hull
-  pub judged-no-hull : {m : ℕ} → judged h p l ≡ Frame.Hull m → ⊥
+  pub judged-no-hull : judged h p l ≡ Frame.Hull → ⊥
   unfolding judged frameOf
   judged-no-hull e = hull-case (eqb number 0) (isRow (kindOf bytes)) e
 

@@ -6,10 +6,10 @@ use mathlib.Core.Logic.{_↔_}
 use lib.ListN.{length}
 use Rattle.lines.specs.Lines.{Line, lines}
 use Rattle.casefile.specs.Record.{Row, Case}
-use Rattle.casefile.specs.Layout.{innerOf}
+use Rattle.casefile.specs.Layout.{resultNumbers, innerOf}
 use Rattle.casefile.specs.Limits.{longestInput}
 use Rattle.casefile.specs.Reading.{accepted, Stage, begin, next, reading}
-use Rattle.casefile.specs.Answer.{valuesOf, frameAt, hullAt}
+use Rattle.casefile.specs.Answer.{valuesOf, frameAt, hullAt, resultsAt}
 use Rattle.casefile.specs.Encode.{encode}
 use Rattle.casefile.specs.Valid.{Valid}
 
@@ -22,11 +22,11 @@ Acceptance = (f : List ℕ) (c : Case) → (reading f ≡ accepted c) ↔ ((leng
 -- the values of lines in turn, from a stage on
 unfoldable pub valuesFrom : Stage → List Line → List (List ℕ)
 valuesFrom s [] = []
-valuesFrom s (l ∷ ls) = valuesOf (hullAt s l) (frameAt s l) ∷ valuesFrom (next s l) ls
+valuesFrom s (l ∷ ls) = valuesOf (hullAt s l) (resultsAt s l) (frameAt s l) ∷ valuesFrom (next s l) ls
 
--- a row's values: its kind, a, n, b and H
+-- a row's values: its kind, a, n, b, H, and its results
 abbrev pub rowValues : Row → List ℕ
-rowValues r = r .head .kind ∷ r .head .first ∷ r .head .count ∷ r .head .depth ∷ r .head .height ∷ []
+rowValues r = r .head .kind ∷ r .head .first ∷ r .head .count ∷ r .head .depth ∷ r .head .height ∷ resultNumbers (r .head .kind) (r .results)
 
 -- the rows and the end that counts them
 abbrev pub valuesAfter : List Row → ℕ → List (List ℕ)

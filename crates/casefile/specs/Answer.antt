@@ -6,6 +6,7 @@ use mathlib.Core.List.{List, [], _∷_}
 use lib.ListN.{length, replicate}
 use lib.Dec.{eqb}
 use Rattle.laws.specs.Lists.{tabulate}
+use Rattle.records.specs.declared.Finding.{Finding}
 use Rattle.records.specs.declared.Hull.{Hull}
 use Rattle.lines.specs.Lines.{Line}
 use Rattle.hexadecimal.specs.Hex.{pairs}
@@ -14,7 +15,7 @@ use Rattle.casefile.specs.declared.FirstLine.{FirstLine}
 use Rattle.casefile.specs.declared.Frame.{Frame}
 use Rattle.casefile.specs.declared.Progress.{Progress}
 use Rattle.casefile.specs.declared.Judgement.{Judgement}
-use Rattle.casefile.specs.Layout.{kindOf, fieldsOf, isRow, hullOf, rowOf, countOf, innerOf}
+use Rattle.casefile.specs.Layout.{kindOf, fieldsOf, isRow, hullOf, resultsOf, rowOf, countOf, resultNumbers, innerOf}
 use Rattle.casefile.specs.Table.{firstHolds, hullChecks, lineChecks}
 use Rattle.casefile.specs.Reading.{Reading, refused, accepted, Stage, begin, inside}
 
@@ -22,17 +23,18 @@ use Rattle.casefile.specs.Reading.{Reading, refused, accepted, Stage, be
 
 -- the refusal's number, 0 where the line passes
 abbrev pub numberOf : Frame → ℕ
-numberOf (Frame.Hull m) = 0
+numberOf Frame.Hull = 0
 numberOf (Frame.Row r) = 0
 numberOf (Frame.End count) = 0
 numberOf (Frame.Wrong k) = k
 
--- the kind and the fields after it, with the hull that is known: 01: Ls, B, ds, dl, zone count, inner bulkheads; 02, 03: a, n, b, H; 0f: row count
-abbrev pub valuesOf : Hull → Frame → List ℕ
-valuesOf h (Frame.Hull m) = 1 ∷ h .length ∷ h .breadth ∷ h .deepest ∷ h .light ∷ m ∷ innerOf h
-valuesOf h (Frame.Row r) = r .kind ∷ r .first ∷ r .count ∷ r .depth ∷ r .height ∷ []
-valuesOf h (Frame.End count) = 15 ∷ count ∷ []
-valuesOf h (Frame.Wrong k) = []
+-- the kind and the fields after it, with what stands beside the frame, a hull and a row's results: 01: Ls, B, ds, dl, zone count, inner bulkheads;
+-- 02, 03: a, n, b, H, and the results; 0f: row count
+abbrev pub valuesOf : Hull → List Finding → Frame → List ℕ
+valuesOf h rs Frame.Hull = 1 ∷ h .length ∷ h .breadth ∷ h .deepest ∷ h .light ∷ h .zones ∷ innerOf h
+valuesOf h rs (Frame.Row r) = r .kind ∷ r .first ∷ r .count ∷ r .depth ∷ r .height ∷ resultNumbers (r .kind) rs
+valuesOf h rs (Frame.End count) = 15 ∷ count ∷ []
+valuesOf h rs (Frame.Wrong k) = []
 
 -- ---- line 1, judged
 
@@ -40,7 +42,7 @@ abbrev pub noHull : Hull
 noHull = record { length = 0; breadth = 0; deepest = 0; light = 0; zones = 0; places = replicate 21 0 }
 
 abbrev pub givenFirst : Hull → FirstLine
-givenFirst h = record { frame = Frame.Hull (h .zones); hull = h }
+givenFirst h = record { frame = Frame.Hull; hull = h }
 
 abbrev pub refusedFirst : ℕ → FirstLine
 refusedFirst k = record { frame = Frame.Wrong k; hull = noHull }
@@ -58,23 +60,27 @@ firstJudged l = unlessRefused (firstHolds (hullChecks l)) (hullOf (fieldsOf (pai
 unfoldable pub frameOf : List ℕ → Frame
 frameOf bs = cond (isRow (kindOf bs)) (Frame.Row (rowOf bs .head)) (Frame.End (countOf bs))
 
--- a line after the hull h, judged: its frame, or the number of the first check that holds
+-- the frame, unless a check gives a number
+abbrev pub unlessWrong : ℕ → Frame → Frame
+unlessWrong k frame = cond (eqb k 0) frame (Frame.Wrong k)
+
 unfoldable pub judged : Hull → Progress → Line → Frame
-judged h p l = let k = firstHolds (lineChecks h p l) in cond (eqb k 0) (frameOf (pairs (l .text))) (Frame.Wrong k)
+judged h p l = unlessWrong (firstHolds (lineChecks h p l)) (frameOf (pairs (l .text)))
 
 -- ---- what an answer says, of either: the number of the first check that holds; or the line's own kind byte and the fields after it
 pub record SaysTheLine : Type 0 where
   pub first-number : (l : Line) → numberOf (firstJudged l .frame) ≡ firstHolds (hullChecks l)
   pub hull : (l : Line) → firstHolds (hullChecks l) ≡ 0 → let f = fieldsOf (pairs (l .text)) in
-      valuesOf (firstJudged l .hull) (firstJudged l .frame)
+      valuesOf (firstJudged l .hull) [] (firstJudged l .frame)
       ≡ kindOf (pairs (l .text)) ∷ wordAt f 0 ∷ wordAt f 2 ∷ wordAt f 4 ∷ wordAt f 6 ∷ byteAt f 8 ∷ tabulate (λ i. wordAt f (9 + 2 * i)) (byteAt f 8 - 1)
   pub number : (h : Hull) (p : Progress) (l : Line) → numberOf (judged h p l) ≡ firstHolds (lineChecks h p l)
   pub row : (h : Hull) (p : Progress) (l : Line) → firstHolds (lineChecks h p l) ≡ 0 → isRow (kindOf (pairs (l .text))) ≡ true →
-      let f = fieldsOf (pairs (l .text)) in valuesOf h (judged h p l) ≡ kindOf (pairs (l .text)) ∷ byteAt f 0 ∷ byteAt f 1 ∷ wordAt f 2 ∷ wordAt f 4 ∷ []
+      let kind = kindOf (pairs (l .text)) in let f = fieldsOf (pairs (l .text)) in
+      valuesOf h (resultsOf kind f) (judged h p l) ≡ kind ∷ byteAt f 0 ∷ byteAt f 1 ∷ wordAt f 2 ∷ wordAt f 4 ∷ tabulate (λ i. wordAt f (6 + 2 * i)) (cond (eqb kind 2) 9 3)
   pub end : (h : Hull) (p : Progress) (l : Line) → firstHolds (lineChecks h p l) ≡ 0 → isRow (kindOf (pairs (l .text))) ≡ false →
-      let f = fieldsOf (pairs (l .text)) in valuesOf h (judged h p l) ≡ kindOf (pairs (l .text)) ∷ wordAt f 0 ∷ []
+      let f = fieldsOf (pairs (l .text)) in valuesOf h [] (judged h p l) ≡ kindOf (pairs (l .text)) ∷ wordAt f 0 ∷ []
 
--- ---- the lines in turn: what a line is at a stage, and the hull that is known with it
+-- ---- the lines in turn: what a line is at a stage, and what stands beside it
 abbrev pub frameAt : Stage → Line → Frame
 frameAt begin l = firstJudged l .frame
 frameAt (inside h p) l = judged h p l
@@ -82,6 +88,10 @@ frameAt (inside h p) l = judged h p l
 abbrev pub hullAt : Stage → Line → Hull
 hullAt begin l = firstJudged l .hull
 hullAt (inside h p) l = h
+
+abbrev pub resultsAt : Stage → Line → List Finding
+resultsAt begin l = []
+resultsAt (inside h p) l = rowOf (pairs (l .text)) .results
 
 -- ---- a file
 

@@ -14,13 +14,9 @@ use Rattle.casefile.specs.Layout.{kindOf, isRow, hullLength, rowOf, coun
 use Rattle.casefile.specs.Limits.{sizesFit, zonesFit}
 use Rattle.casefile.specs.Table.{_when_, firstHolds, wrongFrame, rowChecks, endChecks}
 use Rattle.casefile.specs.Reading.{refused, withEnd}
-use Rattle.casefile.specs.Answer.{unlessRefused, judgementOf}
+use Rattle.casefile.specs.Answer.{unlessRefused, unlessWrong, judgementOf}
 
 -- ---- a line after the hull
-
--- the frame, unless a check gives a number
-abbrev pub unlessWrong : ℕ → Frame → Frame
-unlessWrong k frame = cond (eqb k 0) frame (Frame.Wrong k)
 
 unfoldable pub rowJudged : Hull → Progress → Row → Frame
 rowJudged h p r = unlessWrong (firstHolds (rowChecks h p r)) (Frame.Row (r .head))
@@ -46,7 +42,7 @@ hullJudged h n = unlessRefused (hullNumber h n) h
 
 -- what is known after a line's frame, or the refusal with the line n: a hull stands in line 1 alone
 abbrev pub stepped : Frame → Progress → ℕ → Step
-stepped (Frame.Hull m) p n = Step.Refused 3 n
+stepped Frame.Hull p n = Step.Refused 3 n
 stepped (Frame.Row r) p n = Step.Next (record { rows = p .rows + 1; last = r; ended = false })
 stepped (Frame.End count) p n = Step.Next (withEnd p)
 stepped (Frame.Wrong k) p n = Step.Refused k n

@@ -83,6 +83,14 @@ unfoldable pub resultsOf : ℕ → List ℕ → List Finding
 resultsOf kind f =
     findingOf kind (drop 6 f) ∷ findingOf kind (drop (6 + setLength kind) f) ∷ findingOf kind (drop (6 + 2 * setLength kind) f) ∷ []
 
+-- a result's numbers, those of its kind; and those of a row's results
+abbrev pub findingNumbers : ℕ → Finding → List ℕ
+findingNumbers kind r = cond (eqb kind 2) (r .lever ∷ r .range ∷ r .heel ∷ []) (r .given ∷ [])
+
+abbrev pub resultNumbers : ℕ → List Finding → List ℕ
+resultNumbers kind [] = []
+resultNumbers kind (r ∷ rs) = findingNumbers kind r ++ resultNumbers kind rs
+
 -- the row of a frame's bytes
 abbrev pub rowOf : List ℕ → Row
 rowOf bs = record { head = headOf (kindOf bs) (fieldsOf bs); results = resultsOf (kindOf bs) (fieldsOf bs) }

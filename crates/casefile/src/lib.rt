@@ -2,15 +2,16 @@
 use records::Hull;
 use records::RowHead;
 
-// What a line is: a hull of so many zones, a row's head, the end's count, or a refusal's number. A hull's places are an array: they stand beside it.
+// What a line is: a hull, a row by its head, the end with its count, or a refusal's number. A hull's places and a row's results are arrays, and stand
+// beside it.
 pub enum Frame {
-    Hull(usize),
+    Hull,
     Row(RowHead),
     End(u64),
     Wrong(u64),
 }
 
-// What line 1 is, and beside it the hull that it gives: no places and zeros where it is refused.
+// What line 1 is, and beside it the hull that it gives: zeros where it is refused.
 pub struct FirstLine {
     pub frame: Frame,
     pub hull: Hull,

@@ -18,10 +18,11 @@ use Rattle.frames.specs.Decoding.{writtenOf}
 use Rattle.fields.specs.Fields.{byteAt, wordAt}
 use Rattle.frames.proofs.CodeDecoding.{well-written, byte-stored}
 use Rattle.casefile.specs.declared.FirstLine.{FirstLine}
+use Rattle.casefile.specs.declared.Frame.{Frame}
 use Rattle.casefile.specs.Layout.{kindOf, fieldsOf, placeOf, hullOf}
 use Rattle.casefile.specs.Limits.{between, sizesFit, zonesFit}
 use Rattle.casefile.specs.Table.{firstHolds, wrongHullFrame, wrongZones, hullChecks}
-use Rattle.casefile.specs.Answer.{givenFirst, refusedFirst, firstJudged}
+use Rattle.casefile.specs.Answer.{noHull, givenFirst, refusedFirst, firstJudged}
 use Rattle.casefile.specs.Judging.{hullNumber, hullJudged}
 use Rattle.casefile.proofs.Checks.{first-passed}
 
@@ -53,7 +54,10 @@ few-zones h e =
     let (c, d) = both (leb 1 (h .zones)) (leb (h .zones) 20) a in
     leb-true (h .zones) 20 d
 
--- ---- the hull by its number
+-- ---- a refusal, and the hull by its number
+
+pub no-hull-beside : (k : ℕ) (h : Hull) → h ≡ noHull → record { frame = Frame.Wrong k; hull = h } ≡ refusedFirst k
+no-hull-beside k h e = rw e refl
 
 module _ (h g : Hull) (n k : ℕ) (e : h ≡ g) (f : k ≡ hullNumber h n) where
   same : hullNumber g n ≡ k

@@ -1,7 +1,7 @@
 // Line 1: the hull that it gives, or a refusal.
 ghost use mathlib.Core.Path.{_≡_};
 ghost use Rattle.casefile.specs.Layout.{hullOf};
-ghost use Rattle.casefile.specs.Answer.{refusedFirst, firstJudged};
+ghost use Rattle.casefile.specs.Answer.{noHull, refusedFirst, firstJudged};
 ghost use Rattle.casefile.specs.Judging.{hullNumber, hullJudged};
 use casefile::FirstLine;
 use casefile::Frame;
@@ -10,18 +10,25 @@ use records::Hull;
 
 mod readers; // the hull's record from fields
 
-// A refusal's number, and no hull.
-fn refused(number: u64) -> FirstLine
-    ensures { λ r. ⌜ r ≡ refusedFirst number ⌝ }
+// No hull: zeros.
+pub fn no_hull() -> Hull
+    ensures { λ r. ⌜ r ≡ noHull ⌝ }
 {
-    let none = Hull {
+    Hull {
         length: 0,
         breadth: 0,
         deepest: 0,
         light: 0,
         zones: 0,
         places: [0; 21],
-    };
+    }
+}
+
+// A refusal's number, and no hull.
+fn refused(number: u64) -> FirstLine
+    ensures { λ r. ⌜ r ≡ refusedFirst number ⌝ }
+{
+    let none = no_hull();
     FirstLine {
         frame: Frame::Wrong(number),
         hull: none,
@@ -55,7 +62,7 @@ fn judge_hull(f: &[u8], n: usize) -> FirstLine
         return refused(number);
     }
     FirstLine {
-        frame: Frame::Hull(h.zones),
+        frame: Frame::Hull,
         hull: h,
     }
 }

@@ -23,8 +23,8 @@ use Rattle.casefile.specs.Layout.{kindOf, isRow, frameLength, headOf, resultsOf
 use Rattle.casefile.specs.Limits.{rowFits}
 use Rattle.casefile.specs.Order.{outOfOrder, leavesOpen, endsOpen}
 use Rattle.casefile.specs.Table.{_when_, firstHolds, wrongFrame, rowChecks, endChecks, lineChecks}
-use Rattle.casefile.specs.Answer.{frameOf, judged}
-use Rattle.casefile.specs.Judging.{unlessWrong, rowJudged, endJudged, frameJudged}
+use Rattle.casefile.specs.Answer.{unlessWrong, frameOf, judged}
+use Rattle.casefile.specs.Judging.{rowJudged, endJudged, frameJudged}
 use Rattle.casefile.proofs.Checks.{first-passed}
 use Rattle.rowlines.proofs.CodeFrames.{row-kind, right-row, right-end, part, frame-too-long}
 

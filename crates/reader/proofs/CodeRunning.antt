@@ -29,7 +29,7 @@ use Rattle.casefile.specs.Kept.{keptRow, keptRows, Keeps}
 use Rattle.casefile.specs.Limits.{longestInput, mostRows}
 use Rattle.casefile.specs.Table.{firstHolds, hullChecks}
 use Rattle.casefile.specs.Reading.{Reading, refused, begin, inside, start, withEnd, readFrom, reading}
-use Rattle.casefile.specs.Answer.{numberOf, firstJudged, judged, judgementOf}
+use Rattle.casefile.specs.Answer.{numberOf, noHull, firstJudged, judged, judgementOf}
 use Rattle.casefile.specs.Judging.{stepped, judgementAt}
 use Rattle.casefile.proofs.Steps.{not-too-long, no-line, line-passes, line-refused, row-goes-on, end-goes-on, judged-no-hull, wrong-stops, row-counts, row-passes-as, after, after-none, after-row, after-end, no-end}
 use Rattle.casefile.proofs.LineJudging.{first-passes, first-says-number}
@@ -55,7 +55,7 @@ module _ (h : Hull) (p : Progress) (l : Line) (n : ℕ) (ls : List Line) (few : 
   stay = sym (same-rows kept was (25 * p .rows) (w .before) (p .rows) 0 (omega arith))
 
   by-frame : (f : Frame) → judged h p l ≡ f → Taken (stepped f p n)
-  by-frame (Frame.Hull m) e = absurd (judged-no-hull h p l e)
+  by-frame Frame.Hull e = absurd (judged-no-hull h p l e)
   by-frame (Frame.Row r) e =
       let fewer : p .rows < mostRows = row-counts h p l r e in
       let row : Row = rowOf (pairs (l .text)) in
@@ -128,6 +128,9 @@ module _ (input : List ℕ) (h : Hull) (from m size : ℕ) (was : List ℕ) (p :
 
 -- ---- the whole input
 
+pub refusal-is : (k l : ℕ) (h : Hull) → h ≡ noHull → record { number = k; line = l; rows = 0; hull = h } ≡ judgementOf (refused k l)
+refusal-is k l h e = rw e refl
+
 -- what a judgement and the buffer say of a reading
 abbrev pub Told : Reading → Judgement → List ℕ → Type 0
 Told r j kept = (j ≡ judgementOf r) × Keeps r kept
@@ -143,21 +146,21 @@ module _ (l : Line) (ls : List Line) (o : FirstLine) (g : o ≡ firstJudged l) w
   number-is : numberOf (o .frame) ≡ firstHolds (hullChecks l)
   number-is = ap (λ (a : FirstLine). numberOf (a .frame)) g ∙ first-says-number l
 
-  first-stops : ((m : ℕ) → o .frame ≡ Frame.Hull m → ⊥) → readFrom begin 1 (l ∷ ls) ≡ refused (numberOf (o .frame)) 1
+  first-stops : (o .frame ≡ Frame.Hull → ⊥) → readFrom begin 1 (l ∷ ls) ≡ refused (numberOf (o .frame)) 1
   first-stops n =
-      line-refused begin 1 l ls (numberOf (o .frame)) (sym number-is) (λ z. n _ (ap (λ (a : FirstLine). a .frame) (g ∙ first-passes l (sym number-is ∙ z))))
+      line-refused begin 1 l ls (numberOf (o .frame)) (sym number-is) (λ z. n (ap (λ (a : FirstLine). a .frame) (g ∙ first-passes l (sym number-is ∙ z))))
 
-  first-goes-on : {m : ℕ} → o .frame ≡ Frame.Hull m → readFrom (inside (o .hull) start) 2 ls ≡ readFrom begin 1 (l ∷ ls)
+  first-goes-on : o .frame ≡ Frame.Hull → readFrom (inside (o .hull) start) 2 ls ≡ readFrom begin 1 (l ∷ ls)
   first-goes-on e = let p : firstHolds (hullChecks l) ≡ 0 = sym number-is ∙ ap numberOf e in rw (g ∙ first-passes l p) (sym (line-passes begin 1 l ls p))
 
 -- a frame of another kind than a hull
-pub no-hull : (f : Frame) → OneOf (1 ∷ 2 ∷ 3 ∷ []) (tagOf the-type f) → (m : ℕ) → f ≡ Frame.Hull m → ⊥
-no-hull (Frame.Hull k) (inl e) m g = omega (arith, e)
-no-hull (Frame.Hull k) (inr (inl e)) m g = omega (arith, e)
-no-hull (Frame.Hull k) (inr (inr e)) m g = omega (arith, e)
-no-hull (Frame.Row r) o m g = let z : _≡_ {A = ℕ} 0 1 = cc in omega arith
-no-hull (Frame.End c) o m g = let z : _≡_ {A = ℕ} 0 1 = cc in omega arith
-no-hull (Frame.Wrong c) o m g = let z : _≡_ {A = ℕ} 0 1 = cc in omega arith
+pub no-hull : (f : Frame) → OneOf (1 ∷ 2 ∷ 3 ∷ []) (tagOf the-type f) → f ≡ Frame.Hull → ⊥
+no-hull Frame.Hull (inl e) g = omega (arith, e)
+no-hull Frame.Hull (inr (inl e)) g = omega (arith, e)
+no-hull Frame.Hull (inr (inr e)) g = omega (arith, e)
+no-hull (Frame.Row r) o g = let z : _≡_ {A = ℕ} 0 1 = cc in omega arith
+no-hull (Frame.End c) o g = let z : _≡_ {A = ℕ} 0 1 = cc in omega arith
+no-hull (Frame.Wrong c) o g = let z : _≡_ {A = ℕ} 0 1 = cc in omega arith
 
 module _ (f : List ℕ) (few : length f ≤ longestInput) (some : 0 < length f) (end : ℕ) (e : end ≡ 0 + lineLength (drop 0 f)) where
   abbrev opening : Line
@@ -167,10 +170,10 @@ module _ (f : List ℕ) (few : length f ≤ longestInput) (some : 0 < length f) 
   opens = not-too-long f few ∙ ap (readFrom begin 1) (lines-next f 0 end e some ∙ rw (sub-zero end) refl)
 
   module _ (o : FirstLine) (g : o ≡ firstJudged opening) (kept : List ℕ) where
-    pub input-stops : ((m : ℕ) → o .frame ≡ Frame.Hull m → ⊥) → (k : ℕ) → k ≡ numberOf (o .frame) → (r : Judgement) → r ≡ judgementOf (refused k 1) → Told (reading f) r kept
+    pub input-stops : (o .frame ≡ Frame.Hull → ⊥) → (k : ℕ) → k ≡ numberOf (o .frame) → (r : Judgement) → r ≡ judgementOf (refused k 1) → Told (reading f) r kept
     input-stops n k is r d = told-refused kept (opens ∙ first-stops opening (lines (drop (end + 1) f)) o g n) (rw is at d)
 
-    pub input-goes-on : {m : ℕ} → o .frame ≡ Frame.Hull m → (r : Judgement) → Told (readFrom (inside (o .hull) start) 2 (lines (drop (end + 1) f))) r kept → Told (reading f) r kept
+    pub input-goes-on : o .frame ≡ Frame.Hull → (r : Judgement) → Told (readFrom (inside (o .hull) start) 2 (lines (drop (end + 1) f))) r kept → Told (reading f) r kept
     input-goes-on n r d =
         let same : readFrom (inside (o .hull) start) 2 (lines (drop (end + 1) f)) ≡ reading f = first-goes-on opening (lines (drop (end + 1) f)) o g n ∙ sym opens in
         rw same at d

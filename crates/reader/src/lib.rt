@@ -19,14 +19,7 @@ use records::RowHead;
 fn refusal(number: u64, line: u64) -> Judgement
     ensures { λ r. ⌜ r ≡ judgementOf (refused number line) ⌝ }
 {
-    let none = Hull {
-        length: 0,
-        breadth: 0,
-        deepest: 0,
-        light: 0,
-        zones: 0,
-        places: [0; 21],
-    };
+    let none = hulls::no_hull();
     Judgement {
         number,
         line,
@@ -40,7 +33,7 @@ fn number_of(frame: Frame) -> u64
     ensures { λ r. ⌜ r ≡ numberOf frame ⌝ }
 {
     match frame {
-        Frame::Hull(_) => 0,
+        Frame::Hull => 0,
         Frame::Row(_) => 0,
         Frame::End(_) => 0,
         Frame::Wrong(number) => number,
@@ -55,7 +48,7 @@ fn step(frame: Frame, p: Progress, line: u64) -> Step
     let rows = p.rows;
     let last = p.last;
     match frame {
-        Frame::Hull(_) => Step::Refused(3, line),
+        Frame::Hull => Step::Refused(3, line),
         Frame::Row(head) => Step::Next(Progress {
             rows: rows + 1,
             last: head,
@@ -152,7 +145,7 @@ pub fn judge(input: &[u8], kept: &mut [u8]) -> Judgement
     let first = hulls::judge_first(&input[..end], closed);
     let frame = first.frame;
     let h = first.hull;
-    let Frame::Hull(_) = frame else {
+    let Frame::Hull = frame else {
         return refusal(number_of(frame), 1);
     };
     judge_rows(input, h, end + 1, 2, kept)

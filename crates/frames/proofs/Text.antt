@@ -1,11 +1,17 @@
 -- What is said of a line's text has the table's number, and the count of its bytes. Assumes nothing.
 use mathlib.Core.Path.{_≡_, refl}
 use mathlib.Core.Bool.{Bool, true, false, true≢false}
+use mathlib.Core.List.{[], _∷_}
 use native.Mathlib.Omega.{arith}
 use Rattle.lines.specs.Lines.{Line}
-use Rattle.hexadecimal.specs.Hex.{proper, badlyWritten}
+use Rattle.hexadecimal.specs.Hex.{digitOf, digitsOnly, proper, badlyWritten}
 use Rattle.hexadecimal.proofs.Pairs.{length-pairs}
-use Rattle.frames.specs.Decoding.{writtenOf, Numbered, SaysTheText}
+use Rattle.frames.specs.Decoding.{writtenOf, writtenNumber, writtenCount, Numbered, SaysTheText}
+
+-- worked out: g0 is badly written, 0f writes one byte
+pub two-texts : (writtenNumber (writtenOf (103 ∷ 48 ∷ [])) ≡ 2) × (writtenNumber (writtenOf (48 ∷ 102 ∷ [])) ≡ 0) × (writtenCount (writtenOf (48 ∷ 102 ∷ [])) ≡ 1)
+unfolding writtenOf proper digitsOnly digitOf
+two-texts = (refl, refl, refl)
 
 module _ (l : Line) (closed : l .closed ≡ true) where
   by : (t : Bool) → proper (l .text) ≡ t → Numbered l

@@ -8,6 +8,7 @@ Exit status: 0 meets, 2 fails, 3 unsettled, 4 refused; 1 where the input or the 
 
 import argparse
 import ctypes
+import signal
 import sys
 from pathlib import Path
 
@@ -43,7 +44,7 @@ CANNOT, REFUSED = 1, 4
 
 def load(path):
     """The library of a path, its functions declared. CDLL lets other threads of Python run during a call, and calls may run at the same time."""
-    library = ctypes.CDLL(str(path))
+    library = ctypes.CDLL(str(Path(path).resolve() if Path(path).exists() else path))  # a bare name is looked for by the loader
     numbers = ctypes.POINTER(ctypes.c_uint64)
     # bytes go as c_char_p with their length beside it, so that a zero byte among them is nothing special
     library.damindex_version.argtypes = []
@@ -119,4 +120,5 @@ def main():
 
 
 if __name__ == "__main__":
+    signal.signal(signal.SIGPIPE, signal.SIG_DFL)  # where nobody reads on, it ends without a word
     sys.exit(main())

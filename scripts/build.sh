@@ -1,12 +1,12 @@
 # Builds the program for ./damindex, which reads this where it has to: `rt` proves the crates that it stands on, compiles and links it. Tells how far
 # it is on standard error, in one changing line on a terminal; what `rt` says goes to a log. Ends with status 2 where the program is not built.
 
-log=$here/target/build.log builder= teller= memory=
+log=$here/target/build.log builder= teller= memory= columns=72
 
 say() { printf 'damindex: %s\n' "$*" >&2; }
 
-# over TEXT: in place of what stands in the terminal's line
-over() { printf '\r%-72s\r%s' '' "$*" >&2; }
+# over TEXT: in place of what stands in the terminal's line, as much of it as goes in
+over() { printf '\r\033[K%.*s' "$columns" "$*" >&2; }
 
 seconds() { echo $(($(date +%s) - begun)); }
 
@@ -28,19 +28,27 @@ crates() {
 # the crates that the log has as proved so far: how many, how many of them anew, and the last
 proved() { awk '/^rt: [^ ]+ proved \(/ { all++; anew += !/unchanged/; last = $2 } END { print all + 0, anew + 0, last }' "$log"; }
 
-# what the log has beside the crates that are proved, and those that were not tried because of another; long lines cut
-why() { awk '!/^rt: [^ ]+ (proved \(|NOT PROVED: its dependency)/ { print (length($0) <= 240 ? $0 : substr($0, 1, 240) " ..") }' "$log"; }
+# what the log has of a failure, the first error before the rest: not what is proved, nor what was not tried because of another; long lines cut
+why() {
+    awk '
+        /: proved$/ || /^rt: [^ ]+ (proved \(|NOT PROVED: its dependency)/ || /^(library|logic|crate) / || /^logic=/ { next }
+        { text = length($0) <= 240 ? $0 : substr($0, 1, 240) " .." }
+        first == "" && / error: / { first = text; next }
+        { rest[++count] = text }
+        END {
+            if (first != "") print first
+            for (i = count > 11 ? count - 10 : 1; i <= count; i++) print rest[i]
+        }' "$log"
+}
 
 # the changing line, every second, as long as this script runs
 tell() {
     while kill -0 $$ 2>/dev/null; do
-        proved | {
-            read -r all anew last
-            case $all in
-                0) over "damindex: building, $n crates to prove, $(seconds) s" ;;
-                *) over "damindex: building, crate $all of $n proved ($last), $(seconds) s" ;;
-            esac
-        }
+        set -- $(proved) # read and printed by this process itself, so that nothing is printed after it has ended
+        case $1 in
+            0) over "damindex: building, $n crates to prove, $(seconds) s" ;;
+            *) over "damindex: building, crate $1 of $n proved ($3), $(seconds) s" ;;
+        esac
         sleep 1 </dev/null >/dev/null 2>&1
     done
 }
@@ -81,6 +89,7 @@ build() {
     (CDPATH='' cd -- "$here" && exec $(command -v setsid) rt check damindex) </dev/null >"$log" 2>&1 &
     builder=$!
     if [ -t 2 ]; then
+        size=$(stty size <&2 2>/dev/null) && [ "${size#* }" -gt 1 ] && columns=$((${size#* } - 1))
         tell 9>&- &
         teller=$!
     else
@@ -91,7 +100,7 @@ build() {
     tidy
     trap - HUP INT TERM
     if [ $status != 0 ] || ! [ -x "$program" ]; then
-        why | tail -n 12 >&2
+        why >&2
         say "the build failed (rt check damindex, status $status); all that rt said is in $log"
         exit 2
     fi
@@ -103,6 +112,10 @@ build() {
 }
 
 if ! command -v rt >/dev/null; then
+    if [ $# != 0 ]; then
+        say "--build needs the Rattle kit's command rt, which is not on the path: see $here/README.md"
+        exit 2
+    fi
     state='not built yet'
     [ ! -f "$program" ] || state='older than its code, or its build was broken off'
     say "the program is $state, and the Rattle kit's command rt, which builds it, is not on the path: see $here/README.md"

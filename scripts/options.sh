@@ -8,7 +8,10 @@ wrong() { # WHAT
 for word in "$@"; do
     case $word in
         -h | --help | --build) ;;
-        *) wrong "no argument '$word' is taken, and a case file comes on standard input" ;;
+        *)
+            [ ! -f "$word" ] || wrong "a case file comes on standard input, as in ./damindex < '$word'"
+            wrong "no argument '$word' is taken"
+            ;;
     esac
 done
 [ $# = 1 ] || wrong "one argument is taken, and '$2' is a second"

@@ -9,7 +9,7 @@ import time
 from pathlib import Path
 
 ROOT = Path(__file__).resolve().parent.parent
-TOOLS = "awk cat chmod cut date df dirname flock grep mkdir mktemp nproc readlink rm setsid sh sleep tail touch uname".split()
+TOOLS = "awk cat chmod cut date df dirname flock grep mkdir mktemp nproc readlink rm setsid sh sleep stty tail touch uname".split()
 LOADER = "/lib64/ld-linux-x86-64.so.2"
 CASE = b"0f0000\n"
 ANSWER = b"answer to 0f0000\n"
@@ -33,6 +33,10 @@ done
 echo 'rt: solas proved (unchanged since it was last proved)'
 if [ "${FAKE-}" = fails ]; then
     echo "crates/damindex/src/main.rt:7:1: error: the very reason, at length: $(printf '%2000s' x)"
+    for name in a b c d e f g h; do echo "a note: error: of what $name stands on"; done
+    echo 'fn of it: not proved'
+    for name in a b c d e f g h i j k l m n o; do echo "library $name: modules loaded=4 checked=0"; done
+    echo 'logic=not-proved'
     echo 'rt: damindex NOT PROVED (exit 1, 3 s)'
     for name in a b c d e f g h i j k l m n o; do echo "rt: $name NOT PROVED: its dependency damindex is not proved"; done
     echo 'rt: FAILED: damindex'

@@ -1,4 +1,4 @@
-"""The command line: a case file from a path or standard input, its printed answer to standard output."""
+"""The second program: answers a case file, from a path or from standard input, by plain whole numbers and fractions."""
 
 import argparse
 import sys
@@ -32,7 +32,12 @@ def arguments():
 def main():
     """Reads, answers and writes."""
     asked = arguments()
-    data = Path(asked.file).read_bytes() if asked.file else sys.stdin.buffer.read()
+    if not asked.file and sys.stdin.isatty():
+        print("independent: waiting for a case file, closed by Ctrl-D", file=sys.stderr)
+    try:
+        data = Path(asked.file).read_bytes() if asked.file else sys.stdin.buffer.read()
+    except OSError as fault:
+        sys.exit(f"independent: {fault}")
     if asked.exact:
         text = exact_text(reading(data))
     elif asked.settle:

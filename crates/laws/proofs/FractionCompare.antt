@@ -84,7 +84,7 @@ below-then-strictly {f} {g} {h} p q =
 pub test-same : {f f′ g g′ : Fraction} → f ≈ f′ → g ≈ g′ → (f ≼? g) ≡ (f′ ≼? g′)
 test-same {f} {f′} {g} {g′} p q =
     split (f .up * den g + g .down * den f) (g .up * den f + f .down * den g)
-    (λ l. test-passes {f = f} {g = g} (record { cross = l }) ∙ sym (test-passes (≼-trans (≼-of-≈ (≈-sym p)) (≼-trans (record { cross = l }) (≼-of-≈ q)))))
+    (λ l. let m : f ≼ g = record { cross = l } in test-passes m ∙ sym (test-passes (≼-trans (≼-of-≈ (≈-sym p)) (≼-trans m (≼-of-≈ q)))))
     (λ l. let m : g ≺ f = record { cross = omega (arith, l) } in
     test-fails m ∙ sym (test-fails (below-then-strictly (≼-of-≈ (≈-sym q)) (strictly-then-below m (≼-of-≈ p)))))
 

@@ -99,7 +99,8 @@ module _ (c : Case) (v : Valid c) (√ : Fraction) (root : IsRoot √ (under√ 
         let at-deepest = summed q 0 (h .deepest) (le-refl (h .deepest)) (chances.v-first c v) difference Such C each low any (metres c .deepest)
         (λ xs. ≈-refl _) in
         let at-middle = summed q 1 (middle c) (dp-below-deepest (chances.sizes c v .lighter)) (chances.v-second c v) difference Such C each low any
-        (metres c .partial) (λ xs. partial-same (≈-sym middle-is) difference (agrees (millimetres (middle c)) (metres c .partial) (≈-sym middle-is)) (floods xs)) in
+        (metres c .partial)
+        (λ xs. partial-same (≈-sym middle-is) difference (agrees (millimetres (middle c)) (metres c .partial) (≈-sym middle-is)) (floods xs)) in
         let at-light = summed q 2 (h .light) (chances.sizes c v .lighter) (chances.v-third c v) difference Such C each low any (metres c .light)
         (λ xs. ≈-refl _) in
         record {

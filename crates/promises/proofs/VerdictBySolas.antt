@@ -63,7 +63,8 @@ module _ (difference : Boundary → Boundary → Fraction → Fraction) (c : Cas
     at-all : (xs : Thrice (List Fraction)) → AtEach (Each P) (rowsOf c) xs → AtAll (OneEach c) xs
     at-all xs n = (at-deepest (xs .deepest) (n .0), at-partial (xs .partial) (n .1), at-light (xs .light) (n .2))
 
-  reach : (xs : Thrice (List Fraction)) → AtAll (OneEach c) xs → AtAll Such xs → ReachAll (rowsOf c) required mark xs → ReachBySolas difference c √ q xs
+  reach : (xs : Thrice (List Fraction)) → AtAll (OneEach c) xs → AtAll Such xs → ReachAll (rowsOf c) required mark xs →
+      ReachBySolas difference c √ q xs
   reach xs n e all =
       let up = ≼-of-≈ (partial-mark-is-01's (c .hull .length)) in
       record {
@@ -79,15 +80,19 @@ module _ (difference : Boundary → Boundary → Fraction → Fraction) (c : Cas
   short low (atDeepest l) =
       atDeepest (λ xs n. of-equals (sums .same-at-deepest xs (at-deepest _ xs n)) (≈-sym (partial-mark-is-01's (c .hull .length))) (l xs n))
   short low (atPartial l) =
-      atPartial (λ xs n. of-equals (sums .partial .same (low-at-middle c low) xs (at-partial _ xs n)) (≈-sym (partial-mark-is-01's (c .hull .length))) (l xs n))
+      let low-there = low-at-middle c low in
+      atPartial (λ xs n. of-equals (sums .partial .same low-there xs (at-partial _ xs n)) (≈-sym (partial-mark-is-01's (c .hull .length))) (l xs n))
   short low (atLight l) =
       atLight (λ xs n. of-equals (sums .light .same low xs (at-light _ xs n)) (≈-sym (partial-mark-is-01's (c .hull .length))) (l xs n))
 
 pub meets-by-solas : MeetsBySolas
 meets-by-solas f c e √ root q one xs n =
     let sums = sums-of-solas f c e √ root q in
-    let none : AtAll NoneNegative xs =
-    (none-negative (rowsOf c .deepest) (xs .deepest) (n .0), none-negative (rowsOf c .partial) (xs .partial) (n .1), none-negative (rowsOf c .light) (xs .light) (n .2)) in
+    let none : AtAll NoneNegative xs = (
+      none-negative (rowsOf c .deepest) (xs .deepest) (n .0),
+      none-negative (rowsOf c .partial) (xs .partial) (n .1),
+      none-negative (rowsOf c .light) (xs .light) (n .2),
+    ) in
     reach vm c √ q sums xs (at-all vm c √ q sums _ xs n) none (promise f c e .verdict .meets one xs n)
 
 pub plain-meets-by-solas : PlainMeetsBySolas

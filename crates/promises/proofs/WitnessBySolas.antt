@@ -1,5 +1,5 @@
--- What the verdict is no word on by the regulation's sums, of a ship with a deck more than 12.5 m above its light draught, worked out as numbers: plain
--- differences with survivals that rise within a layer, and "fails". Assumes nothing.
+-- What the verdict is no word on by the regulation's sums, of a ship with a deck more than 12.5 m above its light draught, worked out as numbers:
+-- plain differences with survivals that rise within a layer, and "fails". Assumes nothing.
 use Prim.Native.Nat.{ℕ}
 use mathlib.Core.Path.{refl}
 use mathlib.Core.List.{List, [], _∷_}
@@ -20,7 +20,7 @@ use Rattle.rows.specs.Standing.{stands}
 use Rattle.promises.specs.Rows.{exactRows, rowsOf}
 use Rattle.promises.specs.Sums.{metres, partialAt}
 use Rattle.promises.specs.VerdictBySolas.{mark, ReachBySolas, PlainMeetsIn, FailsIn}
-use Rattle.promises.proofs.WitnessNumbers.{Said, at-most, less-than, not-so}
+use Rattle.promises.proofs.WitnessNumbers.{Said, not-more-than, less-than, not-so}
 use Rattle.promises.proofs.WitnessCases.{highRow, highDeck, answers}
 
 -- one group of one layer
@@ -63,8 +63,8 @@ pub none-below : AtEach NoneBelow (rowsOf rising) xs
 unfolding rowsOf exactRows stands sameGroup sameLayer factorsOf factorOf _less_over_
 none-below =
     let ones : Each (λ n x. (whole 0 ≼ x) × (tenThousandths n ≼ x)) (10000 ∷ 10000 ∷ 10000 ∷ []) (xs .deepest) =
-    ((at-most tt, at-most tt), ((at-most tt, at-most tt), ((at-most tt, at-most tt), tt))) in
-    (ones, ones, ((at-most tt, at-most tt), ((at-most tt, at-most tt), ((at-most tt, at-most tt), tt))))
+    ((not-more-than tt, not-more-than tt), ((not-more-than tt, not-more-than tt), ((not-more-than tt, not-more-than tt), tt))) in
+    (ones, ones, ((not-more-than tt, not-more-than tt), ((not-more-than tt, not-more-than tt), ((not-more-than tt, not-more-than tt), tt))))
 
 module _ (said : PlainMeetsIn rising (whole 1) (grouped 3100 0 10000)) where
   pub not-where-it-rises : Said (said (answers .rising-meets) xs none-below)
@@ -77,20 +77,20 @@ unfolding partialA dA total si inBrackets vm plain held vOf counted v pi pr r G 
     regulation.R regulation.R₀ regulation.partialMark
 plain-falls-short = less-than refl
 
--- ---- 0, 1 and 0: "fails" at 0.2·1, and nothing is said of the regulation's sums
+-- ---- 0.23 up to the second deck and 0 above it: "fails" at 0.23, and nothing is said of the regulation's sums
 abbrev pub raised : Case
-raised = highDeck 0 10000 0
+raised = highDeck 2300 2300 0
 
-module _ (said : FailsIn vm raised (whole 1) (grouped 0 10000 0)) (plain-said : FailsIn plain raised (whole 1) (grouped 0 10000 0)) where
+module _ (said : FailsIn vm raised (whole 1) (grouped 2300 2300 0)) (plain-said : FailsIn plain raised (whole 1) (grouped 2300 2300 0)) where
   pub not-where-it-is-high : Said (said (answers .raised-fails)) × Said (plain-said (answers .raised-fails))
   not-where-it-is-high = (λ low. absurd (omega (arith, low .1 .0 (lit< tt))), λ low. absurd (omega (arith, low .1 .0 (lit< tt))))
 
--- by which it meets: (1.1 - 0.8)·1
-pub meets-all-the-same : ReachBySolas vm raised (whole 1) (grouped 0 10000 0) (survivals (whole 0) (whole 1) (whole 0)) ×
-    ReachBySolas plain raised (whole 1) (grouped 0 10000 0) (survivals (whole 0) (whole 1) (whole 0))
+-- by which it meets: 0.8·0.23 + (1.1 - 0.8)·0.23 is 0.253
+pub meets-all-the-same : ReachBySolas vm raised (whole 1) (grouped 2300 2300 0) (survivals (23 over 100) (23 over 100) (whole 0)) ×
+    ReachBySolas plain raised (whole 1) (grouped 2300 2300 0) (survivals (23 over 100) (23 over 100) (whole 0))
 unfolding partialA dA total si inBrackets vm plain held vOf counted v pi pr r G G2 J0 G1 C Jb p p1or2 p2 p1 Jn J b22 b21 b12 b11 Jk Jm b0 lmax pk Jkn Jmax lesser _≼?_ _⊹_ _⊝_ _⊛_ _⊘_ _less_over_
     regulation.A regulation.dp regulation.R regulation.R₀ regulation.partialMark
 meets-all-the-same = (
-  record { attained = at-most tt; atDeepest = at-most tt; atPartial = at-most tt; atLight = at-most tt },
-  record { attained = at-most tt; atDeepest = at-most tt; atPartial = at-most tt; atLight = at-most tt },
+  record { attained = not-more-than tt; atDeepest = not-more-than tt; atPartial = not-more-than tt; atLight = not-more-than tt },
+  record { attained = not-more-than tt; atDeepest = not-more-than tt; atPartial = not-more-than tt; atLight = not-more-than tt },
 )

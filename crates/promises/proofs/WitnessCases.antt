@@ -88,7 +88,7 @@ tallRow b H = row 3 1 1 b H (given 0 0 0)
 abbrev pub tall : Case
 tall = oneZone (tallRow 400 13800 ∷ tallRow 400 17000 ∷ tallRow 400 18500 ∷ tallRow 800 18500 ∷ [])
 
--- one layer of a ship that lies at 2 m when it is light: its second deck is 14.85 m above that draught. Survivals of 1, and these at the light draught
+-- one layer of a ship that lies at 2 m when it is light: its second deck is 14.85 m above that draught. Survivals of 1, and these when it is light
 abbrev pub highRow : ℕ → ℕ → Row
 highRow H x = row 3 1 1 800 H (given 10000 10000 x)
 
@@ -127,7 +127,7 @@ pub record Answers : Type 0 where
   pub of-failing : answer failing ≡ failingAnswer
   pub of-unsettled : answer unsettled ≡ unsettledAnswer
   pub rising-meets : answer (highDeck 3100 0 10000) .verdict ≡ 1
-  pub raised-fails : answer (highDeck 0 10000 0) .verdict ≡ 2
+  pub raised-fails : answer (highDeck 2300 2300 0) .verdict ≡ 2
 
 pub answers : Answers
 unfolding answer figures partialsOf addsFrom addsAt shareAt stands sameGroup sameLayer

@@ -21,8 +21,8 @@ right f g = g .up * den f + f .down * den g
 abbrev pub Compared : {A : Type 0} {f g : A → Fraction} → ((a : A) → f a ≼ g a) → Type 0
 Compared {A} {f} {g} l = (a : A) → left (f a) (g a) + (right (f a) (g a) - left (f a) (g a)) ≡ right (f a) (g a)
 
-pub at-most : {f g : Fraction} → T (leb (left f g) (right f g)) → f ≼ g
-at-most {f} {g} t = record { cross = leb→le (left f g) (right f g) t }
+pub not-more-than : {f g : Fraction} → T (leb (left f g) (right f g)) → f ≼ g
+not-more-than {f} {g} t = record { cross = leb→le (left f g) (right f g) t }
 
 pub less-than : {f g : Fraction} → suc (left f g) + (right f g - suc (left f g)) ≡ right f g → f ≺ g
 less-than {f} {g} e = record { cross = order (left f g) (right f g) e }

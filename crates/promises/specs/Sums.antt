@@ -81,7 +81,8 @@ module _ (difference : Boundary → Boundary → Fraction → Fraction) (c : Cas
 
   abbrev pub attainedIn : Thrice (List Fraction) → Fraction
   attainedIn xs =
-      regulation.A (partialAt (metres c .deepest) (xs .deepest)) (partialAt (metres c .partial) (xs .partial)) (partialAt (metres c .light) (xs .light))
+      regulation.A (partialAt (metres c .deepest) (xs .deepest)) (partialAt (metres c .partial) (xs .partial))
+      (partialAt (metres c .light) (xs .light))
 
   -- at a draught of d millimetres or D metres, and for the case's rows there: the same where no row but a layer's last is so high; elsewhere the
   -- promises' sum is not above, for such fractions

@@ -1,4 +1,4 @@
--- What a ship's verdict says by the regulation's own sums: document 002's A against its R, and each partial index against half of it. Assumes nothing.
+-- What a ship's verdict says by the regulation's own sums: document 002's A held to R, and each partial index to half of it. Assumes nothing.
 use mathlib.Core.Path.{_≡_}
 use mathlib.Core.List.{List}
 use Rattle.laws.specs.Fraction.{Fraction, _≼_, _≺_}
@@ -34,7 +34,8 @@ module _ (difference : Boundary → Boundary → Fraction → Fraction) (c : Cas
   abbrev pub ShortBySolas : Type 0
   ShortBySolas =
       OneOfFour ((xs : Thrice (List Fraction)) → AtEach NoneAbove (rowsOf c) xs → attainedIn difference c √ q xs ≺ required c)
-      (ShortIn (metres c .deepest) (rowsOf c .deepest)) (ShortIn (metres c .partial) (rowsOf c .partial)) (ShortIn (metres c .light) (rowsOf c .light))
+      (ShortIn (metres c .deepest) (rowsOf c .deepest)) (ShortIn (metres c .partial) (rowsOf c .partial))
+      (ShortIn (metres c .light) (rowsOf c .light))
 
   -- a ship that is said to fail does so, where no row but a layer's last ends more than 12.5 m above the light draught
   abbrev pub FailsIn : Type 0

@@ -47,7 +47,8 @@ module _ {d d′ : Fraction} (e : d ≈ d′) where
   unfolding plain
   plain-same before m = ⊝-≈ (vOf-same m) (vOf-same before)
 
-  module _ (difference : Boundary → Boundary → Fraction → Fraction) (same : (before m : Boundary) → difference before m d ≈ difference before m d′) where
+  module _ (difference : Boundary → Boundary → Fraction → Fraction)
+      (same : (before m : Boundary) → difference before m d ≈ difference before m d′) where
     brackets-same : (before : Boundary) (ms : List BoundarySmin) → inBrackets difference before ms d ≈ inBrackets difference before ms d′
     unfolding inBrackets
     brackets-same before [] = ≈-refl (whole 0)

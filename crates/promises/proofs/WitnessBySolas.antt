@@ -19,7 +19,7 @@ use Rattle.casefile.specs.Groups.{Group, GroupFits, Grouped}
 use Rattle.rows.specs.Standing.{stands}
 use Rattle.promises.specs.Rows.{exactRows, rowsOf}
 use Rattle.promises.specs.Sums.{metres, partialAt}
-use Rattle.promises.specs.VerdictBySolas.{mark, ReachBySolas, PlainMeetsIn, FailsIn}
+use Rattle.promises.specs.VerdictBySolas.{markIn, ReachBySolas, PlainMeetsIn, FailsIn}
 use Rattle.promises.proofs.WitnessNumbers.{Said, not-more-than, less-than, not-so}
 use Rattle.promises.proofs.WitnessCases.{highRow, highDeck, answers}
 
@@ -72,7 +72,7 @@ module _ (said : PlainMeetsIn rising (whole 1) (grouped 3100 0 10000)) where
   not-where-it-rises falls = absurd (not-so (falls .2 .0 .1 .0) refl)
 
 -- which falls short: 0.8·0.31 + (1.1 - 0.8)·0 + (1 - 1.1)·1 is 0.148, and R/2 is 31/126
-pub plain-falls-short : partialAt plain rising (whole 1) (grouped 3100 0 10000) (metres rising .light) (xs .light) ≺ mark rising
+pub plain-falls-short : partialAt plain rising (whole 1) (grouped 3100 0 10000) (metres rising .light) (xs .light) ≺ markIn rising
 unfolding partialA dA total si inBrackets vm plain held vOf counted v pi pr r G G2 J0 G1 C Jb p p1or2 p2 p1 Jn J b22 b21 b12 b11 Jk Jm b0 lmax pk Jkn Jmax lesser _≼?_ _⊹_ _⊝_ _⊛_ _⊘_ _less_over_
     regulation.R regulation.R₀ regulation.partialMark
 plain-falls-short = less-than refl

@@ -14,26 +14,26 @@ use Rattle.answers.specs.Answer.{answer}
 use Rattle.promises.specs.Rows.{rowsOf}
 use Rattle.promises.specs.Sums.{layersOf, EachLayer, LowButTops, metres, partialAt, attainedIn, OfEveryFile}
 
-abbrev pub required : Case → Fraction
-required c = regulation.R (centimetres (c .hull .length))
+abbrev pub requiredIn : Case → Fraction
+requiredIn c = regulation.R (centimetres (c .hull .length))
 
-abbrev pub mark : Case → Fraction
-mark c = regulation.partialMark (centimetres (c .hull .length))
+abbrev pub markIn : Case → Fraction
+markIn c = regulation.partialMark (centimetres (c .hull .length))
 
 module _ (difference : Boundary → Boundary → Fraction → Fraction) (c : Case) (√ : Fraction) (q : Grouped (c .hull) (c .rows)) where
   -- A reaches R, and each partial index its mark
   abbrev pub ReachBySolas : Thrice (List Fraction) → Type 0
   ReachBySolas xs =
-      AllFour (required c ≼ attainedIn difference c √ q xs) (mark c ≼ partialAt difference c √ q (metres c .deepest) (xs .deepest))
-      (mark c ≼ partialAt difference c √ q (metres c .partial) (xs .partial)) (mark c ≼ partialAt difference c √ q (metres c .light) (xs .light))
+      AllFour (requiredIn c ≼ attainedIn difference c √ q xs) (markIn c ≼ partialAt difference c √ q (metres c .deepest) (xs .deepest))
+      (markIn c ≼ partialAt difference c √ q (metres c .partial) (xs .partial)) (markIn c ≼ partialAt difference c √ q (metres c .light) (xs .light))
 
   abbrev pub ShortIn : Fraction → List RowAt → Type 0
-  ShortIn d rows = (xs : List Fraction) → NoneAbove rows xs → partialAt difference c √ q d xs ≺ mark c
+  ShortIn d rows = (xs : List Fraction) → NoneAbove rows xs → partialAt difference c √ q d xs ≺ markIn c
 
   -- one of the four, fixed first, is below its mark for every list with no fourth power above
   abbrev pub ShortBySolas : Type 0
   ShortBySolas =
-      OneOfFour ((xs : Thrice (List Fraction)) → AtEach NoneAbove (rowsOf c) xs → attainedIn difference c √ q xs ≺ required c)
+      OneOfFour ((xs : Thrice (List Fraction)) → AtEach NoneAbove (rowsOf c) xs → attainedIn difference c √ q xs ≺ requiredIn c)
       (ShortIn (metres c .deepest) (rowsOf c .deepest)) (ShortIn (metres c .partial) (rowsOf c .partial))
       (ShortIn (metres c .light) (rowsOf c .light))
 

@@ -1,4 +1,4 @@
--- Fractions compared across any two denominators; multiples, squares, and products that keep the order. Assumes nothing.
+-- Fractions compared across any two denominators; multiples, squares, products that keep the order, tests of equal fractions. Assumes nothing.
 use Prim.Native.Nat.{ℕ, _+_, _-_, _*_, _^_, _≤_, _<_}
 use mathlib.Core.List.{[]}
 use mathlib.Core.Path.{_≡_, refl, sym, _∙_}

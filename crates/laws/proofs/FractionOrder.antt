@@ -1,4 +1,4 @@
--- Fractions in order: what the test tells, the lesser of two, what is above 0, and the one root that is not below it. Assumes nothing.
+-- Fractions in order: what the test tells, the lesser of two, what is above 0 and may divide, and the one root that is not below it. Assumes nothing.
 use Prim.Native.Nat.{ℕ, _+_, _-_, _*_, _≤_, _<_, min}
 use mathlib.Core.Path.{_≡_, refl, sym}
 use mathlib.Core.Bool.{true, false, cond}

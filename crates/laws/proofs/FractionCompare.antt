@@ -1,13 +1,16 @@
--- Fractions compared across any two denominators; multiples, squares, and products that keep the order. Assumes nothing.
-use Prim.Native.Nat.{ℕ, _+_, _*_, _^_, _≤_, _<_}
+-- Fractions compared across any two denominators; multiples, squares, products that keep the order, tests of equal fractions. Assumes nothing.
+use Prim.Native.Nat.{ℕ, _+_, _-_, _*_, _^_, _≤_, _<_}
 use mathlib.Core.List.{[]}
-use mathlib.Core.Path.{_≡_, refl}
+use mathlib.Core.Path.{_≡_, refl, sym, _∙_}
+use mathlib.Core.Bool.{Bool, true, false, cond}
 use native.Mathlib.Nat.{mul-pos, mul-comm, mul-le-mul-right, mul-lt-mul-of-pos-right, lt-of-mul-lt-mul-right}
 use native.Mathlib.Omega.{arith}
 use lib.Dec.{lit<}
-use Rattle.laws.specs.Fraction.{Fraction, den, _less_over_, _over_, whole, Is, _≼_, _≺_, _⊛_}
-use Rattle.laws.proofs.Fraction.{positive, is-over, is-whole, is-self, is-⊛, is-widened, is-written, numerators-below, numerators-strictly-below, ≼-of-≈, ≼-trans, below-across}
+use Rattle.laws.specs.Fraction.{Fraction, den, _less_over_, _over_, whole, Is, _≈_, _≼_, _≺_, _≼?_, _⊛_}
+use Rattle.laws.proofs.Choice.{split}
+use Rattle.laws.proofs.Fraction.{positive, is-over, is-whole, is-nothing, is-self, is-shifted, is-⊛, is-widened, is-written, same, numerators-below, numerators-strictly-below, ≈-refl, ≈-sym, ⊛-≈, ≼-of-≈, ≼-trans, below-across}
 use Rattle.laws.proofs.FractionRing.{⊛-comm}
+use Rattle.laws.proofs.FractionOrder.{test-passes, test-fails}
 use Rattle.laws.proofs.Polynomial.{_:*_, _:^_, _:=_, _⊢_, poly1}
 
 -- ---- two quotients over any two denominators
@@ -51,9 +54,40 @@ pub ⊛-rises : {f g : Fraction} (n : ℕ) {d : ℕ} → 0 < d → f ≼ g → f
 pub times-rises : {f g : Fraction} (k : ℕ) → f ≼ g → whole k ⊛ f ≼ whole k ⊛ g
 times-rises {f} {g} k l = ≼-trans (≼-of-≈ (⊛-comm (whole k) f)) (≼-trans (⊛-rises k (lit< tt) l) (≼-of-≈ (⊛-comm g (whole k))))
 
+-- whatever way what is not negative is written
+pub ⊛-keeps : {f g x : Fraction} → whole 0 ≼ x → f ≼ g → f ⊛ x ≼ g ⊛ x
+⊛-keeps {f} {g} {x} p l =
+    let n : x .down ≤ x .up = omega (arith, numerators-below p (is-nothing (positive x)) (is-self x)) in
+    let i : Is x (x .up - x .down) 0 (den x) = is-shifted (x .up - x .down) 0 (omega arith) (is-self x) in
+    let e : x ≈ ((x .up - x .down) over den x) = same (positive x) i (is-over (x .up - x .down) (positive x)) in
+    ≼-trans (≼-of-≈ (⊛-≈ (≈-refl f) e)) (≼-trans (⊛-rises (x .up - x .down) (positive x) l) (≼-of-≈ (⊛-≈ (≈-refl g) (≈-sym e))))
+
+-- ---- below and strictly below
+pub ≼-of-≺ : {f g : Fraction} → f ≺ g → f ≼ g
+≼-of-≺ l = record { cross = omega (arith, l .cross) }
+
+pub strictly-then-below : {f g h : Fraction} → f ≺ g → g ≼ h → f ≺ h
+strictly-then-below {f} {g} {h} p q =
+    record {
+      cross = lt-of-mul-lt-mul-right (den g)
+          (omega (arith, mul-lt-mul-of-pos-right {k = den h} (p .cross) (positive h), mul-le-mul-right (den f) (q .cross)));
+    }
+
 pub below-then-strictly : {f g h : Fraction} → f ≼ g → g ≺ h → f ≺ h
 below-then-strictly {f} {g} {h} p q =
     record {
       cross = lt-of-mul-lt-mul-right (den g)
           (omega (arith, mul-le-mul-right (den h) (p .cross), mul-lt-mul-of-pos-right {k = den f} (q .cross) (positive f)));
     }
+
+-- ---- what is asked of equal fractions has one answer
+pub test-same : {f f′ g g′ : Fraction} → f ≈ f′ → g ≈ g′ → (f ≼? g) ≡ (f′ ≼? g′)
+test-same {f} {f′} {g} {g′} p q =
+    split (f .up * den g + g .down * den f) (g .up * den f + f .down * den g)
+    (λ l. let m : f ≼ g = record { cross = l } in test-passes m ∙ sym (test-passes (≼-trans (≼-of-≈ (≈-sym p)) (≼-trans m (≼-of-≈ q)))))
+    (λ l. let m : g ≺ f = record { cross = omega (arith, l) } in
+    test-fails m ∙ sym (test-fails (below-then-strictly (≼-of-≈ (≈-sym q)) (strictly-then-below m (≼-of-≈ p)))))
+
+pub cond-≈ : (t : Bool) {f f′ g g′ : Fraction} → f ≈ f′ → g ≈ g′ → cond t f g ≈ cond t f′ g′
+cond-≈ true p q = p
+cond-≈ false p q = q

@@ -1,4 +1,4 @@
--- Fractions in order: what the test tells, the lesser of two, what is above 0, and the one root that is not below it. Assumes nothing.
+-- Fractions in order: what the test tells, the lesser of two, what is above 0 and may divide, and the one root that is not below it. Assumes nothing.
 use Prim.Native.Nat.{ℕ, _+_, _-_, _*_, _≤_, _<_, min}
 use mathlib.Core.Path.{_≡_, refl, sym}
 use mathlib.Core.Bool.{true, false, cond}
@@ -6,9 +6,9 @@ use native.Mathlib.Nat.{mul-pos, le-antisymm, le-dest, mul-lt-mul-of-pos-left, m
 use native.Mathlib.Omega.{arith, by-contra}
 use lib.Dec.{leb}
 use borrow.Author.Tests.{le-leb, lt-leb}
-use Rattle.laws.specs.Fraction.{Fraction, den, whole, Is, _≈_, _≼_, _≺_, _≼?_, lesser, _⊹_, _⊛_}
+use Rattle.laws.specs.Fraction.{Fraction, den, whole, Is, _≈_, _≼_, _≺_, _≼?_, lesser, _⊹_, _⊛_, _⊘_}
 use Rattle.laws.proofs.Choice.{split, chosen}
-use Rattle.laws.proofs.Fraction.{positive, is-self, is-nothing, is-shifted, is-⊹, is-⊛, over-left, over-right, same, numerators-same, below, numerators-below, strictly-below, numerators-strictly-below}
+use Rattle.laws.proofs.Fraction.{positive, is-self, is-nothing, is-shifted, is-⊹, is-⊛, is-⊘, is-≈, over-left, over-right, same, numerators-same, below, numerators-below, strictly-below, numerators-strictly-below}
 
 -- ---- tests
 pub test-passes : {f g : Fraction} → f ≼ g → (f ≼? g) ≡ true
@@ -62,6 +62,14 @@ product-above-0 {f} {g} h k =
     let m : g .down < g .up = numerator-above-0 (positive g) (is-self g) k in
     let n : 0 < (f .up - f .down) * (g .up - g .down) = mul-pos (omega arith) (omega arith) in
     above-0 (mul-pos (positive f) (positive g)) (is-⊛ (above-shifted (omega arith) (is-self f)) (above-shifted (omega arith) (is-self g))) (omega (arith, n))
+
+-- equal quotients, by what is above 0
+pub ⊘-≈ : {f f′ g g′ : Fraction} → whole 0 ≺ g′ → f ≈ f′ → g ≈ g′ → f ⊘ g ≈ f′ ⊘ g′
+⊘-≈ {f} {f′} {g} {g′} p e h =
+    let l : g′ .down < g′ .up = numerator-above-0 (positive g′) (is-self g′) p in
+    let n : 0 < g′ .up - g′ .down = omega arith in
+    let k = above-shifted (omega arith) (is-self g′) in
+    same (mul-pos (positive f′) n) (is-⊘ n (is-≈ e (is-self f′)) (is-≈ h k)) (is-⊘ n (is-self f′) k)
 
 -- ---- no two numbers that are not below 0 have one square
 pub one-root : {r s : Fraction} → whole 0 ≼ r → whole 0 ≼ s → r ⊛ r ≈ s ⊛ s → r ≈ s

@@ -7,6 +7,12 @@ use Rattle.laws.specs.Fraction.{Fraction, whole, Is, _≈_, _⊹_, _⊝_
 use Rattle.laws.proofs.Fraction.{is-one, is-shifted, is-≈, is-⊹, is-⊝, is-⊛}
 use Rattle.laws.proofs.FractionTerm.{constant, number, parts, first, second, third, fourth, _⊹ᵗ_, _⊝ᵗ_, _⊛ᵗ_, agree}
 
+pub ⊹-assoc : (f g h : Fraction) → f ⊹ g ⊹ h ≈ f ⊹ (g ⊹ h)
+⊹-assoc f g h = agree {ρ = parts (f ∷ g ∷ h ∷ [])} (first ⊹ᵗ second ⊹ᵗ third) (first ⊹ᵗ (second ⊹ᵗ third)) tt
+
+pub ⊹-nothing : (f : Fraction) → f ⊹ whole 0 ≈ f
+⊹-nothing f = agree {ρ = parts (f ∷ [])} (first ⊹ᵗ number 0 1 tt) first tt
+
 pub ⊛-comm : (f g : Fraction) → f ⊛ g ≈ g ⊛ f
 ⊛-comm f g = agree {ρ = parts (f ∷ g ∷ [])} (first ⊛ᵗ second) (second ⊛ᵗ first) tt
 

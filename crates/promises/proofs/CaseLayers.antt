@@ -7,6 +7,7 @@ use mathlib.Core.List.{List, [], _∷_, _++_, append-assoc}
 use native.Mathlib.Omega.{arith}
 use borrow.Author.Tests.{ne-eqb}
 use Rattle.laws.specs.Lists.{Every, Linked}
+use Rattle.laws.proofs.Every.{every-parts, every-joined}
 use Rattle.laws.proofs.Tests.{holds}
 use Rattle.records.specs.declared.Hull.{Hull}
 use Rattle.records.specs.declared.RowHead.{RowHead}
@@ -21,20 +22,11 @@ use Rattle.casefile.proofs.Groups.{same-group, later-of, last-has}
 use Rattle.rows.specs.declared.Standing.{Standing}
 use Rattle.rows.specs.Standing.{nowhere, stands}
 use Rattle.rows.proofs.Stands.{inGroup, in-next-layer, in-new-group}
-use Rattle.promises.specs.Sums.{Between, inward, layersOf}
+use Rattle.promises.specs.Sums.{LayerAfter, inward, layersOf}
 use Rattle.promises.proofs.LayerSums.{rowsIn, topOf, Begins, Next, Sits}
 
--- ---- lists in two parts
-pub every-parts : {A : Type 0} (P : A → Type 0) (xs ys : List A) → Every P (xs ++ ys) → Every P xs × Every P ys
-every-parts P [] ys e = (tt, e)
-every-parts P (x ∷ xs) ys e = let (l, r) = every-parts P xs ys (e .1) in ((e .0, l), r)
-
-pub every-joined : {A : Type 0} (P : A → Type 0) (xs ys : List A) → Every P xs → Every P ys → Every P (xs ++ ys)
-every-joined P [] ys l r = r
-every-joined P (x ∷ xs) ys l r = (l .0, every-joined P xs ys (l .1) r)
-
 -- ---- the rows are the groups' rows
-rows-joined : (ls ms : List Between) → rowsIn (ls ++ ms) ≡ rowsIn ls ++ rowsIn ms
+rows-joined : (ls ms : List LayerAfter) → rowsIn (ls ++ ms) ≡ rowsIn ls ++ rowsIn ms
 rows-joined [] ms = refl
 rows-joined (l ∷ ls) ms =
     ap (λ rs. layerRows (l .layer) ++ rs) (rows-joined ls ms) ∙ sym (append-assoc (layerRows (l .layer)) (rowsIn ls) (rowsIn ms))
@@ -90,11 +82,11 @@ module _ (h : Hull) (K : Row → Type 0) where
   top-same : (l : Layer) (b′ : ℕ) → LayerFits h l → SameLayer (layerHead l) (topOf (record { before = b′; layer = l }) .head)
   top-same l b′ f = last-has (λ (x : Row). SameLayer (layerHead l) (x .head)) (l .lowest) (l .above) ((refl, refl), refl) (f .one)
 
-  abbrev InTurn : Between → List Between → Type 0
-  InTurn l ls = Linked (λ (a : Between) (b : Between). Next (topOf a .head) b) l ls
+  abbrev InTurn : LayerAfter → List LayerAfter → Type 0
+  InTurn l ls = Linked (λ (a : LayerAfter) (b : LayerAfter). Next (topOf a .head) b) l ls
 
   -- the layers after l in the group of k, and then others
-  in-group : (k : RowHead) (b′ : ℕ) (l : Layer) (ls : List Layer) (others : List Between) → SameGroup k (layerHead l) → LayerFits h l →
+  in-group : (k : RowHead) (b′ : ℕ) (l : Layer) (ls : List Layer) (others : List LayerAfter) → SameGroup k (layerHead l) → LayerFits h l →
       Every (LayerFits h) ls → Every (λ (m : Layer). SameGroup k (layerHead m)) ls →
       Linked (λ (k : Layer) (m : Layer). layerHead k .depth < layerHead m .depth) l ls →
       ((b : ℕ) (m : Layer) → SameGroup k (layerHead m) → LayerFits h m → InTurn (record { before = b; layer = m }) others) →

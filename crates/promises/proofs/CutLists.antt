@@ -1,17 +1,20 @@
--- The heights of a layer's rows, and lists of fractions that are cut along with layers. Assumes nothing.
-use Prim.Native.Nat.{ℕ, zero, suc, _≤_, _<_}
+-- The heights of a layer's rows and of a case's, and lists of fractions that are cut along with layers. Assumes nothing.
+use Prim.Native.Nat.{ℕ, _≤_, _<_}
 use mathlib.Core.Path.{_≡_, refl}
 use mathlib.Core.List.{List, [], _∷_}
-use lib.ListN.{length, take, drop}
+use native.Mathlib.Omega.{arith}
+use lib.ListN.{length, drop}
 use Rattle.laws.specs.Lists.{Every, last, Linked}
 use Rattle.laws.specs.Fraction.{Fraction}
+use Rattle.laws.proofs.Every.{every-one, every-taken, every-dropped}
 use Rattle.records.specs.declared.Hull.{Hull}
 use Rattle.solas.specs.Height.{top}
-use Rattle.regulation.specs.OfSolasSums.{NoneNegative}
-use Rattle.casefile.specs.Record.{Row}
+use Rattle.solas.specs.Index.{dp}
+use Rattle.casefile.specs.Record.{Row, Case}
 use Rattle.casefile.specs.Valid.{BelowTop, ValidRow}
 use Rattle.casefile.specs.Groups.{layerRows}
-use Rattle.promises.specs.Sums.{Between, heights, EachLayer}
+use Rattle.casefile.proofs.Groups.{every-map}
+use Rattle.promises.specs.Sums.{LayerAfter, heights, EachLayer, LowButTops, middle}
 
 -- ---- the heights of a layer's rows
 pub heights-rise : (r : Row) (above : List Row) → Linked (λ (x : Row) (y : Row). x .head .height < y .head .height) r above →
@@ -33,23 +36,18 @@ module _ (h : Hull) (d : ℕ) where
   heights-low r [] l k = tt
   heights-low r (x ∷ above) l k = (k .0 .1 (l .0), heights-low x above (l .1) (k .1))
 
-pub both-every : {A : Type 0} (P Q : A → Type 0) (xs : List A) → Every P xs → Every Q xs → Every (λ x. P x × Q x) xs
-both-every P Q [] p q = tt
-both-every P Q (x ∷ xs) p q = ((p .0, q .0), both-every P Q xs (p .1) (q .1))
+-- no row below the top is more than 12.5 m above the deepest draught; and what is so of the light one is so of the partial one, which is not lighter
+pub low-at-deepest : (c : Case) → LowButTops c (c .hull .deepest)
+low-at-deepest c =
+    every-map (λ (r : Row). Unit {0}) (Low (c .hull) (c .hull .deepest)) (λ r e low. omega (arith, low)) (c .rows) (every-one (c .rows))
+
+pub low-at-middle : (c : Case) → LowButTops c (c .hull .light) → LowButTops c (middle c)
+unfolding dp
+low-at-middle c k = every-map (Low (c .hull) (c .hull .light)) (Low (c .hull) (middle c)) (λ r e low. omega (arith, e low)) (c .rows) k
 
 -- ---- fractions that all have something have it in each layer
-module _ (C : List Fraction → Type 0) (front : (n : ℕ) (xs : List Fraction) → C xs → C (take n xs))
-    (back : (n : ℕ) (xs : List Fraction) → C xs → C (drop n xs)) where
-  pub each-layer : (ls : List Between) (xs : List Fraction) → C xs → EachLayer C ls xs
-  each-layer [] xs c = tt
-  each-layer (l ∷ ls) xs c = let n = length (layerRows (l .layer)) in (front n xs c, each-layer ls (drop n xs) (back n xs c))
-
-pub none-negative-front : (n : ℕ) (xs : List Fraction) → NoneNegative xs → NoneNegative (take n xs)
-none-negative-front zero xs e = tt
-none-negative-front (suc n) [] e = tt
-none-negative-front (suc n) (x ∷ xs) e = (e .0, none-negative-front n xs (e .1))
-
-pub none-negative-back : (n : ℕ) (xs : List Fraction) → NoneNegative xs → NoneNegative (drop n xs)
-none-negative-back zero xs e = e
-none-negative-back (suc n) [] e = tt
-none-negative-back (suc n) (x ∷ xs) e = none-negative-back n xs (e .1)
+pub each-layer : (P : Fraction → Type 0) (ls : List LayerAfter) (xs : List Fraction) → Every P xs → EachLayer (Every P) ls xs
+each-layer P [] xs e = tt
+each-layer P (l ∷ ls) xs e =
+    let n = length (layerRows (l .layer)) in
+    (every-taken P n xs e, each-layer P ls (drop n xs) (every-dropped P n xs e))

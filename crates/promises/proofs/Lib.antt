@@ -6,6 +6,7 @@ pub mod WitnessChances
 pub mod WitnessSheet
 pub mod WitnessService
 pub mod WitnessSums
+pub mod WitnessBySolas
 pub mod CaseRows
 pub mod Numerators
 pub mod Weighed
@@ -19,11 +20,14 @@ pub mod Files
 pub mod Service
 pub mod Fits
 pub mod OfSolas
+pub mod LayerRows
 pub mod LayerSums
 pub mod CaseLayers
+pub mod CaseSums
 pub mod CutLists
+pub mod OneLayer
 pub mod Sums
-pub mod MeetsBySolas
+pub mod VerdictBySolas
 pub mod Values
 pub mod OneFile
 pub mod Sizes

@@ -33,14 +33,14 @@ use Rattle.rows.specs.Standing.{stands}
 use Rattle.rows.specs.Work.{shareAt, addsAt, addsFrom}
 use Rattle.answers.specs.Answer.{partialsOf, figures, answer}
 
--- 100 m long, 16 m broad, draughts of 6 and 4 m, with at most three zones, which end here
-abbrev hull : ℕ → ℕ → ℕ → ℕ → Hull
-hull zones x y z =
+-- 100 m long, 16 m broad, a draught of 6 m and this light one, with at most three zones, which end here
+abbrev hull : ℕ → ℕ → ℕ → ℕ → ℕ → Hull
+hull light zones x y z =
     record {
       length = 10000;
       breadth = 1600;
       deepest = 6000;
-      light = 4000;
+      light = light;
       zones = zones;
       places = 0 ∷ x ∷ y ∷ z ∷ 0 ∷ 0 ∷ 0 ∷ 0 ∷ 0 ∷ 0 ∷ 0 ∷ 0 ∷ 0 ∷ 0 ∷ 0 ∷ 0 ∷ 0 ∷ 0 ∷ 0 ∷ 0 ∷ 0 ∷ [];
     }
@@ -72,7 +72,7 @@ ends lower upper = record { lower = lower; upper = upper }
 -- ---- one zone
 
 abbrev oneZone : List Row → Case
-oneZone rows = record { hull = hull 1 10000 0 0; rows = rows }
+oneZone rows = record { hull = hull 4000 1 10000 0 0; rows = rows }
 
 -- two layers, the first cut by a deck at 7.8 m above the deepest draught
 abbrev pub decked : Case
@@ -87,6 +87,13 @@ tallRow b H = row 3 1 1 b H (given 0 0 0)
 
 abbrev pub tall : Case
 tall = oneZone (tallRow 400 13800 ∷ tallRow 400 17000 ∷ tallRow 400 18500 ∷ tallRow 800 18500 ∷ [])
+
+-- one layer of a ship that lies at 2 m when it is light: its second deck is 14.85 m above that draught. Survivals of 1, and these when it is light
+abbrev pub highRow : ℕ → ℕ → Row
+highRow H x = row 3 1 1 800 H (given 10000 10000 x)
+
+abbrev pub highDeck : ℕ → ℕ → ℕ → Case
+highDeck x y z = record { hull = hull 2000 1 10000 0 0; rows = highRow 9800 x ∷ highRow 16850 y ∷ highRow 18500 z ∷ [] }
 
 -- R is 31/63. One row: "meets" with Al between R/2 and R
 abbrev pub meeting : Case
@@ -119,17 +126,19 @@ pub record Answers : Type 0 where
   pub of-meeting : answer meeting ≡ meetingAnswer
   pub of-failing : answer failing ≡ failingAnswer
   pub of-unsettled : answer unsettled ≡ unsettledAnswer
+  pub rising-meets : answer (highDeck 3100 0 10000) .verdict ≡ 1
+  pub raised-fails : answer (highDeck 2300 2300 0) .verdict ≡ 2
 
 pub answers : Answers
 unfolding answer figures partialsOf addsFrom addsAt shareAt stands sameGroup sameLayer
     rowEnds rowOf lowest highest sumsOf withinEnds added taken QEnds mixed c d PEnds GEnds pEnds partEnds G1Ends G3Ends minus plus rounded.endsOf billionthsOf portionOf halvesOf ceil touch P p G1 G3 _⊹_ _⊛_ _less_over_
     rowVs rowV vAt v dp survivalsOf factorsOf factorOf s⁴ k ratioOf scaledOf roundedOf rootDown rootUp withDigits addsOf rowAdds partials attainedOf R partialMark reaches allReach verdictOf
-answers = record { of-decked = refl; of-meeting = refl; of-failing = refl; of-unsettled = refl }
+answers = record { of-decked = refl; of-meeting = refl; of-failing = refl; of-unsettled = refl; rising-meets = refl; raised-fails = refl }
 
 -- ---- two zones, whose pair is not listed, and three, of which nothing is listed and the middle one is longer than any damage
 
 abbrev pub unpaired : Case
-unpaired = record { hull = hull 2 1500 10000 0; rows = row 3 1 1 800 18500 (given 0 0 0) ∷ row 3 2 1 800 18500 (given 0 0 0) ∷ [] }
+unpaired = record { hull = hull 4000 2 1500 10000 0; rows = row 3 1 1 800 18500 (given 0 0 0) ∷ row 3 2 1 800 18500 (given 0 0 0) ∷ [] }
 
 abbrev pub longMiddle : Case
-longMiddle = record { hull = hull 3 3000 7000 10000; rows = [] }
+longMiddle = record { hull = hull 4000 3 3000 7000 10000; rows = [] }

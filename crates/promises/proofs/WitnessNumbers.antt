@@ -2,6 +2,7 @@
 use Prim.Native.Nat.{ℕ, suc, _+_, _-_, _*_, _≤_, _<_}
 use mathlib.Core.Path.{_≡_}
 use native.Mathlib.Omega.{arith}
+use lib.Dec.{T, leb, leb→le}
 use Rattle.laws.specs.Fraction.{Fraction, den, _≼_, _≺_}
 
 -- what a proof says, whether or not there is one
@@ -19,6 +20,9 @@ right f g = g .up * den f + f .down * den g
 -- an order that a proof says, given this or that, as an equation: where the order is not so, its two numbers differ, and the refusal shows both
 abbrev pub Compared : {A : Type 0} {f g : A → Fraction} → ((a : A) → f a ≼ g a) → Type 0
 Compared {A} {f} {g} l = (a : A) → left (f a) (g a) + (right (f a) (g a) - left (f a) (g a)) ≡ right (f a) (g a)
+
+pub not-more-than : {f g : Fraction} → T (leb (left f g) (right f g)) → f ≼ g
+not-more-than {f} {g} t = record { cross = leb→le (left f g) (right f g) t }
 
 pub less-than : {f g : Fraction} → suc (left f g) + (right f g - suc (left f g)) ≡ right f g → f ≺ g
 less-than {f} {g} e = record { cross = order (left f g) (right f g) e }

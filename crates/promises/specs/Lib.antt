@@ -8,3 +8,4 @@ pub mod OneFile
 pub mod Values
 pub mod Sizes
 pub mod Sums
+pub mod VerdictBySolas

@@ -11,31 +11,29 @@ use Rattle.solas.specs.Height.{top}
 use Rattle.solas.specs.Index.{dp}
 use Rattle.regulation.specs.Regulation.{IsRoot, under√, pi}
 use Rattle.regulation.specs.RegulationIndex as regulation
-use Rattle.regulation.specs.RegulationIndex.{millimetres, centimetres, Boundary, vm}
+use Rattle.regulation.specs.RegulationIndex.{millimetres, Boundary, vm}
 use Rattle.regulation.specs.RegulationSums.{Flooding, plain, partialA}
-use Rattle.regulation.specs.OfSolasSums.{limits, NoneNegative, NoneRises}
+use Rattle.regulation.specs.OfSolasSums.{boundaries, NoneNegative, NoneRises}
 use Rattle.spans.specs.Hull.{shipOf}
-use Rattle.indices.specs.Exact.{RowAt, NoneBelow, weightedSum, Thrice, AtAll, AtEach, exactA}
-use Rattle.verdicts.specs.Promises.{AllFour}
+use Rattle.indices.specs.Exact.{RowAt, weightedSum, Thrice, AtAll, exactA}
 use Rattle.casefile.specs.Record.{Row, Case}
 use Rattle.casefile.specs.Valid.{BelowTop}
 use Rattle.casefile.specs.Groups.{Layer, Group, layerRows, layerHead, Grouped}
 use Rattle.casefile.specs.Reading.{accepted, reading}
-use Rattle.answers.specs.Answer.{answer}
 use Rattle.promises.specs.Rows.{rowsOf}
 
 -- ---- a file's rows in the regulation's letters: each layer of a group is a flooding between two penetrations, with its rows' heights as boundaries
 
--- a layer, and the penetration of the layer before it in its group: 0, at the shell, for the first
-pub record Between : Type 0 where
+-- a layer, and the penetration of the layer before it in its group, going inward: 0, at the shell, for the first
+pub record LayerAfter : Type 0 where
   pub before : ℕ
   pub layer : Layer
 
-abbrev pub inward : ℕ → List Layer → List Between
+abbrev pub inward : ℕ → List Layer → List LayerAfter
 inward b′ [] = []
 inward b′ (l ∷ ls) = record { before = b′; layer = l } ∷ inward (layerHead l .depth) ls
 
-abbrev pub layersOf : List Group → List Between
+abbrev pub layersOf : List Group → List LayerAfter
 layersOf [] = []
 layersOf (g ∷ gs) = inward 0 (g .outer ∷ g .inner) ++ layersOf gs
 
@@ -44,16 +42,16 @@ heights rs = map (λ (r : Row). r .head .height) rs
 
 -- the first of the fractions are for the boundaries of the first layer, the others for the layers after it
 module _ (s : Ship) (√ : Fraction) where
-  abbrev pub floodings : List Between → List Fraction → List Flooding
+  abbrev pub floodings : List LayerAfter → List Fraction → List Flooding
   floodings [] xs = []
   floodings (y ∷ ys) xs =
       let k = layerHead (y .layer) in
       let rows = layerRows (y .layer) in
-      record { pi = pi s √ (y .before) (k .depth) (k .first) (k .count); limits = limits (heights rows) (take (length rows) xs) }
+      record { pi = pi s √ (y .before) (k .depth) (k .first) (k .count); boundaries = boundaries (heights rows) (take (length rows) xs) }
       ∷ floodings ys (drop (length rows) xs)
 
 -- what is asked of the fractions of each layer
-abbrev pub EachLayer : (List Fraction → Type 0) → List Between → List Fraction → Type 0
+abbrev pub EachLayer : (List Fraction → Type 0) → List LayerAfter → List Fraction → Type 0
 EachLayer Such [] xs = Unit {0}
 EachLayer Such (y ∷ ys) xs = let n = length (layerRows (y .layer)) in Such (take n xs) × EachLayer Such ys (drop n xs)
 
@@ -66,31 +64,38 @@ LowButTops c d = Every (λ (r : Row). BelowTop (c .hull) (r .head) → r .head .
 abbrev pub OneEach : Case → List Fraction → Type 0
 OneEach c xs = length xs ≡ length (c .rows)
 
--- the partial draught, which is the regulation's (DraughtIs01's)
+-- the partial draught in millimetres; and the three in metres, the partial one by the regulation's own formula
 abbrev pub middle : Case → ℕ
 middle c = dp (c .hull .deepest) (c .hull .light)
 
+abbrev pub metres : Case → Thrice Fraction
+metres c =
+    let ds = millimetres (c .hull .deepest) in
+    let dl = millimetres (c .hull .light) in
+    record { deepest = ds; partial = regulation.dp ds dl; light = dl }
+
 module _ (difference : Boundary → Boundary → Fraction → Fraction) (c : Case) (√ : Fraction) (q : Grouped (c .hull) (c .rows)) where
   -- 2.5.1: the partial index at the draught d, and A with its weights
-  abbrev pub partialAt : ℕ → List Fraction → Fraction
-  partialAt d xs = partialA difference (floodings (shipOf (c .hull)) √ (layersOf (q .groups)) xs) (millimetres d)
+  abbrev pub partialAt : Fraction → List Fraction → Fraction
+  partialAt d xs = partialA difference (floodings (shipOf (c .hull)) √ (layersOf (q .groups)) xs) d
 
   abbrev pub attainedIn : Thrice (List Fraction) → Fraction
   attainedIn xs =
-      regulation.A (partialAt (c .hull .deepest) (xs .deepest)) (partialAt (middle c) (xs .partial)) (partialAt (c .hull .light) (xs .light))
+      regulation.A (partialAt (metres c .deepest) (xs .deepest)) (partialAt (metres c .partial) (xs .partial))
+      (partialAt (metres c .light) (xs .light))
 
-  -- at a draught, and for the case's rows there: the same where no row but a layer's last is so high; elsewhere the promises' sum is not above, for
-  -- such fractions
-  pub record Summed (Such : List Fraction → Type 0) (d : ℕ) (rows : List RowAt) : Type 0 where
-    pub same : LowButTops c d → (xs : List Fraction) → OneEach c xs → partialAt d xs ≈ weightedSum rows xs
-    pub not-above : (xs : List Fraction) → OneEach c xs → Such xs → weightedSum rows xs ≼ partialAt d xs
+  -- at a draught of d millimetres or D metres, and for the case's rows there: the same where no row but a layer's last is so high; elsewhere the
+  -- promises' sum is not above, for such fractions
+  pub record Summed (Such : List Fraction → Type 0) (d : ℕ) (D : Fraction) (rows : List RowAt) : Type 0 where
+    pub same : LowButTops c d → (xs : List Fraction) → OneEach c xs → partialAt D xs ≈ weightedSum rows xs
+    pub not-above : (xs : List Fraction) → OneEach c xs → Such xs → weightedSum rows xs ≼ partialAt D xs
 
   pub record SummedUp (Such : List Fraction → Type 0) : Type 0 where
-    pub deepest : Summed Such (c .hull .deepest) (rowsOf c .deepest)
-    pub partial : Summed Such (middle c) (rowsOf c .partial)
-    pub light : Summed Such (c .hull .light) (rowsOf c .light)
+    pub deepest : Summed Such (c .hull .deepest) (metres c .deepest) (rowsOf c .deepest)
+    pub partial : Summed Such (middle c) (metres c .partial) (rowsOf c .partial)
+    pub light : Summed Such (c .hull .light) (metres c .light) (rowsOf c .light)
     -- at the deepest draught no row but a layer's last is so high
-    pub same-at-deepest : (xs : List Fraction) → OneEach c xs → partialAt (c .hull .deepest) xs ≈ weightedSum (rowsOf c .deepest) xs
+    pub same-at-deepest : (xs : List Fraction) → OneEach c xs → partialAt (metres c .deepest) xs ≈ weightedSum (rowsOf c .deepest) xs
     -- and where none is at the light draught, none is at any of the three
     pub attained-same : LowButTops c (c .hull .light) → (xs : Thrice (List Fraction)) → AtAll (OneEach c) xs → attainedIn xs ≈ exactA (rowsOf c) xs
     pub attained-not-above : (xs : Thrice (List Fraction)) → AtAll (OneEach c) xs → AtAll Such xs → exactA (rowsOf c) xs ≼ attainedIn xs
@@ -101,21 +106,15 @@ module _ (difference : Boundary → Boundary → Fraction → Fraction) (c : Cas
 abbrev pub GroupsAreThere : Type 0
 GroupsAreThere = (f : List ℕ) (c : Case) → reading f ≡ accepted c → Grouped (c .hull) (c .rows)
 
--- √ is the root in the ship's Jk; differences of v are held between 0 and 1
+-- √ is the root in the ship's Jk
+abbrev pub OfEveryFile : ((c : Case) → Fraction → Grouped (c .hull) (c .rows) → Type 0) → Type 0
+OfEveryFile Holds = (f : List ℕ) (c : Case) → reading f ≡ accepted c → (√ : Fraction) → IsRoot √ (under√ (c .hull .length)) →
+    (q : Grouped (c .hull) (c .rows)) → Holds c √ q
+
+-- differences of v are held between 0 and 1
 abbrev pub SumsOfSolas : Type 0
-SumsOfSolas = (f : List ℕ) (c : Case) → reading f ≡ accepted c → (√ : Fraction) → IsRoot √ (under√ (c .hull .length)) →
-    (q : Grouped (c .hull) (c .rows)) → SummedUp vm c √ q NoneNegative
+SumsOfSolas = OfEveryFile (λ c √ q. SummedUp vm c √ q NoneNegative)
 
 -- the same with plain differences, elsewhere for fractions that do not rise within a layer
 abbrev pub PlainSumsOfSolas : Type 0
-PlainSumsOfSolas = (f : List ℕ) (c : Case) → reading f ≡ accepted c → (√ : Fraction) → IsRoot √ (under√ (c .hull .length)) →
-    (q : Grouped (c .hull) (c .rows)) → SummedUp plain c √ q (EachLayer NoneRises (layersOf (q .groups)))
-
--- so a ship that is said to meet does so by the regulation's own sums, whatever the heights of its rows, for every list with no fourth power below:
--- A reaches R, and each partial index its mark
-abbrev pub MeetsBySolas : Type 0
-MeetsBySolas = (f : List ℕ) (c : Case) → reading f ≡ accepted c → (√ : Fraction) → IsRoot √ (under√ (c .hull .length)) →
-    (q : Grouped (c .hull) (c .rows)) → answer c .verdict ≡ 1 → (xs : Thrice (List Fraction)) → AtEach NoneBelow (rowsOf c) xs →
-    let mark = regulation.partialMark (centimetres (c .hull .length)) in
-    AllFour (regulation.R (centimetres (c .hull .length)) ≼ attainedIn vm c √ q xs) (mark ≼ partialAt vm c √ q (c .hull .deepest) (xs .deepest))
-    (mark ≼ partialAt vm c √ q (middle c) (xs .partial)) (mark ≼ partialAt vm c √ q (c .hull .light) (xs .light))
+PlainSumsOfSolas = OfEveryFile (λ c √ q. SummedUp plain c √ q (EachLayer NoneRises (layersOf (q .groups))))

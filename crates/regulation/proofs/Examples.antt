@@ -3,7 +3,7 @@
 use mathlib.Core.Path.{_≡_, refl}
 use native.Mathlib.Omega.{arith}
 use lib.Dec.{leb→le, lit<}
-use Rattle.laws.specs.Fraction.{Fraction, _less_over_, _over_, whole, _≈_, _≺_, _≼?_, lesser, _⊹_, _⊝_, _⊛_, _⊘_}
+use Rattle.laws.specs.Fraction.{Fraction, _less_over_, _over_, whole, _≈_, _≼_, _≺_, _≼?_, lesser, _⊹_, _⊝_, _⊛_, _⊘_}
 use Rattle.laws.proofs.Fraction.{≈-refl, ≈-sym, ≈-trans, ⊛-≈}
 use Rattle.laws.proofs.FractionRing.{⊛-comm, ⊛-assoc}
 use Rattle.solas.specs.Span as span
@@ -12,7 +12,7 @@ use Rattle.solas.specs.Share.{within, share, rowShare}
 use Rattle.solas.specs.Height.{v, vAt}
 use Rattle.solas.specs.Index.{dp, attained, R}
 use Rattle.solas.proofs.Values.{printed, short}
-use Rattle.regulation.specs.Regulation.{IsRoot, Jmax, Jkn, pk, lmax, b0, Jm, under√, Jk, b11, b12, b21, b22, J, Jn, p1, p2, p1or2, p, Jb, C, G1, J0, G2, G, r, pr, pi}
+use Rattle.regulation.specs.Regulation.{IsRoot, Jmax, Jkn, pk, lmax, L*, b0, Jm, under√, Jk, b11, b12, b21, b22, J, Jn, p1, p2, p1or2, p, Jb, C, G1, J0, G2, G, r, pr, pi}
 use Rattle.regulation.specs.RegulationIndex as regulation
 use Rattle.regulation.specs.RegulationIndex.{millimetres, centimetres, hundredths, Numbers, Final, none, at, uppermost, vOf, held, vm}
 
@@ -37,6 +37,11 @@ longer = (
   record { cross = refl },
   record { cross = refl },
 )
+
+-- the letters are those of a ship of 260 m, and not of one that is a centimetre longer
+pub reach : (whole 26000 ≼ L*) × (L* ≺ whole 26001)
+unfolding L* _less_over_
+reach = (record { cross = leb→le _ _ tt }, record { cross = lit< tt })
 
 -- 7.801 m above a draught of 6 m
 pub height : (vAt 13801 6000 ≡ 733239) × (regulation.v (millimetres 13801) (millimetres 6000) ≈ 733239 over 916500)

@@ -11,3 +11,4 @@ pub mod Examples
 pub mod SumExamples
 pub mod RegulationSums
 pub mod PlainSums
+pub mod SameDraught

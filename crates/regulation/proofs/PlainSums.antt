@@ -11,15 +11,17 @@ use Rattle.laws.specs.Fraction.{Fraction, _over_, whole, _≈_, _≼_, _⊹_, _
 use Rattle.laws.proofs.Choice.{split}
 use Rattle.laws.proofs.Fraction.{is-nothing, is-shifted, is-⊝, same, below, ≈-refl, ≈-sym, ≈-trans, ⊹-≈, ⊝-≈, ⊛-≈, ≼-of-≈, ≼-trans, ⊹-≼}
 use Rattle.laws.proofs.FractionTerm.{number, parts, first, second, third, fourth, _⊹ᵗ_, _⊝ᵗ_, _⊛ᵗ_, agree}
-use Rattle.laws.proofs.FractionRing.{⊛-comm}
+use Rattle.laws.proofs.Every.{every-one}
+use Rattle.laws.proofs.FractionRing.{⊹-nothing, ⊛-comm}
+use Rattle.laws.proofs.FractionCompare.{⊛-keeps}
 use Rattle.solas.specs.Height.{vAt, rowV, top}
 use Rattle.solas.specs.Layers.{rowsV}
 use Rattle.solas.proofs.Height.{vAt-rises, vAt-at-most, vAt-full, vAt-top, vAt-waterline}
 use Rattle.regulation.specs.RegulationIndex.{millimetres, uppermost, counted, vOf}
 use Rattle.regulation.specs.RegulationSums.{plain, inBrackets, si}
-use Rattle.regulation.specs.OfSolasSums.{limits, vSum, NoneRises, PlainLayerSumsAre01's, PlainLayerSumsNotAbove}
+use Rattle.regulation.specs.OfSolasSums.{boundaries, vSum, NoneRises, PlainLayerSumsAre01's, PlainLayerSumsNotAbove}
 use Rattle.regulation.proofs.RegulationHeights.{in-parts, is-v-high, is-uppermost, is-counted, not-above-none, above-counts}
-use Rattle.regulation.proofs.RegulationSums.{sameness, ⊛-keeps, ⊹-nothing, every-one, layer-sums}
+use Rattle.regulation.proofs.RegulationSums.{sameness, layer-sums}
 
 -- document 01's v of a height, and the regulation's
 abbrev w : ℕ → ℕ → Fraction
@@ -96,7 +98,7 @@ module _ (ds d : ℕ) (afloat : d ≤ ds) where
   -- from the row below at H′ on: not above, with what is more at H′ made up for
   from : (H′ H : ℕ) (Hs : List ℕ) (x : Fraction) (xs : List Fraction) → Linked _<_ H′ (H ∷ Hs) → top ds ≤ last H Hs →
       length (x ∷ xs) ≡ length (H ∷ Hs) → NoneRises (x ∷ xs) →
-      vSum (rowsV H′ (H ∷ Hs) d) (x ∷ xs) ≼ inBrackets plain (counted (millimetres H′) (millimetres d)) (limits (H ∷ Hs) (x ∷ xs))
+      vSum (rowsV H′ (H ∷ Hs) d) (x ∷ xs) ≼ inBrackets plain (counted (millimetres H′) (millimetres d)) (boundaries (H ∷ Hs) (x ∷ xs))
       (millimetres d) ⊹ more H′ d ⊛ x
   unfolding inBrackets plain
   from H′ H [] x [] up t e n =
@@ -104,7 +106,7 @@ module _ (ds d : ℕ) (afloat : d ≤ ds) where
   from H′ H [] x (y ∷ xs) up t e n = absurd (omega (arith, e))
   from H′ H (G ∷ Hs) x [] up t e n = absurd (omega (arith, e))
   from H′ H (G ∷ Hs) x (y ∷ xs) up t e n =
-      step H′ H x y (inBrackets plain (counted (millimetres H) (millimetres d)) (limits (G ∷ Hs) (y ∷ xs)) (millimetres d))
+      step H′ H x y (inBrackets plain (counted (millimetres H) (millimetres d)) (boundaries (G ∷ Hs) (y ∷ xs)) (millimetres d))
       (is-row H′ H d (omega (arith, up .0))) (n .0) (from H G Hs y xs (up .1) t (omega (arith, e)) (n .1))
 
 pub plain-layer-sums-not-above : PlainLayerSumsNotAbove
@@ -114,4 +116,4 @@ plain-layer-sums-not-above ds d (H ∷ Hs) [] l n = absurd (omega (arith, l .one
 plain-layer-sums-not-above ds d (H ∷ Hs) (x ∷ xs) l n =
     ≼-trans (rw (not-above-none {H = 0} {d = d} (omega arith), vAt-waterline {H = 0} {d = d} (omega arith)) at
     (from ds d (l .afloat) 0 H Hs x xs (l .complete .rising) (l .complete .closed) (l .one-each) n))
-    (≼-of-≈ (nothing-more (si plain (limits (H ∷ Hs) (x ∷ xs)) (millimetres d)) x))
+    (≼-of-≈ (nothing-more (si plain (boundaries (H ∷ Hs) (x ∷ xs)) (millimetres d)) x))

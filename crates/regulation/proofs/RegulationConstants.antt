@@ -11,6 +11,8 @@ use Rattle.laws.proofs.FractionTerm.{Term, constant, number, _⊹ᵗ_, _⊝ᵗ_
 use Rattle.laws.proofs.FractionOrder.{lesser-first, lesser-second, one-root}
 use Rattle.regulation.specs.Regulation.{¼, _², Jmax, Jkn, pk, lmax, L*, b0, Jm, under√, Jk, b11, b12, b21, b22}
 use Rattle.regulation.specs.OfSolas.{UpTo198m, RootsAreThere, ConstantsAre01's, LongerShipsDiffer, LettersReach260m}
+-- checked first, so that a definition that gives another number is refused there
+use Rattle.regulation.proofs.Examples.{reach}
 
 -- ---- Jm: lmax/Ls is not below 10/33 where Ls is not above 198 m, and below it where Ls is
 lmax-is : Is lmax 6000 0 1

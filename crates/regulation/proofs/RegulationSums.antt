@@ -1,22 +1,23 @@
 -- The regulation's sum over the boundaries of a complete layer is document 01's where no height but the last is more than 12.5 m above the draught,
 -- and elsewhere document 01's is not above. Assumes nothing.
-use Prim.Native.Nat.{ℕ, _-_, _≤_, _<_}
+use Prim.Native.Nat.{ℕ, _≤_, _<_}
 use mathlib.Core.Path.{_≡_}
 use mathlib.Core.List.{List, [], _∷_}
 use native.Mathlib.Omega.{arith}
 use lib.ListN.{length}
 use Rattle.laws.specs.Lists.{Every, last, Linked}
-use Rattle.laws.specs.Fraction.{Fraction, den, _over_, whole, _≈_, _≼_, _≺_, _⊹_, _⊛_}
+use Rattle.laws.specs.Fraction.{Fraction, _over_, whole, _≈_, _≼_, _⊹_, _⊛_}
 use Rattle.laws.proofs.Choice.{split}
-use Rattle.laws.proofs.Fraction.{positive, is-self, is-nothing, is-over, is-shifted, same, numerators-below, ≈-refl, ≈-sym, ≈-trans, ⊹-≈, ⊛-≈, ≼-of-≈, ≼-trans, ⊹-≼}
-use Rattle.laws.proofs.FractionTerm.{number, parts, first, _⊹ᵗ_, agree}
-use Rattle.laws.proofs.FractionCompare.{⊛-rises}
+use Rattle.laws.proofs.Every.{every-one, linked-any}
+use Rattle.laws.proofs.Fraction.{≈-refl, ≈-sym, ≈-trans, ⊹-≈, ⊛-≈, ≼-of-≈, ≼-trans, ⊹-≼}
+use Rattle.laws.proofs.FractionRing.{⊹-nothing}
+use Rattle.laws.proofs.FractionCompare.{⊛-keeps, ≼-of-≺}
 use Rattle.solas.specs.Height.{rowV, top}
 use Rattle.solas.specs.Layers.{rowsV, layerV}
 use Rattle.regulation.specs.RegulationIndex.{millimetres, Boundary, uppermost, counted, vm}
 use Rattle.regulation.specs.RegulationSums.{inBrackets, si}
 use Rattle.regulation.specs.OfSolasIndex.{vmOfRow}
-use Rattle.regulation.specs.OfSolasSums.{limits, vSum, Layer, LayerSumsAre01's, LayerSumsNotAbove}
+use Rattle.regulation.specs.OfSolasSums.{boundaries, vSum, LayerAt, LayerSumsAre01's, LayerSumsNotAbove}
 use Rattle.regulation.proofs.RegulationHeights.{not-above-none, row-is-01's, last-row-is-01's, rows-part-above}
 -- checked first, so that a definition that gives another number is refused there
 use Rattle.regulation.proofs.SumExamples.{decked}
@@ -33,20 +34,6 @@ sameness = record { of-same = λ e. e; follows = ≈-trans; sums = ⊹-≈ }
 pub at-most : Ordering _≼_
 at-most = record { of-same = ≼-of-≈; follows = ≼-trans; sums = ⊹-≼ }
 
--- ---- products with what is not negative keep the order
-pub ⊛-keeps : {f g x : Fraction} → whole 0 ≼ x → f ≼ g → f ⊛ x ≼ g ⊛ x
-⊛-keeps {f} {g} {x} p l =
-    let n : x .down ≤ x .up = omega (arith, numerators-below p (is-nothing (positive x)) (is-self x)) in
-    let e : x ≈ ((x .up - x .down) over den x) =
-    same (positive x) (is-shifted (x .up - x .down) 0 (omega arith) (is-self x)) (is-over (x .up - x .down) (positive x)) in
-    ≼-trans (≼-of-≈ (⊛-≈ (≈-refl f) e)) (≼-trans (⊛-rises (x .up - x .down) (positive x) l) (≼-of-≈ (⊛-≈ (≈-refl g) (≈-sym e))))
-
-strictly-not-above : {f g : Fraction} → f ≺ g → f ≼ g
-strictly-not-above l = record { cross = omega (arith, l .cross) }
-
-pub ⊹-nothing : (f : Fraction) → f ⊹ whole 0 ≈ f
-⊹-nothing f = agree {ρ = parts (f ∷ [])} (first ⊹ᵗ number 0 1 tt) first tt
-
 -- ---- a layer's rows, from the row below them at H′ on: what is so of each row is so of their sums
 module _ (difference : Boundary → Boundary → Fraction → Fraction) {R : Fraction → Fraction → Type 0} (o : Ordering R) (ds d : ℕ) (K : ℕ → Type 0)
     (N : Fraction → Type 0)
@@ -57,7 +44,7 @@ module _ (difference : Boundary → Boundary → Fraction → Fraction) {R : Fra
     R ((rowV H′ H d over 916500) ⊛ x) (difference (counted (millimetres H′) (millimetres d)) (uppermost (millimetres H)) (millimetres d) ⊛ x)) where
   from : (H′ H : ℕ) (Hs : List ℕ) (xs : List Fraction) → Linked _<_ H′ (H ∷ Hs) → top ds ≤ last H Hs → Linked (λ F G. K F) H′ (H ∷ Hs) →
       length xs ≡ length (H ∷ Hs) → Every N xs →
-      R (vSum (rowsV H′ (H ∷ Hs) d) xs) (inBrackets difference (counted (millimetres H′) (millimetres d)) (limits (H ∷ Hs) xs) (millimetres d))
+      R (vSum (rowsV H′ (H ∷ Hs) d) xs) (inBrackets difference (counted (millimetres H′) (millimetres d)) (boundaries (H ∷ Hs) xs) (millimetres d))
   unfolding inBrackets
   from H′ H [] [] up t k e n = absurd (omega (arith, e))
   from H′ H [] (x ∷ []) up t k e n = o .follows (o .of-same (⊹-nothing _)) (topmost H′ H x t (k .0) (n .0))
@@ -67,21 +54,12 @@ module _ (difference : Boundary → Boundary → Fraction → Fraction) {R : Fra
   from H′ H (G ∷ Hs) (x ∷ y ∷ xs) up t k e n =
       o .sums (inner H′ H x (up .0) (k .0) (k .1 .0) (n .0)) (from H G Hs (y ∷ xs) (up .1) t (k .1) (omega (arith, e)) (n .1))
 
-  pub layer-sums : (Hs : List ℕ) (xs : List Fraction) → Layer ds d Hs xs → Linked (λ F G. K F) 0 Hs → Every N xs →
-      R (vSum (layerV Hs d) xs) (si difference (limits Hs xs) (millimetres d))
+  pub layer-sums : (Hs : List ℕ) (xs : List Fraction) → LayerAt ds d Hs xs → Linked (λ F G. K F) 0 Hs → Every N xs →
+      R (vSum (layerV Hs d) xs) (si difference (boundaries Hs xs) (millimetres d))
   unfolding si
   layer-sums [] xs l k n = absurd (omega (arith, l .complete .closed))
   layer-sums (H ∷ Hs) xs l k n =
       rw (not-above-none {H = 0} {d = d} (omega arith)) at (from 0 H Hs xs (l .complete .rising) (l .complete .closed) k (l .one-each) n)
-
--- ---- every fraction, and every height: where nothing is asked
-pub every-one : {A : Type 0} (xs : List A) → Every (λ x. Unit {0}) xs
-every-one [] = tt
-every-one (x ∷ xs) = (tt, every-one xs)
-
-all-linked : (H : ℕ) (Hs : List ℕ) → Linked (λ F G. Unit {0}) H Hs
-all-linked H [] = tt
-all-linked H (G ∷ Hs) = (tt, all-linked G Hs)
 
 -- ---- differences held between 0 and 1
 pub layer-sums-are-01's : LayerSumsAre01's
@@ -94,9 +72,9 @@ row-not-above : (H′ H d : ℕ) → H′ < H → rowV H′ H d over 916500 ≼ 
 row-not-above H′ H d up =
     split H (top d) (λ low. ≼-of-≈ (≈-sym (row-is-01's H′ H d (omega arith) low)))
     (λ high. let parted = rows-part-above H′ H d up high in split H′ d (λ none. ≼-of-≈ (≈-sym (parted .alone none)))
-    (λ some. strictly-not-above (parted .less some)))
+    (λ some. ≼-of-≺ (parted .less some)))
 
 pub layer-sums-not-above : LayerSumsNotAbove
 layer-sums-not-above ds d Hs xs l n =
     layer-sums vm at-most ds d (λ H. Unit {0}) (λ x. whole 0 ≼ x) (λ H′ H x up k′ k n. ⊛-keeps n (row-not-above H′ H d up))
-    (λ H′ H x t k n. ≼-of-≈ (⊛-≈ (≈-sym (last-row-is-01's ds d H′ H (l .afloat) t)) (≈-refl x))) Hs xs l (all-linked 0 Hs) n
+    (λ H′ H x t k n. ≼-of-≈ (⊛-≈ (≈-sym (last-row-is-01's ds d H′ H (l .afloat) t)) (≈-refl x))) Hs xs l (linked-any 0 Hs) n

@@ -9,7 +9,7 @@ use Rattle.solas.specs.Layers.{layerV}
 use Rattle.regulation.specs.RegulationIndex as regulation
 use Rattle.regulation.specs.RegulationIndex.{millimetres, counted, vOf, held, vm}
 use Rattle.regulation.specs.RegulationSums.{Flooding, plain, inBrackets, si, dA, partialA}
-use Rattle.regulation.specs.OfSolasSums.{limits, vSum}
+use Rattle.regulation.specs.OfSolasSums.{boundaries, vSum}
 
 -- in place of s
 abbrev xs : List Fraction
@@ -19,7 +19,7 @@ xs = (1 over 2) ∷ (1 over 4) ∷ (1 over 8) ∷ []
 abbrev decks : List ℕ
 decks = 5000 ∷ 13800 ∷ 18500 ∷ []
 
-pub decked : (si vm (limits decks xs) (millimetres 6000) ≈ 9 over 40) × (si plain (limits decks xs) (millimetres 6000) ≈ 9 over 40)
+pub decked : (si vm (boundaries decks xs) (millimetres 6000) ≈ 9 over 40) × (si plain (boundaries decks xs) (millimetres 6000) ≈ 9 over 40)
     × (vSum (layerV decks 6000) xs ≈ 9 over 40)
 unfolding si inBrackets vm plain held vOf counted regulation.v rowV vAt v _≼?_ _⊹_ _⊝_ _⊛_ _⊘_ _less_over_
 decked = (record { cross = refl }, record { cross = refl }, record { cross = refl })
@@ -29,14 +29,14 @@ decked = (record { cross = refl }, record { cross = refl }, record { cross = ref
 abbrev high : List ℕ
 high = 9800 ∷ 16850 ∷ 18500 ∷ []
 
-pub parted : (si vm (limits high xs) (millimetres 2000) ≈ 19 over 40) × (si plain (limits high xs) (millimetres 2000) ≈ 37 over 80)
+pub parted : (si vm (boundaries high xs) (millimetres 2000) ≈ 19 over 40) × (si plain (boundaries high xs) (millimetres 2000) ≈ 37 over 80)
     × (vSum (layerV high 2000) xs ≈ 9 over 20)
 unfolding si inBrackets vm plain held vOf counted regulation.v rowV vAt v _≼?_ _⊹_ _⊝_ _⊛_ _⊘_ _less_over_
 parted = (record { cross = refl }, record { cross = refl }, record { cross = refl })
 
 -- a partial index of two groups: 1/3·9/40 + 1/5·1/2
 abbrev two : List Flooding
-two = record { pi = 1 over 3; limits = limits decks xs } ∷ record { pi = 1 over 5; limits = limits (18500 ∷ []) xs } ∷ []
+two = record { pi = 1 over 3; boundaries = boundaries decks xs } ∷ record { pi = 1 over 5; boundaries = boundaries (18500 ∷ []) xs } ∷ []
 
 pub two-groups : partialA vm two (millimetres 6000) ≈ 7 over 40
 unfolding partialA dA total si inBrackets vm held vOf counted regulation.v _≼?_ _⊹_ _⊝_ _⊛_ _⊘_ _less_over_

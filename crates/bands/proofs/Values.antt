@@ -1,7 +1,7 @@
 -- Document 01, "Proved values": p by its band's row of the table, worked out at 9,900 cm. Assumes nothing.
 use Prim.Native.Nat.{ℕ, _*_, _^_}
 use mathlib.Core.Path.{_≡_, refl}
-use mathlib.Core.List.{List, [], _∷_}
+use mathlib.Core.List.{[], _∷_}
 use lib.ListN.{getD}
 use Rattle.bands.specs.declared.Ratio.{Ratio}
 use Rattle.bands.specs.Bands.{bands, counted, valued, quotientOf}

@@ -4,12 +4,13 @@ use mathlib.Core.Path.{refl, _∙_}
 use mathlib.Core.List.{List, [], _∷_, _++_, append-assoc}
 use native.Mathlib.Omega.{arith}
 use Rattle.laws.specs.Lists.{Every, last, Linked}
+use Rattle.laws.proofs.Every.{every-map, last-has}
 use Rattle.records.specs.declared.Hull.{Hull}
 use Rattle.records.specs.declared.RowHead.{RowHead}
 use Rattle.casefile.specs.Record.{Row}
 use Rattle.casefile.specs.Valid.{SameGroup, LaterGroup, BelowTop, ClosesGroup, higher, deeper, later, Ordered}
 use Rattle.casefile.specs.Groups.{Layer, Group, rowsOfLayers, allRows, layerHead, groupHead, SameLayer, LayerFits, GroupFits, GroupsRise, OrderInWords}
-use Rattle.casefile.proofs.Groups.{After, linked-after, same-group, same-layer, later-of, every-map, last-has, into-groups}
+use Rattle.casefile.proofs.Groups.{After, linked-after, same-group, same-layer, later-of, into-groups}
 
 -- the row that a layer ends with
 abbrev topRow : Layer → Row

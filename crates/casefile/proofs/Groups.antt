@@ -5,6 +5,7 @@ use mathlib.Core.List.{List, [], _∷_}
 use mathlib.Core.Logic.{inl, inr}
 use native.Mathlib.Omega.{arith}
 use Rattle.laws.specs.Lists.{Every, last, Linked}
+use Rattle.laws.proofs.Every.{every-map}
 use Rattle.records.specs.declared.Hull.{Hull}
 use Rattle.records.specs.declared.RowHead.{RowHead}
 use Rattle.casefile.specs.Record.{Row}
@@ -48,14 +49,6 @@ later-than r k x (a, n) (inr (b, m)) = inr (b ∙ a, omega arith)
 pub later-of : (k r x : RowHead) → SameGroup k r → LaterGroup k x → LaterGroup r x
 later-of k r x (a, n) (inl l) = inl (omega arith)
 later-of k r x (a, n) (inr (b, m)) = inr (b ∙ sym a, omega arith)
-
-pub every-map : {A : Type 0} (P Q : A → Type 0) → ((x : A) → P x → Q x) → (xs : List A) → Every P xs → Every Q xs
-every-map P Q f [] e = tt
-every-map P Q f (x ∷ xs) e = (f x (e .0), every-map P Q f xs (e .1))
-
-pub last-has : {A : Type 0} (P : A → Type 0) (x : A) (xs : List A) → P x → Every P xs → P (last x xs)
-last-has P x [] p e = p
-last-has P x (y ∷ xs) p e = last-has P y xs (e .0) (e .1)
 
 -- ---- rows into groups
 

@@ -1,5 +1,4 @@
 -- The figures of a refusal, worked out, in a slice of fourteen. Assumes nothing.
-use Prim.Native.Nat.{ℕ}
 use mathlib.Core.Path.{_≡_, refl}
 use mathlib.Core.List.{[], _∷_}
 use Rattle.records.specs.declared.Answer.{Answer}

@@ -7,7 +7,7 @@ use mathlib.Core.List.{List, [], _∷_, _++_, append-assoc}
 use native.Mathlib.Omega.{arith}
 use borrow.Author.Tests.{ne-eqb}
 use Rattle.laws.specs.Lists.{Every, Linked}
-use Rattle.laws.proofs.Every.{every-parts, every-joined}
+use Rattle.laws.proofs.Every.{last-has, every-parts, every-joined}
 use Rattle.laws.proofs.Tests.{holds}
 use Rattle.records.specs.declared.Hull.{Hull}
 use Rattle.records.specs.declared.RowHead.{RowHead}
@@ -18,7 +18,7 @@ use Rattle.casefile.specs.Valid.{SameGroup, LaterGroup, ValidRow}
 use Rattle.casefile.specs.Groups.{Layer, Group, layerRows, rowsOfLayers, groupRows, allRows, layerHead, groupHead, SameLayer, LayerFits, GroupFits, GroupsRise}
 use Rattle.casefile.proofs.Limits.{Head, row-is}
 use Rattle.casefile.proofs.Order.{is-same, not-same}
-use Rattle.casefile.proofs.Groups.{same-group, later-of, last-has}
+use Rattle.casefile.proofs.Groups.{same-group, later-of}
 use Rattle.rows.specs.declared.Standing.{Standing}
 use Rattle.rows.specs.Standing.{nowhere, stands}
 use Rattle.rows.proofs.Stands.{inGroup, in-next-layer, in-new-group}

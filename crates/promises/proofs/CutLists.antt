@@ -6,14 +6,13 @@ use native.Mathlib.Omega.{arith}
 use lib.ListN.{length, drop}
 use Rattle.laws.specs.Lists.{Every, last, Linked}
 use Rattle.laws.specs.Fraction.{Fraction}
-use Rattle.laws.proofs.Every.{every-one, every-taken, every-dropped}
+use Rattle.laws.proofs.Every.{every-one, every-map, every-taken, every-dropped}
 use Rattle.records.specs.declared.Hull.{Hull}
 use Rattle.solas.specs.Height.{top}
 use Rattle.solas.specs.Index.{dp}
 use Rattle.casefile.specs.Record.{Row, Case}
 use Rattle.casefile.specs.Valid.{BelowTop, ValidRow}
 use Rattle.casefile.specs.Groups.{layerRows}
-use Rattle.casefile.proofs.Groups.{every-map}
 use Rattle.promises.specs.Sums.{LayerAfter, heights, EachLayer, LowButTops, middle}
 
 -- ---- the heights of a layer's rows

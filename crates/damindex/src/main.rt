@@ -2,8 +2,8 @@
 fn main() {
     let mut input = [0u8; 32_769];
     let n = io::read_full(0, &mut input);
-    let mut out = [0u8; 9_569];
-    let k = index::report(&input[..n], &mut out);
+    let mut out = [0u8; 12_569];
+    let k = index::printed::report(&input[..n], &mut out);
     if !io::write_all(1, &out[..k]) {
         io::write_all(2, b"damindex: the answer could not be written\n");
     }

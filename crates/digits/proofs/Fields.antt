@@ -1,5 +1,5 @@
 -- Fields that are written part by part: how long they are, and what the buffer holds once the last part is there. Assumes nothing.
-use Prim.Native.Nat.{ℕ, _+_, _/_, _%_}
+use Prim.Native.Nat.{ℕ, _+_, _/_, _%_, _<_}
 use mathlib.Core.Path.{_≡_, refl, sym, _∙_, ap}
 use mathlib.Core.List.{List, _++_}
 use native.Mathlib.Numerals.{add-one}
@@ -33,6 +33,13 @@ pub byte-written : (at n : ℕ) (xs : List ℕ) {high low : ℕ} → high ≡ di
     set (set xs at high) (at + 1) low ≡ splice at (hex (bytes 1 n)) xs
 unfolding splice
 byte-written at n xs e f = rw (e, f, two-digits n, add-one at) refl
+
+pub low-written : (at n : ℕ) (xs : List ℕ) {low : ℕ} → n < 16 → low ≡ digit n → set (set xs at 48) (at + 1) low ≡ splice at (hex (bytes 1 n)) xs
+unfolding digit
+low-written at n xs h e =
+    let high : n / 16 % 16 ≡ 0 = omega arith in
+    let rest : n % 16 ≡ n = omega arith in
+    byte-written at n xs (rw high refl) (rw rest e)
 
 module _ (at : ℕ) (xs : List ℕ) {ys zs : List ℕ} where
   pub two-written : (n : ℕ) → ys ≡ splice at (hex (bytes 1 (n / 256))) xs → zs ≡ splice (at + 2) (hex (bytes 1 n)) ys →

@@ -26,6 +26,15 @@ pub fn put_byte(n: u64, out: &mut [u8], at: usize)
     out[at + 1] = digit_of(n % 16);
 }
 
+// A byte below 16: a zero, and its one digit.
+pub fn put_low(n: u64, out: &mut [u8], at: usize)
+    requires { ⌜ (n < 16) × (at + 2 ≤ length (now out)) ⌝ }
+    ensures { λ _. ⌜ now (out .exit) ≡ splice at (hex (bytes 1 n)) (now (out .entry)) ⌝ }
+{
+    out[at] = 48;
+    out[at + 1] = digit_of(n);
+}
+
 // The two low bytes of n.
 pub fn put_two(n: u64, out: &mut [u8], at: usize)
     requires { ⌜ at + 4 ≤ length (now out) ⌝ }

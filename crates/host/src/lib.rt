@@ -1,13 +1,15 @@
-// The service for a host in another language: the printed answer, or its twelve figures, on numbers and lent slices alone, and the version.
+// The service for a host in another language: the printed answer, its twelve figures, or its rows' survivals and marks, on numbers and lent slices
+// alone, and the version.
 ghost use mathlib.Core.Path.{_≡_};
 ghost use lib.ListN.{length};
 ghost use Rattle.casefile.specs.Reading.{reading};
-ghost use Rattle.answers.specs.Report.{reportLength, reportedIn};
+ghost use Rattle.printing.specs.Written.{countIn, writtenIn};
+ghost use Rattle.answers.specs.Report.{report, survivalsIn};
 ghost use Rattle.host.specs.Figures.{figureCount, figuresAfter, sheetBeside};
 ghost use Rattle.host.specs.Version.{version};
 
 // This version: the one place of it in code. The header, the shared object's name and the pkg-config file are held to it.
-const MAJOR: u32 = 1;
+const MAJOR: u32 = 2;
 
 const MINOR: u32 = 0;
 
@@ -26,9 +28,9 @@ pub extern "C" fn damindex_version() -> u32
 // The printed answer of any bytes, in front of the buffer, and how many bytes that is: none where there is too little room.
 #[no_mangle]
 pub extern "C" fn damindex_report(input: &[u8], out: &mut [u8]) -> usize
-    ensures { λ r. ⌜ (r ≡ reportLength (reading (now (input .entry))) (now (out .entry))) × (now (out .exit) ≡ reportedIn (reading (now (input .entry))) (now (out .entry))) ⌝ }
+    ensures { λ r. ⌜ (r ≡ countIn (report (reading (now (input .entry)))) (now (out .entry))) × (now (out .exit) ≡ writtenIn (report (reading (now (input .entry)))) (now (out .entry))) ⌝ }
 {
-    index::report(input, out)
+    index::printed::report(input, out)
 }
 
 // The twelve figures of any bytes, in front of those lent, with each row's share on the sheet; or 0, and nothing is written, where fewer than
@@ -43,4 +45,13 @@ pub extern "C" fn damindex_figures(input: &[u8], sheet: &mut [u64], figures: &mu
     let a = index::answer(input, sheet);
     figures::write_figures(a, figures);
     12
+}
+
+// The survivals of the rows of any bytes that are accepted, nine numbers a row in front of those lent: at each draught the bottom, the top and the
+// byte of the marks. How many numbers that is: none, and nothing is written, where the bytes are refused or there is too little room.
+#[no_mangle]
+pub extern "C" fn damindex_rows(input: &[u8], rows: &mut [u64]) -> usize
+    ensures { λ r. ⌜ (r ≡ countIn (survivalsIn (reading (now (input .entry)))) (now (rows .entry))) × (now (rows .exit) ≡ writtenIn (survivalsIn (reading (now (input .entry)))) (now (rows .entry))) ⌝ }
+{
+    index::rowwise::survivals(input, rows)
 }

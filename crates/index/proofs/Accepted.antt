@@ -62,9 +62,10 @@ module _ (kept : List ℕ) (h : Hull) (rows : ℕ) (valid : Valid (keptCase kept
   pub not-long : h .length ≤ 10 ^ 6
   not-long = omega (arith, sizes .short)
 
-  pub fill-asked : (sheet : List ℕ) {t : List ℕ} → t ≡ tableOf h → 25 * rows ≤ length kept → 2 * rows ≤ length sheet →
-      Ready h t × ((h .deepest < 2 ^ 32) × (h .light < 2 ^ 32)) × (rows ≤ 500) × (25 * rows ≤ length kept) × (2 * rows ≤ length sheet) × Follow h nowhere (keptRows rows kept 0)
-  fill-asked sheet t k l =
+  -- what is asked before its rows are worked through, whatever room they need
+  pub rows-asked : {Room : Type 0} {t : List ℕ} → t ≡ tableOf h → 25 * rows ≤ length kept → Room →
+      Ready h t × ((h .deepest < 2 ^ 32) × (h .light < 2 ^ 32)) × (rows ≤ 500) × (25 * rows ≤ length kept) × Room × Follow h nowhere (keptRows rows kept 0)
+  rows-asked t k l =
       let few : rows ≤ 500 = omega (arith, valid .few, length-kept rows kept 0) in
       (ready hull-is t, (omega (arith, sizes .shallow), omega (arith, sizes .shallow, sizes .lighter)), few, k, l, rows-follow (keptCase kept h rows) valid)
 
@@ -104,7 +105,7 @@ module _ (f : List ℕ) {j : Judgement} (e : j ≡ judgementOf (reading f)) (z :
 
   -- the rows are kept
   module _ (kept : List ℕ) (k : Keeps (reading f) kept) where
-    known-case : reading f ≡ accepted (keptCase kept (j .hull) (j .rows))
+    pub known-case : reading f ≡ accepted (keptCase kept (j .hull) (j .rows))
     known-case =
         let c = case-is .0 in
         case-is .1 ∙ ap accepted (sym (same-case kept (j .hull) (j .rows) c (ap (λ j. j .hull) told) (ap (λ j. j .rows) told) (rw (case-is .1) at k)))

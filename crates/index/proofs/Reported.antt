@@ -1,36 +1,111 @@
--- What is written into the buffer is the printed answer, from the answer and a sheet with room for every case's shares. Assumes nothing.
-use Prim.Native.Nat.{ℕ, _*_}
-use mathlib.Core.Path.{_≡_, refl, _∙_}
+-- What is written into a lent buffer is the printed answer, or the rows' survivals, of any file by its judgement. Assumes nothing.
+use Prim.Native.Nat.{ℕ, _+_, _*_, _≤_, _<_}
+use mathlib.Core.Path.{_≡_, refl, sym, _∙_, ap}
 use mathlib.Core.Bool.{true}
-use mathlib.Core.List.{List}
+use mathlib.Core.List.{List, _++_}
+use native.Mathlib.Omega.{arith}
 use lib.Dec.{leb}
-use lib.ListN.{length}
+use lib.ListN.{length, drop}
 use borrow.Author.Tests.{le-leb}
+use Rattle.hexadecimal.specs.Hex.{lineOf}
+use Rattle.digits.specs.Splice.{splice}
 use Rattle.records.specs.declared.Answer.{Answer}
-use Rattle.casefile.specs.Reading.{reading}
-use Rattle.casefile.proofs.Soundness.{sound}
-use Rattle.printing.specs.Written.{textOf, canPrint, lengthOf, writtenOf}
-use Rattle.answers.specs.Answer.{answered, sheetAfter}
-use Rattle.answers.specs.Report.{report, reportLength, reportedIn}
-use Rattle.answers.proofs.Prints.{Prints, prints}
+use Rattle.records.specs.declared.Hull.{Hull}
+use Rattle.casefile.specs.declared.Judgement.{Judgement}
+use Rattle.casefile.specs.Record.{Case}
+use Rattle.casefile.specs.Reading.{Reading, refused, accepted, reading}
+use Rattle.casefile.specs.Answer.{judgementOf}
+use Rattle.casefile.specs.Kept.{keptRows, Keeps}
+use Rattle.casefile.proofs.Kept.{length-kept}
+use Rattle.printing.specs.Printed.{refusalFrame, figuresFrame, rowLines, printed, printedLength}
+use Rattle.printing.specs.Written.{countIn, writtenIn}
+use Rattle.printing.proofs.Whole.{length-printed, rows-then-figures}
+use Rattle.printing.proofs.Written.{written-in, not-written}
+use Rattle.rows.specs.Standing.{nowhere}
+use Rattle.rows.specs.Work.{linesFrom}
+use Rattle.rows.specs.Survivals.{survivalsFrom}
+use Rattle.rows.proofs.AsNumbers.{length-survivals}
+use Rattle.answers.specs.Answer.{figures, answer}
+use Rattle.answers.specs.Report.{linesIn, report, survivalsIn}
+use Rattle.answers.proofs.Prints.{length-lines, report-refused, report-accepted}
+use Rattle.index.specs.Kept.{keptCase}
+use Rattle.index.proofs.Accepted.{known-case, few-rows}
 
-module _ (f out blank : List ℕ) {sheet : List ℕ} {a : Answer} (long : length blank ≡ 1000) (answers : a ≡ answered (reading f) (length blank)) (filled : sheet ≡ sheetAfter (reading f) blank) where
-  known : Prints (reading f) blank
-  known = prints (reading f) blank long (λ c e. sound f c e .1 .few)
+-- a text of that length, written in front of a buffer or not at all
+module _ {A : Type 0} (text buffer : List A) {n : ℕ} (long : length text ≡ n) where
+  too-little : length buffer < n → (0 ≡ countIn text buffer) × (buffer ≡ writtenIn text buffer)
+  too-little l = not-written text buffer (omega (arith, long))
 
-  text-is : textOf a sheet ≡ report (reading f)
-  text-is = rw (answers, filled) (known .text)
+  enough : n ≤ length buffer → {after : List A} → after ≡ splice 0 text buffer → (n ≡ countIn text buffer) × (after ≡ writtenIn text buffer)
+  enough l e = written-in text buffer (omega (arith, long)) (sym long) e
 
-  can-print : canPrint a sheet out ≡ leb (length (report (reading f))) (length out)
-  unfolding canPrint
-  can-print =
-      let room : leb (2 * a .rows) (length sheet) ≡ true = rw (answers, filled) (le-leb (2 * answered (reading f) (length blank) .rows) (length (sheetAfter (reading f) blank)) (known .room)) in
-      rw (room, text-is) refl
+  in-front : n ≤ length buffer → {after : List A} → after ≡ text ++ drop n buffer → (n ≡ countIn text buffer) × (after ≡ writtenIn text buffer)
+  unfolding countIn writtenIn
+  in-front l e =
+      let t : leb (length text) (length buffer) ≡ true = le-leb (length text) (length buffer) (omega (arith, long)) in
+      (rw t (sym long), rw (t, long) e)
 
-  pub length-reported : {n : ℕ} → n ≡ lengthOf a sheet out → n ≡ reportLength (reading f) out
-  unfolding lengthOf reportLength
-  length-reported e = e ∙ rw (can-print, text-is) refl
+-- ---- a case as it is kept: the rows' lines are put first, then that of the figures in front
 
-  pub text-reported : {now : List ℕ} → now ≡ writtenOf a sheet out → now ≡ reportedIn (reading f) out
-  unfolding writtenOf reportedIn
-  text-reported e = e ∙ rw (can-print, text-is) refl
+no-number : (c : Case) → answer c .number ≡ 0
+unfolding answer figures
+no-number c = refl
+
+pub lines-then-figures : (kept : List ℕ) (h : Hull) (rows : ℕ) (out : List ℕ) {a : Answer} {ys zs : List ℕ} → a ≡ answer (keptCase kept h rows) →
+    ys ≡ splice 69 (rowLines (linesFrom h nowhere (keptRows rows kept 0))) out → zs ≡ splice 0 (lineOf (figuresFrame a)) ys →
+    zs ≡ splice 0 (printed (answer (keptCase kept h rows)) (linesIn (accepted (keptCase kept h rows)))) out
+unfolding linesIn
+lines-then-figures kept h rows out e p q = rows-then-figures (answer (keptCase kept h rows)) (linesFrom h nowhere (keptRows rows kept 0)) (no-number (keptCase kept h rows)) out p (rw e at q)
+
+-- ---- a refused file
+
+pub refusal-printed : (r : Reading) (out : List ℕ) {j : Judgement} {n : ℕ} {after : List ℕ} → j ≡ judgementOf r → (j .number ≡ 0 → ⊥) →
+    (n ≡ countIn (lineOf (refusalFrame (j .number) (j .line))) out) × (after ≡ writtenIn (lineOf (refusalFrame (j .number) (j .line))) out) →
+    (n ≡ countIn (report r) out) × (after ≡ writtenIn (report r) out)
+refusal-printed (refused k l) out {j} e some (p, q) =
+    let same : lineOf (refusalFrame (j .number) (j .line)) ≡ report (refused k l) =
+    rw e (sym (report-refused k l (λ z. some (ap (λ (j : Judgement). j .number) e ∙ z)))) in
+    (p ∙ ap (λ t. countIn t out) same, q ∙ ap (λ t. writtenIn t out) same)
+refusal-printed (accepted c) out e some w = absurd (some (ap (λ (j : Judgement). j .number) e))
+
+pub refusal-lists-none : (r : Reading) (out : List ℕ) {j : Judgement} → j ≡ judgementOf r → (j .number ≡ 0 → ⊥) → (0 ≡ countIn (survivalsIn r) out) × (out ≡ writtenIn (survivalsIn r) out)
+unfolding survivalsIn
+refusal-lists-none (refused k l) out e some = in-front _ out refl (omega arith) refl
+refusal-lists-none (accepted c) out e some = absurd (some (ap (λ (j : Judgement). j .number) e))
+
+-- ---- an accepted file, whose rows are kept
+
+module _ (f : List ℕ) {j : Judgement} (e : j ≡ judgementOf (reading f)) (z : j .number ≡ 0) (kept : List ℕ) (k : Keeps (reading f) kept) where
+  abbrev case : Case
+  case = keptCase kept (j .hull) (j .rows)
+
+  as-many : length (case .rows) ≡ j .rows
+  as-many = length-kept (j .rows) kept 0
+
+  text-is : report (reading f) ≡ printed (answer case) (linesIn (accepted case))
+  text-is = ap report (known-case f e z kept k) ∙ report-accepted case (omega (arith, as-many, few-rows f e z kept k))
+
+  length-is : length (printed (answer case) (linesIn (accepted case))) ≡ 69 + 25 * j .rows
+  unfolding answer figures linesIn printedLength
+  length-is = length-printed (answer case) (linesIn (accepted case)) (length-lines (case .hull) nowhere (case .rows)) ∙ ap (λ n. 69 + 25 * n) as-many
+
+  pub report-too-long : (out : List ℕ) → length out < 69 + 25 * j .rows → (0 ≡ countIn (report (reading f)) out) × (out ≡ writtenIn (report (reading f)) out)
+  report-too-long out l = rw text-is (too-little _ out length-is l)
+
+  pub report-written : (out : List ℕ) → 69 + 25 * j .rows ≤ length out → {after : List ℕ} → after ≡ splice 0 (printed (answer case) (linesIn (accepted case))) out →
+      (69 + 25 * j .rows ≡ countIn (report (reading f)) out) × (after ≡ writtenIn (report (reading f)) out)
+  report-written out l p = rw text-is (enough _ out length-is l p)
+
+  survivals-are : survivalsIn (reading f) ≡ survivalsFrom (keptRows (j .rows) kept 0)
+  unfolding survivalsIn
+  survivals-are = rw (known-case f e z kept k) refl
+
+  nine-a-row : length (survivalsFrom (keptRows (j .rows) kept 0)) ≡ 9 * j .rows
+  nine-a-row = length-survivals (keptRows (j .rows) kept 0) ∙ ap (λ n. 9 * n) as-many
+
+  pub list-too-long : (out : List ℕ) → length out < 9 * j .rows → (0 ≡ countIn (survivalsIn (reading f)) out) × (out ≡ writtenIn (survivalsIn (reading f)) out)
+  list-too-long out l = rw survivals-are (too-little _ out nine-a-row l)
+
+  pub list-written : (out : List ℕ) → 9 * j .rows ≤ length out → {after : List ℕ} → after ≡ survivalsFrom (keptRows (j .rows) kept 0) ++ drop (9 * j .rows) out →
+      (9 * j .rows ≡ countIn (survivalsIn (reading f)) out) × (after ≡ writtenIn (survivalsIn (reading f)) out)
+  list-written out l p = rw survivals-are (in-front _ out nine-a-row l p)

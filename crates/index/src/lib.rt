@@ -7,13 +7,15 @@ ghost use Rattle.indices.specs.Index.{Within};
 ghost use Rattle.casefile.specs.Reading.{reading};
 ghost use Rattle.casefile.specs.Valid.{Valid};
 ghost use Rattle.answers.specs.Answer.{figures, answer, shares, refusal, answered, sheetAfter};
-ghost use Rattle.answers.specs.Report.{reportLength, reportedIn};
 ghost use Rattle.index.specs.Kept.{keptCase};
 use records::Answer;
 use records::Ends;
 use records::Hull;
 use records::Trio;
 use rows::sheet::fill;
+
+pub mod rowwise; // the rows' survivals, for a host
+pub mod printed; // the printed answer
 
 // A refusal's number and line, and zeros.
 fn refuse(number: u64, line: u64) -> Answer
@@ -78,20 +80,4 @@ pub fn answer(input: &[u8], sheet: &mut [u64]) -> Answer
     }
     let h = judged.hull;
     complete(&kept, h, judged.rows, sheet)
-}
-
-// A sheet of 1,000 numbers, with room for every case's shares.
-fn blank() -> [u64; 1_000]
-    ensures { λ r. ⌜ length r ≡ 1000 ⌝ }
-{
-    [0u64; 1_000]
-}
-
-// The printed answer of any bytes, in front of the buffer, and how many bytes that is: none where there is too little room.
-pub fn report(input: &[u8], out: &mut [u8]) -> usize
-    ensures { λ r. ⌜ (r ≡ reportLength (reading (now (input .entry))) (now (out .entry))) × (now (out .exit) ≡ reportedIn (reading (now (input .entry))) (now (out .entry))) ⌝ }
-{
-    let mut sheet = blank();
-    let a = answer(input, &mut sheet);
-    printing::write_answer(a, &sheet, out)
 }

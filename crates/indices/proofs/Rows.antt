@@ -11,8 +11,8 @@ use Rattle.records.specs.declared.Trio.{Trio}
 use Rattle.solas.specs.Height.{rowV}
 use Rattle.solas.proofs.Height.{row-at-most}
 use Rattle.heights.specs.Height.{rowVs}
-use Rattle.survival.specs.Survival.{ends, factorOf, factorsOf, survivalsOf, nothing}
-use Rattle.indices.specs.Index.{Weights, RowWeights, Given, trio, lost}
+use Rattle.survival.specs.Survival.{factorOf, survivalOf, survivalsOf, nothing, noSurvival}
+use Rattle.indices.specs.Index.{Weights, RowWeights, Given, trio}
 use Rattle.survival.proofs.Bounds.{ends-ordered, ends-at-most}
 use Rattle.survival.proofs.Factors.{found-sensible}
 
@@ -25,16 +25,16 @@ three p q r = rw (p, q, r) refl
 
 -- ---- v and survival are at most one
 pub row-weights : (H′ H : ℕ) (ds : List ℕ) (kind : ℕ) {fs : List Finding} → Given fs → RowWeights (rowVs H′ H ds) (survivalsOf kind fs)
-unfolding rowVs survivalsOf factorsOf
+unfolding rowVs survivalsOf survivalOf
 row-weights H′ H ds kind {fs} h = record { each = each }
   where
-    at : (i : ℕ) → Weights (rowV H′ H (getD ds i 0)) (ends (factorOf kind (getD fs i nothing)))
+    at : (i : ℕ) → Weights (rowV H′ H (getD ds i 0)) (survivalOf kind (getD fs i nothing))
     at i =
         let s = factorOf kind (getD fs i nothing) in
         let p = found-sensible kind (getD fs i nothing) (h .each i) in
         record { height = row-at-most H′ H (getD ds i 0); bottom = le-trans (ends-ordered s p) (ends-at-most s p); top = ends-at-most s p }
 
-    each : (i : ℕ) → Weights (getD (rowVs H′ H ds) i 0) (getD (survivalsOf kind fs) i lost)
+    each : (i : ℕ) → Weights (getD (rowVs H′ H ds) i 0) (getD (survivalsOf kind fs) i noSurvival)
     each zero = at 0
     each (suc zero) = at 1
     each (suc (suc zero)) = at 2

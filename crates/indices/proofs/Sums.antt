@@ -1,26 +1,22 @@
 -- Partial indices as sums of what rows add: one row more, and draught by draught. Assumes nothing.
 use Prim.Native.Nat.{ℕ, zero, suc, _+_, _*_, _^_, _≤_}
-use mathlib.Core.List.{List, [], _∷_, _++_, map}
-use mathlib.Core.Path.{_≡_, refl, ap, ap₂}
+use mathlib.Core.List.{List, [], _∷_, _++_}
+use mathlib.Core.Path.{_≡_, refl, ap}
 use native.Mathlib.Nat.{le-trans, mul-le-mul, div-le-of-le-mul}
 use native.Mathlib.Omega.{arith}
 use lib.Dec.{lit<}
-use lib.ListN.{getD, List·getD-map}
+use lib.ListN.{getD}
 use Rattle.laws.proofs.Rounding.{ceil-least}
 use Rattle.laws.proofs.Sums.{sumOf-append}
 use Rattle.numbers.proofs.Figures.{both}
 use Rattle.records.specs.declared.Ends.{Ends}
 use Rattle.records.specs.declared.Survival.{Survival}
 use Rattle.records.specs.declared.Trio.{Trio}
-use Rattle.survival.specs.Survival.{given, ends}
-use Rattle.indices.specs.Index.{scale, addsOf, at, lost, addsAt, rowAdds, sums, plus, sumAt, partials, Share, RowWeights, Small, Within}
-use Rattle.indices.specs.Exact.{Row, rowAt, rowEnds}
+use Rattle.survival.specs.Survival.{noSurvival}
+use Rattle.indices.specs.Index.{scale, addsOf, at, addsAt, rowAdds, sums, plus, sumAt, partials, Share, RowWeights, Small, Within}
+use Rattle.indices.specs.Exact.{rowTrio}
 use Rattle.indices.specs.Promises.{SumsAreThese}
 use Rattle.indices.proofs.Rows.{three}
-
--- ---- what a row adds at a draught is what the row at that draught adds
-adds-at : (r : Row) (i : ℕ) → addsAt (r .shareEnds) (r .vs) (map ends (r .factors)) i ≡ rowEnds (rowAt i r)
-adds-at r i = ap (λ s. addsOf (r .shareEnds) (getD (r .vs) i 0) s) (List·getD-map ends (r .factors) i (given 0))
 
 -- ---- one row more, after the others
 pub partials-snoc : (ts : List Trio) (t : Trio) → partials (ts ++ t ∷ []) ≡ plus (partials ts) t
@@ -33,9 +29,9 @@ partials-snoc ts t = three (more 0) (more 1) (more 2)
 
 -- ---- row by row, and draught by draught
 pub sums-are-these : SumsAreThese
-unfolding partials rowAdds plus sums
+unfolding partials plus sums
 sums-are-these [] = refl
-sums-are-these (r ∷ rs) = ap₂ plus (three (adds-at r 0) (adds-at r 1) (adds-at r 2)) (sums-are-these rs)
+sums-are-these (r ∷ rs) = ap (plus (rowTrio r)) (sums-are-these rs)
 
 -- ---- how large they are
 small : {k a b c : ℕ} → a ≤ k → b ≤ k → c ≤ k → Small k (a ∷ b ∷ c ∷ [])
@@ -57,7 +53,7 @@ row-within {share} {vs} {ss} h w = record { low = small (down 0) (down 1) (down 
     up : (i : ℕ) → addsAt share vs ss i .upper ≤ 10 ^ 9
     up i =
         let k = w .each i in
-        ceil-least (share .upper * getD vs i 0 * getD ss i lost .top) scale (10 ^ 9) (lit< tt) .1 (omega (arith, mul-le-mul (mul-le-mul (h .high) (k .height)) (k .top)))
+        ceil-least (share .upper * getD vs i 0 * getD ss i noSurvival .top) scale (10 ^ 9) (lit< tt) .1 (omega (arith, mul-le-mul (mul-le-mul (h .high) (k .height)) (k .top)))
 
 pub plus-within : {j k : ℕ} {t u : Trio} → Within j t → Within k u → Within (j + k) (plus t u)
 unfolding plus sums

@@ -15,7 +15,8 @@ use Rattle.solas.specs.Index.{dp, draughts}
 use Rattle.solas.specs.Survival.{k, s⁴}
 use Rattle.numbers.specs.Ratio.{ratioOf}
 use Rattle.heights.specs.Height.{rowVs}
-use Rattle.survival.specs.Survival.{factorOf, scaledOf, roundedOf, factorsOf, survivalsOf}
+use Rattle.survival.specs.Marks.{unmarked}
+use Rattle.survival.specs.Survival.{factorOf, scaledOf, roundedOf, survivalOf, survivalsOf}
 use Rattle.indices.specs.Index.{addsOf, trio, rowAdds, partials, attainedOf}
 
 abbrev found : ℕ → ℕ → ℕ → Finding
@@ -25,7 +26,7 @@ abbrev given : ℕ → Finding
 given s = record { lever = 0; range = 0; heel = 0; given = s }
 
 abbrev survived : ℕ → ℕ → Survival
-survived bottom top = record { bottom = bottom; top = top }
+survived bottom top = record { bottom = bottom; top = top; marks = unmarked }
 
 abbrev ends : ℕ → ℕ → Ends
 ends lower upper = record { lower = lower; upper = upper }
@@ -46,7 +47,7 @@ abbrev printed : Ends
 printed = ends 0x34243ab9 0x34243abb
 
 pub one-file : (file ≡ trio printed printed printed) × (attainedOf file ≡ printed)
-unfolding rowVs rowV vAt v dp survivalsOf factorsOf factorOf s⁴ k ratioOf scaledOf roundedOf rootDown rootUp withDigits ceil _⊛_ _less_over_ addsOf rowAdds partials attainedOf
+unfolding rowVs rowV vAt v dp survivalsOf survivalOf factorOf s⁴ k ratioOf scaledOf roundedOf rootDown rootUp withDigits ceil _⊛_ _less_over_ addsOf rowAdds partials attainedOf
 one-file = (refl, refl)
 
 -- a row whose share and survival have two ends, and which adds something else at each draught

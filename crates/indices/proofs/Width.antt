@@ -9,7 +9,6 @@ use Rattle.laws.specs.Lists.{Every}
 use Rattle.laws.specs.Sums.{sumOf}
 use Rattle.laws.proofs.Rounding.{floor-upper, ceil-upper, ends-apart}
 use Rattle.records.specs.declared.Ends.{Ends}
-use Rattle.records.specs.declared.Survival.{Survival}
 use Rattle.records.specs.declared.Trio.{Trio}
 use Rattle.survival.specs.Survival.{ends}
 use Rattle.indices.specs.Index.{scale, at, addsOf, attainedOf}
@@ -18,11 +17,11 @@ use Rattle.indices.specs.Promises.{AtMostOne, PartialWidth, PartialAtMos
 use Rattle.survival.proofs.Bounds.{ends-near, ends-ordered, ends-at-most}
 
 -- ---- what a row adds: the two roundings come to less than two
-pub adds-width : (share : Ends) (v : ℕ) (s : Survival) →
-    addsOf share v s .upper * scale + share .lower * v * s .bottom + 2 ≤ addsOf share v s .lower * scale + share .upper * v * s .top + 2 * scale
+pub adds-width : (share : Ends) (v bottom top : ℕ) →
+    addsOf share v bottom top .upper * scale + share .lower * v * bottom + 2 ≤ addsOf share v bottom top .lower * scale + share .upper * v * top + 2 * scale
 unfolding addsOf
-adds-width share v s =
-    omega (arith, ceil-upper (share .upper * v * s .top) scale (lit< tt), floor-upper (share .lower * v * s .bottom) scale (lit< tt))
+adds-width share v bottom top =
+    omega (arith, ceil-upper (share .upper * v * top) scale (lit< tt), floor-upper (share .lower * v * bottom) scale (lit< tt))
 
 -- ends of a share that are w apart weigh w, and a survival that is rounded weighs the share once
 products-apart : (lo hi w v bottom top : ℕ) → hi ≤ lo + w → v ≤ 916500 → top ≤ bottom + 1 → top ≤ 10 ^ 4 → hi * v * top ≤ lo * v * bottom + lo * v + w * scale
@@ -35,7 +34,7 @@ row-width w r h =
     let s = ends (r .factor) in
     omega (
       arith,
-      adds-width share (r .v) s,
+      adds-width share (r .v) (s .bottom) (s .top),
       products-apart (share .lower) (share .upper) w (r .v) (s .bottom) (s .top) (h .near) (h .height) (ends-near (r .factor) (h .factor)) (ends-at-most (r .factor) (h .factor)),
     )
 

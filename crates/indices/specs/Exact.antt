@@ -9,7 +9,7 @@ use Rattle.records.specs.declared.Ends.{Ends}
 use Rattle.records.specs.declared.Trio.{Trio}
 use Rattle.solas.specs.Index.{attained}
 use Rattle.survival.specs.Survival.{Factor, given, ends, Sensible, NotAbove, NotBelow}
-use Rattle.indices.specs.Index.{addsOf, trio, rowAdds}
+use Rattle.indices.specs.Index.{addsOf, trio}
 
 -- a row at one draught: its share, exact and in ends, its v, and what its survival is exactly
 pub record RowAt : Type 0 where
@@ -53,7 +53,7 @@ weightedSum (r ∷ rs) (x ∷ xs) = weight r ⊛ x ⊹ weightedSum rs xs
 
 -- what a row adds, and the ends of the partial index of such rows
 abbrev pub rowEnds : RowAt → Ends
-rowEnds r = addsOf (r .shareEnds) (r .v) (ends (r .factor))
+rowEnds r = addsOf (r .shareEnds) (r .v) (ends (r .factor) .bottom) (ends (r .factor) .top)
 
 abbrev pub partialEnds : List RowAt → Ends
 partialEnds rs = record { lower = sumOf (λ r. rowEnds r .lower) rs; upper = sumOf (λ r. rowEnds r .upper) rs }
@@ -91,4 +91,4 @@ abbrev pub rowsAt : List Row → Thrice (List RowAt)
 rowsAt rs = record { deepest = map (rowAt 0) rs; partial = map (rowAt 1) rs; light = map (rowAt 2) rs }
 
 abbrev pub rowTrio : Row → Trio
-rowTrio r = rowAdds (r .shareEnds) (r .vs) (map ends (r .factors))
+rowTrio r = trio (rowEnds (rowAt 0 r)) (rowEnds (rowAt 1 r)) (rowEnds (rowAt 2 r))

@@ -8,15 +8,15 @@ use Rattle.records.specs.declared.Ends.{Ends}
 use Rattle.records.specs.declared.Finding.{Finding}
 use Rattle.records.specs.declared.Survival.{Survival}
 use Rattle.records.specs.declared.Trio.{Trio}
-use Rattle.survival.specs.Survival.{nothing}
+use Rattle.survival.specs.Survival.{nothing, noSurvival}
 
 -- 916,500ths times ten-thousandths
 abbrev pub scale : ℕ
 scale = 916500 * 10 ^ 4
 
 -- "A row adds share x v x s, rounded down at lower ends with the bottom s, up at upper ends with the top"
-unfoldable pub addsOf : Ends → ℕ → Survival → Ends
-addsOf share v s = record { lower = share .lower * v * s .bottom / scale; upper = ceil (share .upper * v * s .top) scale }
+unfoldable pub addsOf : Ends → ℕ → ℕ → ℕ → Ends
+addsOf share v bottom top = record { lower = share .lower * v * bottom / scale; upper = ceil (share .upper * v * top) scale }
 
 -- ---- three draughts: deepest, partial, light
 abbrev pub trio : Ends → Ends → Ends → Trio
@@ -26,11 +26,8 @@ trio s p l = record { lower = s .lower ∷ p .lower ∷ l .lower ∷ []; upper =
 abbrev pub at : Trio → ℕ → Ends
 at t i = record { lower = getD (t .lower) i 0; upper = getD (t .upper) i 0 }
 
-abbrev pub lost : Survival
-lost = record { bottom = 0; top = 0 }
-
 abbrev pub addsAt : Ends → List ℕ → List Survival → ℕ → Ends
-addsAt share vs ss i = addsOf share (getD vs i 0) (getD ss i lost)
+addsAt share vs ss i = addsOf share (getD vs i 0) (getD ss i noSurvival .bottom) (getD ss i noSurvival .top)
 
 unfoldable pub rowAdds : Ends → List ℕ → List Survival → Trio
 rowAdds share vs ss = trio (addsAt share vs ss 0) (addsAt share vs ss 1) (addsAt share vs ss 2)
@@ -69,7 +66,7 @@ pub record Weights (v : ℕ) (s : Survival) : Type 0 where
   pub top : s .top ≤ 10 ^ 4
 
 pub record RowWeights (vs : List ℕ) (ss : List Survival) : Type 0 where
-  pub each : (i : ℕ) → Weights (getD vs i 0) (getD ss i lost)
+  pub each : (i : ℕ) → Weights (getD vs i 0) (getD ss i noSurvival)
 
 -- given survivals are in ten-thousandths
 pub record Given (fs : List Finding) : Type 0 where

@@ -1,5 +1,5 @@
 -- Lines that are written part by part: how long they are, and what the buffer holds once the last part is there. Assumes nothing.
-use Prim.Native.Nat.{ℕ, _+_}
+use Prim.Native.Nat.{ℕ, _+_, _*_}
 use mathlib.Core.Path.{_≡_, refl}
 use mathlib.Core.List.{List, [], _∷_, _++_}
 use native.Mathlib.Omega.{arith}
@@ -10,25 +10,41 @@ use Rattle.records.specs.declared.Answer.{Answer}
 use Rattle.hexadecimal.specs.Hex.{hex, lineOf}
 use Rattle.digits.specs.Splice.{splice}
 use Rattle.digits.specs.Fields.{endsField, partialsField}
-use Rattle.digits.proofs.Text.{digits-then, feed-then}
+use Rattle.digits.proofs.Text.{length-line, digits-then, feed-then}
 use Rattle.digits.proofs.Fields.{length-ends, length-partials}
-use Rattle.printing.specs.Printed.{refusalFrame, figuresFrame, shareFrame}
+use Rattle.printing.specs.Marks.{marksField}
+use Rattle.printing.specs.Printed.{RowLine, refusalFrame, figuresFrame, rowFrame, rowLines}
 -- checked first, so that a definition that prints otherwise is refused there
 use Rattle.printing.proofs.Examples.{refusal-length}
+use Rattle.printing.proofs.Marks.{length-marks}
 
 -- ---- how long each is
 
-pub length-refusal : (number line : ℕ) → length (refusalFrame number line) ≡ 4
+length-refusal : (number line : ℕ) → length (refusalFrame number line) ≡ 4
 unfolding refusalFrame
 length-refusal number line = rw (length-append, length-bytes 1 number, length-bytes 2 line) refl
 
-pub length-figures : (a : Answer) → length (figuresFrame a) ≡ 34
+pub length-refusal-line : (number line : ℕ) → length (lineOf (refusalFrame number line)) ≡ 9
+length-refusal-line number line = omega (arith, length-line (refusalFrame number line), length-refusal number line)
+
+length-figures : (a : Answer) → length (figuresFrame a) ≡ 34
 unfolding figuresFrame
 length-figures a = simp (length-append, length-bytes, length-ends, length-partials) refl
 
-pub length-share : (lower upper : ℕ) → length (shareFrame lower upper) ≡ 9
-unfolding shareFrame
-length-share lower upper = rw (length-ends lower upper) refl
+pub length-figures-line : (a : Answer) → length (lineOf (figuresFrame a)) ≡ 69
+length-figures-line a = omega (arith, length-line (figuresFrame a), length-figures a)
+
+pub length-row : (r : RowLine) → length (rowFrame r) ≡ 12
+unfolding rowFrame
+length-row r = simp (length-append, length-ends, length-marks) refl
+
+pub length-row-line : (r : RowLine) → length (lineOf (rowFrame r)) ≡ 25
+length-row-line r = omega (arith, length-line (rowFrame r), length-row r)
+
+pub length-rows : (rs : List RowLine) → length (rowLines rs) ≡ 25 * length rs
+unfolding rowLines
+length-rows [] = refl
+length-rows (r ∷ rs) = rw (length-append, length-row-line r) (omega (arith, length-rows rs))
 
 -- ---- as they are written
 
@@ -62,12 +78,16 @@ module _ (a : Answer) (xs : List ℕ) {ys zs us vs ws : List ℕ} where
       s)
       t
 
-module _ (lower upper at : ℕ) (xs : List ℕ) {ys zs us : List ℕ} where
-  pub share-written : ys ≡ splice at (hex (bytes 1 130)) xs → zs ≡ splice (at + 2) (hex (endsField lower upper)) ys → us ≡ splice (at + 18) (10 ∷ []) zs →
-      us ≡ splice at (lineOf (shareFrame lower upper)) xs
-  unfolding shareFrame
-  share-written p q r =
+module _ (r : RowLine) (at : ℕ) (xs : List ℕ) {ys zs us vs : List ℕ} where
+  pub row-written : ys ≡ splice at (hex (bytes 1 130)) xs → zs ≡ splice (at + 2) (hex (endsField (r .share .lower) (r .share .upper))) ys →
+      us ≡ splice (at + 18) (hex (marksField (r .survivals))) zs → vs ≡ splice (at + 24) (10 ∷ []) us → vs ≡ splice at (lineOf (rowFrame r)) xs
+  unfolding rowFrame
+  row-written p q s t =
       let kind : bytes 1 130 ≡ 130 ∷ [] = unfold bytes in refl in
-      feed-then at (at + 18) (130 ∷ endsField lower upper) xs (omega (arith, length-ends lower upper))
-      (digits-then at (at + 2) (130 ∷ []) (endsField lower upper) xs (omega arith) (rw kind at p) q)
-      r
+      let ends : List ℕ = endsField (r .share .lower) (r .share .upper) in
+      let n : length ends ≡ 8 = length-ends (r .share .lower) (r .share .upper) in
+      feed-then at (at + 24) (130 ∷ ends ++ marksField (r .survivals)) xs (omega (arith, length-row r))
+      (digits-then at (at + 18) (130 ∷ ends) (marksField (r .survivals)) xs (omega arith)
+      (digits-then at (at + 2) (130 ∷ []) ends xs (omega arith) (rw kind at p) q)
+      s)
+      t

@@ -1,5 +1,6 @@
+pub mod Marks
 pub mod Frames
-pub mod Shares
 pub mod Whole
+pub mod Written
 pub mod Examples
 pub mod ReadBack

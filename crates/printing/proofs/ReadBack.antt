@@ -1,21 +1,24 @@
 -- What is printed can be read back: line by line, frame by frame, figure by figure. Assumes nothing.
-use Prim.Native.Nat.{ℕ, zero, suc, _*_, _<_}
+use Prim.Native.Nat.{ℕ, suc, _<_}
 use mathlib.Core.Path.{_≡_, refl, sym, _∙_, ap, ap₂}
 use mathlib.Core.Bool.{Bool, true, false}
 use mathlib.Core.List.{List, [], _∷_, _++_, map, append-assoc, append-nil}
-use native.Mathlib.Omega.{arith}
 use lib.Dec.{eqb, lit<}
-use lib.ListN.{length, getD, take, drop}
+use lib.ListN.{getD, take, drop}
 use lib.Seq.{take-at, drop-at}
 use Rattle.laws.specs.Bytes.{Octets, number, bytes}
 use Rattle.laws.proofs.Bytes.{octets-cons, octets-append, length-bytes, bytes-octets, number-bytes-all}
 use Rattle.records.specs.declared.Answer.{Answer}
+use Rattle.records.specs.declared.Survival.{Survival}
 use Rattle.lines.specs.Lines.{lines}
 use Rattle.hexadecimal.specs.Hex.{lineOf}
 use Rattle.hexadecimal.proofs.Pairs.{pairs-hex, line-in-front}
 use Rattle.digits.specs.Fields.{endsField, partialField, partialsField}
-use Rattle.printing.specs.Printed.{refusalFrame, figuresFrame, shareFrame, shareLines, printed}
-use Rattle.printing.specs.ReadBack.{refusal, figures, endsOf, toldBy, fours, kindOf, sharesIn, toldIn, frameIn, readBack, Short, Printable, ReadsBack}
+use Rattle.digits.proofs.Fields.{length-ends}
+use Rattle.printing.specs.Marks.{markByte, marksAt, marksField}
+use Rattle.printing.specs.Printed.{RowLine, refusalFrame, figuresFrame, rowFrame, rowLines, printed}
+use Rattle.printing.specs.ReadBack.{refusal, figures, endsOf, sharesOf, marksOfLines, toldBy, fours, marksBy, kindOf, sharesIn, marksIn, toldIn, frameIn, readBack, Short, Printable, ReadsBack}
+use Rattle.printing.proofs.Marks.{marks-by-byte, marks-field-bytes}
 
 -- ---- bytes
 
@@ -38,14 +41,29 @@ figures-octets a =
     (octets-append (129 ∷ bytes 1 (a .verdict)) (endsField (a .attained .lower) (a .attained .upper)) head (ends-octets (a .attained .lower) (a .attained .upper)))
     three
 
-share-octets : (lower upper : ℕ) → Octets (shareFrame lower upper)
-unfolding shareFrame
-share-octets lower upper = octets-cons 130 (endsField lower upper) (lit< tt) (ends-octets lower upper)
+marks-octets : (ss : List Survival) → Octets (marksField ss)
+unfolding marksField
+marks-octets ss =
+    let at : (j : ℕ) → Octets (bytes 1 (markByte (marksAt ss j))) = λ j. bytes-octets 1 (markByte (marksAt ss j)) in
+    octets-append (bytes 1 (markByte (marksAt ss 0)) ++ bytes 1 (markByte (marksAt ss 1))) (bytes 1 (markByte (marksAt ss 2)))
+    (octets-append (bytes 1 (markByte (marksAt ss 0))) (bytes 1 (markByte (marksAt ss 1))) (at 0) (at 1))
+    (at 2)
+
+row-octets : (r : RowLine) → Octets (rowFrame r)
+unfolding rowFrame
+row-octets r =
+    let ends : List ℕ = endsField (r .share .lower) (r .share .upper) in
+    octets-append (130 ∷ ends) (marksField (r .survivals)) (octets-cons 130 ends (lit< tt) (ends-octets (r .share .lower) (r .share .upper))) (marks-octets (r .survivals))
 
 -- ---- lines
 
 next-frame : (frame text : List ℕ) → Octets frame → map frameIn (lines (lineOf frame ++ text)) ≡ frame ∷ map frameIn (lines text)
 next-frame frame text o = rw (line-in-front frame text o, pairs-hex frame o) refl
+
+row-frames : (rs : List RowLine) → map frameIn (lines (rowLines rs)) ≡ map rowFrame rs
+unfolding rowLines lines
+row-frames [] = refl
+row-frames (r ∷ rs) = rw (next-frame (rowFrame r) (rowLines rs) (row-octets r), row-frames rs) refl
 
 -- ---- numbers of four bytes
 
@@ -64,27 +82,31 @@ last-ends lower upper h l = ap (fours 2) (sym (append-nil (endsField lower upper
 
 -- ---- what each line tells
 
-share-kind : (lower upper : ℕ) → kindOf (shareFrame lower upper) ≡ 130
-unfolding shareFrame
-share-kind lower upper = refl
+module _ (r : RowLine) where
+  row-kind : kindOf (rowFrame r) ≡ 130
+  unfolding rowFrame
+  row-kind = refl
 
-share-told : (lower upper : ℕ) → lower < 4294967296 → upper < 4294967296 → fours 2 (drop 1 (shareFrame lower upper)) ≡ lower ∷ upper ∷ []
-unfolding shareFrame
-share-told lower upper h l = last-ends lower upper h l
+  share-told : r .share .lower < 4294967296 → r .share .upper < 4294967296 → fours 2 (drop 1 (rowFrame r)) ≡ r .share .lower ∷ r .share .upper ∷ []
+  unfolding rowFrame fours
+  share-told h l = next-ends 0 (r .share .lower) (r .share .upper) (marksField (r .survivals)) h l
 
-shares-told : (rows : ℕ) (shares : List ℕ) → length shares ≡ 2 * rows → Short shares → sharesIn (map frameIn (lines (shareLines shares))) ≡ shares
-unfolding shareLines lines sharesIn
-shares-told zero [] e h = refl
-shares-told (suc rows) [] e h = refl
-shares-told rows (lower ∷ []) e h = absurd (omega arith)
-shares-told zero (lower ∷ upper ∷ shares) e h = absurd (omega arith)
-shares-told (suc rows) (lower ∷ upper ∷ shares) e h =
-    rw (
-      next-frame (shareFrame lower upper) (shareLines shares) (share-octets lower upper),
-      shares-told rows shares (omega arith) (λ i. h (suc (suc i))),
-      share-kind lower upper,
-    )
-    (ap (λ ns. ns ++ shares) (share-told lower upper (h 0) (h 1)))
+  marks-told : map marksBy (take 3 (drop 9 (rowFrame r))) ≡ marksAt (r .survivals) 0 ∷ marksAt (r .survivals) 1 ∷ marksAt (r .survivals) 2 ∷ []
+  unfolding rowFrame
+  marks-told =
+      let ends : List ℕ = endsField (r .share .lower) (r .share .upper) in
+      rw (drop-at ends (marksField (r .survivals)) 8 (length-ends (r .share .lower) (r .share .upper)), marks-field-bytes (r .survivals))
+      (rw (marks-by-byte (marksAt (r .survivals) 0), marks-by-byte (marksAt (r .survivals) 1), marks-by-byte (marksAt (r .survivals) 2)) refl)
+
+all-shares-told : (rs : List RowLine) → Short (sharesOf rs) → sharesIn (map rowFrame rs) ≡ sharesOf rs
+unfolding sharesIn sharesOf
+all-shares-told [] h = refl
+all-shares-told (r ∷ rs) h = rw (row-kind r, share-told r (h 0) (h 1), all-shares-told rs (λ i. h (suc (suc i)))) refl
+
+all-marks-told : (rs : List RowLine) → marksIn (map rowFrame rs) ≡ marksOfLines rs
+unfolding marksIn marksOfLines
+all-marks-told [] = refl
+all-marks-told (r ∷ rs) = rw (row-kind r, marks-told r, all-marks-told rs) refl
 
 refusal-told : (a : Answer) → a .number < 256 → a .line < 65536 → toldIn (refusalFrame (a .number) (a .line) ∷ []) ≡ refusal (a .number) (a .line)
 unfolding toldIn refusalFrame bytes
@@ -123,21 +145,28 @@ refusal-whole a h l =
     let frame : List ℕ = refusalFrame (a .number) (a .line) in
     ap readBack (sym (append-nil (lineOf frame))) ∙ ap toldIn (next-frame frame [] (refusal-octets (a .number) (a .line))) ∙ refusal-told a h l
 
-figures-whole : (a : Answer) (shares : List ℕ) → Printable a shares →
-    readBack (lineOf (figuresFrame a) ++ shareLines shares) ≡ figures (a .verdict) (endsOf a) shares
+figures-whole : (a : Answer) (rs : List RowLine) → Printable a rs →
+    readBack (lineOf (figuresFrame a) ++ rowLines rs) ≡ figures (a .verdict) (endsOf a) (sharesOf rs) (marksOfLines rs)
 unfolding readBack toldIn
-figures-whole a shares p =
-    ap toldIn (next-frame (figuresFrame a) (shareLines shares) (figures-octets a))
-    ∙ rw (kind-told a, verdict-told a (p .verdict-fits), ends-told a (p .ends-fit), shares-told (a .rows) shares (p .two-a-row) (p .shares-fit)) refl
+figures-whole a rs p =
+    ap toldIn (next-frame (figuresFrame a) (rowLines rs) (figures-octets a))
+    ∙ rw (
+      kind-told a,
+      row-frames rs,
+      verdict-told a (p .verdict-fits),
+      ends-told a (p .ends-fit),
+      all-shares-told rs (p .shares-fit),
+      all-marks-told rs,
+    ) refl
 
 pub reads-back : ReadsBack
 unfolding printed toldBy
-reads-back a shares p = by (eqb (a .number) 0) refl
+reads-back a rs p = by (eqb (a .number) 0) refl
   where
-    by : (t : Bool) → eqb (a .number) 0 ≡ t → readBack (printed a shares) ≡ toldBy a shares
-    by true q = rw q (figures-whole a shares p)
+    by : (t : Bool) → eqb (a .number) 0 ≡ t → readBack (printed a rs) ≡ toldBy a rs
+    by true q = rw q (figures-whole a rs p)
     by false q = rw q (refusal-whole a (p .number-fits) (p .line-fits))
 
 -- two answers that print alike tell the same
-pub one-text-one-answer : (a b : Answer) (s t : List ℕ) → Printable a s → Printable b t → printed a s ≡ printed b t → toldBy a s ≡ toldBy b t
+pub one-text-one-answer : (a b : Answer) (s t : List RowLine) → Printable a s → Printable b t → printed a s ≡ printed b t → toldBy a s ≡ toldBy b t
 one-text-one-answer a b s t p q e = sym (reads-back a s p) ∙ ap readBack e ∙ reads-back b t q

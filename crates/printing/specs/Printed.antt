@@ -1,12 +1,20 @@
--- Document 01, "One file in full": the printed answer, frame by frame. Numbers are written by their low bytes, the high one first. Assumes nothing.
+-- Document 01, "One file in full", and document 02, ticket 2: the printed answer, frame by frame. Numbers are written by their low bytes, the high one first. Assumes nothing.
 use Prim.Native.Nat.{ℕ, _+_, _*_}
 use mathlib.Core.Bool.{cond}
 use mathlib.Core.List.{List, [], _∷_, _++_}
 use lib.Dec.{eqb}
 use Rattle.laws.specs.Bytes.{bytes}
 use Rattle.records.specs.declared.Answer.{Answer}
+use Rattle.records.specs.declared.Ends.{Ends}
+use Rattle.records.specs.declared.Survival.{Survival}
 use Rattle.hexadecimal.specs.Hex.{lineOf}
 use Rattle.digits.specs.Fields.{endsField, partialsField}
+use Rattle.printing.specs.Marks.{marksField}
+
+-- what a row's line is printed from: the ends of its share, and its survival at the three draughts
+pub record RowLine : Type 0 where
+  pub share : Ends
+  pub survivals : List Survival
 
 -- ---- frames
 
@@ -18,25 +26,24 @@ refusalFrame number line = 143 ∷ bytes 1 number ++ bytes 2 line
 unfoldable pub figuresFrame : Answer → List ℕ
 figuresFrame a = 129 ∷ bytes 1 (a .verdict) ++ endsField (a .attained .lower) (a .attained .upper) ++ partialsField (a .partials)
 
--- 82: a row's share ends
-unfoldable pub shareFrame : ℕ → ℕ → List ℕ
-shareFrame lower upper = 130 ∷ endsField lower upper
+-- 82: a row's share ends, and its marks at the deepest, the partial and the light draught (one each)
+unfoldable pub rowFrame : RowLine → List ℕ
+rowFrame r = 130 ∷ endsField (r .share .lower) (r .share .upper) ++ marksField (r .survivals)
 
 -- ---- lines
 
--- a line for each row: the numbers are its share's ends, lower then upper, in row order; a number left alone is no row's
-unfoldable pub shareLines : List ℕ → List ℕ
-shareLines [] = []
-shareLines (lower ∷ []) = []
-shareLines (lower ∷ upper ∷ shares) = lineOf (shareFrame lower upper) ++ shareLines shares
+-- a line for each row, in row order
+unfoldable pub rowLines : List RowLine → List ℕ
+rowLines [] = []
+rowLines (r ∷ rs) = lineOf (rowFrame r) ++ rowLines rs
 
 -- a refusal is one line
-unfoldable pub printed : Answer → List ℕ → List ℕ
-printed a shares =
+unfoldable pub printed : Answer → List RowLine → List ℕ
+printed a rs =
     cond (eqb (a .number) 0)
-    (lineOf (figuresFrame a) ++ shareLines shares)
+    (lineOf (figuresFrame a) ++ rowLines rs)
     (lineOf (refusalFrame (a .number) (a .line)))
 
 -- how many bytes that is, line feeds counted
 unfoldable pub printedLength : Answer → ℕ
-printedLength a = cond (eqb (a .number) 0) (69 + 19 * a .rows) 9
+printedLength a = cond (eqb (a .number) 0) (69 + 25 * a .rows) 9

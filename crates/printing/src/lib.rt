@@ -1,17 +1,23 @@
-// The printed answer, written into a lent buffer: its lines, and the whole.
+// The printed answer, written into a lent buffer line by line: a refusal, the figures, a row.
 use digits::put_byte;
 use digits::put_ends;
 use digits::put_feed;
+use digits::put_low;
 use digits::put_partials;
 use digits::put_two;
 use records::Answer;
+use records::Ends;
+use records::Marks;
+use records::Survival;
+ghost use mathlib.Core.Bool.{cond};
 ghost use mathlib.Core.Path.{_≡_};
-ghost use Prim.Native.Nat.{_+_, _*_, _^_, _≤_, _<_};
-ghost use lib.ListN.{length, take};
-ghost use Rattle.hexadecimal.specs.Hex.{lineOf};
+ghost use Prim.Native.Nat.{_+_, _≤_};
+ghost use lib.ListN.{length};
+ghost use Rattle.hexadecimal.specs.Hex.{hex, lineOf};
 ghost use Rattle.digits.specs.Splice.{splice};
-ghost use Rattle.printing.specs.Printed.{refusalFrame, figuresFrame, shareFrame, shareLines, printedLength};
-ghost use Rattle.printing.specs.Written.{textOf, lengthOf, writtenOf};
+ghost use Rattle.printing.specs.Marks.{markByte, marksField};
+ghost use Rattle.printing.specs.Printed.{refusalFrame, figuresFrame, rowFrame};
+ghost use Rattle.printing.specs.Written.{countIn, writtenIn};
 
 // A refusal's line, in front.
 fn put_refusal(number: u64, line: u64, out: &mut [u8])
@@ -24,8 +30,19 @@ fn put_refusal(number: u64, line: u64, out: &mut [u8])
     put_feed(out, 8);
 }
 
+// Writes a refusal's line in front and returns its length; or leaves the buffer as it is and returns 0, where it has too little room.
+pub fn write_refusal(number: u64, line: u64, out: &mut [u8]) -> usize
+    ensures { λ r. ⌜ (r ≡ countIn (lineOf (refusalFrame number line)) (now (out .entry))) × (now (out .exit) ≡ writtenIn (lineOf (refusalFrame number line)) (now (out .entry))) ⌝ }
+{
+    if out.len() < 9 {
+        return 0;
+    }
+    put_refusal(number, line, out);
+    9
+}
+
 // The line of the verdict and the indices, in front.
-fn put_figures(a: Answer, out: &mut [u8])
+pub fn put_figures(a: Answer, out: &mut [u8])
     requires { ⌜ 69 ≤ length (now out) ⌝ }
     ensures { λ _. ⌜ now (out .exit) ≡ splice 0 (lineOf (figuresFrame a)) (now (out .entry)) ⌝ }
 {
@@ -36,66 +53,40 @@ fn put_figures(a: Answer, out: &mut [u8])
     put_feed(out, 68);
 }
 
-// The line of a row's share.
-fn put_share(lower: u64, upper: u64, out: &mut [u8], at: usize)
-    requires { ⌜ at + 19 ≤ length (now out) ⌝ }
-    ensures { λ _. ⌜ now (out .exit) ≡ splice at (lineOf (shareFrame lower upper)) (now (out .entry)) ⌝ }
+// What a mark counts for.
+fn weight(marked: bool, n: u64) -> u64
+    ensures { λ r. ⌜ (r ≡ cond marked n 0) × (r ≤ n) ⌝ }
+{
+    if marked { n } else { 0 }
+}
+
+// The marks as a byte.
+pub fn mark_byte(m: Marks) -> u64
+    ensures { λ r. ⌜ r ≡ markByte m ⌝ }
+{
+    weight(m.lever, 1) + weight(m.range, 2) + weight(m.heel, 4)
+}
+
+// The marks at the three draughts.
+fn put_marks(ss: [Survival; 3], out: &mut [u8], at: usize)
+    requires { ⌜ at + 6 ≤ length (now out) ⌝ }
+    ensures { λ _. ⌜ now (out .exit) ≡ splice at (hex (marksField ss)) (now (out .entry)) ⌝ }
+{
+    let deepest = ss[0];
+    let partial = ss[1];
+    let light = ss[2];
+    put_low(mark_byte(deepest.marks), out, at);
+    put_low(mark_byte(partial.marks), out, at + 2);
+    put_low(mark_byte(light.marks), out, at + 4);
+}
+
+// The line of a row: its share and its marks.
+pub fn put_row(share: Ends, ss: [Survival; 3], out: &mut [u8], at: usize)
+    requires { ⌜ at + 25 ≤ length (now out) ⌝ }
+    ensures { λ _. ⌜ now (out .exit) ≡ splice at (lineOf (rowFrame (record { share = share; survivals = ss }))) (now (out .entry)) ⌝ }
 {
     put_byte(130, out, at);
-    put_ends(lower, upper, out, at + 2);
-    put_feed(out, at + 18);
-}
-
-// A line for each of the rows whose ends stand in front of the sheet.
-fn put_shares(rows: usize, sheet: &[u64], out: &mut [u8], at: usize)
-    requires { ⌜ (2 * rows ≤ length (now sheet)) × (at + 19 * rows ≤ length (now out)) ⌝ }
-    ensures { λ _. ⌜ now (out .exit) ≡ splice at (shareLines (take (2 * rows) (now (sheet .entry)))) (now (out .entry)) ⌝ }
-{
-    let mut i: usize = 0;
-    while i < rows {
-        let k = 2 * i;
-        put_share(sheet[k], sheet[k + 1], out, at + 19 * i);
-        i += 1;
-    }
-}
-
-// How many bytes the printed answer has.
-fn text_length(a: Answer) -> usize
-    requires { ⌜ 69 + 19 * a .rows < 2 ^ 64 ⌝ }
-    ensures { λ r. ⌜ r ≡ printedLength a ⌝ }
-{
-    if a.number == 0 {
-        69 + 19 * (a.rows as usize)
-    } else {
-        9
-    }
-}
-
-// The printed answer, in front of a buffer with room for it.
-fn put_answer(a: Answer, sheet: &[u64], out: &mut [u8])
-    requires { ⌜ (2 * a .rows ≤ length (now sheet)) × (printedLength a ≤ length (now out)) ⌝ }
-    ensures { λ _. ⌜ now (out .exit) ≡ splice 0 (textOf a (now (sheet .entry))) (now (out .entry)) ⌝ }
-{
-    if a.number == 0 {
-        put_figures(a, out);
-        put_shares(a.rows as usize, sheet, out, 69);
-    } else {
-        put_refusal(a.number, a.line, out);
-    }
-}
-
-// Writes the printed answer, with the shares from the front of the sheet, and returns its length; or leaves the buffer as it is and
-// returns 0, where the sheet has too few numbers or the buffer too little room.
-pub fn write_answer(a: Answer, sheet: &[u64], out: &mut [u8]) -> usize
-    ensures { λ r. ⌜ (r ≡ lengthOf a (now (sheet .entry)) (now (out .entry))) × (now (out .exit) ≡ writtenOf a (now (sheet .entry)) (now (out .entry))) ⌝ }
-{
-    if ((sheet.len() / 2) as u64) < a.rows {
-        return 0;
-    }
-    let n = text_length(a);
-    if out.len() < n {
-        return 0;
-    }
-    put_answer(a, sheet, out);
-    n
+    put_ends(share.lower, share.upper, out, at + 2);
+    put_marks(ss, out, at + 18);
+    put_feed(out, at + 24);
 }

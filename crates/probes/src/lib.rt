@@ -1,10 +1,12 @@
-// Single figures of the other crates, for a host in C that tests and times them: a survival, a height, how an input is judged, rows' shares.
+// Single figures of the other crates, for a host in C that tests and times them: a survival and its marks, a height, how an input is judged, rows'
+// shares.
 use casefile::Judgement;
 use records::Finding;
 ghost use mathlib.Core.Path.{_≡_};
 ghost use Rattle.solas.specs.Height.{rowV};
 ghost use Rattle.casefile.specs.Answer.{judgementOf};
 ghost use Rattle.casefile.specs.Reading.{reading};
+ghost use Rattle.printing.specs.Marks.{markByte};
 ghost use Rattle.survival.specs.Survival.{survivalOf};
 
 pub mod shares; // rows' shares by the one span table
@@ -35,6 +37,21 @@ pub extern "C" fn probe_top(kind: u64, lever: u64, range: u64, heel: u64, given:
         given,
     };
     survival::finding::survival(kind, f).top
+}
+
+// The byte of its marks.
+#[no_mangle]
+pub extern "C" fn probe_marks(kind: u64, lever: u64, range: u64, heel: u64, given: u64) -> u64
+    ensures { λ r. ⌜ r ≡ markByte (survivalOf kind (record { lever = lever; range = range; heel = heel; given = given }) .marks) ⌝ }
+{
+    let f = Finding {
+        lever,
+        range,
+        heel,
+        given,
+    };
+    let s = survival::finding::survival(kind, f);
+    printing::mark_byte(s.marks)
 }
 
 // A row's v at a draught, over the row below it.

@@ -14,8 +14,8 @@ use Rattle.spans.proofs.Places.{ship-sound}
 use Rattle.chances.specs.Promises as chance
 use Rattle.chances.proofs.Row.{shares-enclosed, shares-near}
 use Rattle.heights.specs.Height.{rowVs}
-use Rattle.survival.specs.Survival.{Sensible, given, factorsOf, survivalsOf}
-use Rattle.indices.specs.Index.{Given, partials}
+use Rattle.survival.specs.Survival.{Sensible, given, factorsOf, survivalOf, survivalsOf}
+use Rattle.indices.specs.Index.{Given, rowAdds, partials}
 use Rattle.indices.specs.Exact as exact
 use Rattle.indices.specs.Exact.{Sound, Close, AtAll, rowAt, rowTrio}
 use Rattle.survival.proofs.Factors.{found-sensible}
@@ -35,7 +35,7 @@ use Rattle.promises.proofs.WitnessEnclosure.{no-more}
 -- ---- what they add
 
 adds-are : (h : Hull) (y : Standing) (rs : List Row) → addsFrom h y rs ≡ map rowTrio (exactRows h y rs)
-unfolding addsFrom addsAt exactRows survivalsOf
+unfolding addsFrom addsAt exactRows rowAdds survivalsOf survivalOf factorsOf
 adds-are h y [] = refl
 adds-are h y (r ∷ rs) = let z = stands y (r .head) in ap (λ ts. addsAt h z (r .results) ∷ ts) (adds-are h z rs)
 

@@ -1,6 +1,6 @@
 -- Every figure of an answer fits its bytes: refusals by the table and the lines of an input, ends by the promised width. Assumes nothing.
 use Prim.Native.Nat.{ℕ, zero, suc, _+_, _*_, _^_, _≤_, _<_}
-use mathlib.Core.Path.{_≡_, refl}
+use mathlib.Core.Path.{_≡_, refl, ap}
 use mathlib.Core.List.{List, [], _∷_, List·Memᴰ}
 use mathlib.Core.Logic.{_⊎_, inl, inr}
 use native.Mathlib.Nat.{div-mul-le-self}
@@ -25,19 +25,18 @@ use Rattle.casefile.specs.Refusal.{Refusal, numbers}
 use Rattle.casefile.proofs.Refusal.{is-refusal}
 use Rattle.casefile.proofs.TableOrder.{of-the-table}
 use Rattle.casefile.proofs.Soundness.{sound}
-use Rattle.printing.specs.ReadBack.{endsOf, Short, Printable}
+use Rattle.printing.specs.ReadBack.{endsOf, sharesOf, Short, Printable}
 use Rattle.printing.proofs.ReadBack.{reads-back}
 use Rattle.rows.specs.declared.Standing.{Standing}
 use Rattle.rows.specs.Standing.{nowhere, stands}
 use Rattle.rows.specs.Work as work
-use Rattle.rows.specs.Work.{shareAt, sharesFrom}
+use Rattle.rows.specs.Work.{shareAt, sharesFrom, linesFrom}
 use Rattle.rows.specs.Running.{Stood, Follow}
-use Rattle.answers.specs.Answer.{partialsOf, figures, answer, shares, answered}
+use Rattle.answers.specs.Answer.{partialsOf, figures, answer, answered}
 use Rattle.answers.specs.Answer as answers
-use Rattle.answers.specs.Report.{sharesIn, report}
+use Rattle.answers.specs.Report.{linesIn, report}
 use Rattle.answers.proofs.ValidCase.{hulled, rows-follow}
 use Rattle.answers.proofs.Shares.{share-small}
-use Rattle.rows.proofs.InTurn.{length-numbers}
 use Rattle.promises.specs.Rows.{rowsOf, chances}
 use Rattle.promises.specs.Printing.{EveryFigureFits, PrintedReadsBack}
 use Rattle.promises.proofs.CaseRows.{sums-are, all-sound, all-close}
@@ -74,6 +73,12 @@ shares-small k y (r ∷ rs) w =
     let z = stands y (r .head) in
     (record { low = omega (arith, k z (w .0) .low); high = omega (arith, k z (w .0) .high) }, shares-small k z rs (w .2))
 
+-- the lines tell the shares that are on the sheet
+pub same-shares : (h : Hull) (y : Standing) (rs : List Row) → sharesOf (linesFrom h y rs) ≡ work.numbers (sharesFrom h y rs)
+unfolding linesFrom sharesFrom sharesOf
+same-shares h y [] = refl
+same-shares h y (r ∷ rs) = let z = stands y (r .head) in ap (λ ns. shareAt h z .lower ∷ shareAt h z .upper ∷ ns) (same-shares h z rs)
+
 -- ---- an accepted file: the lower ends of A, As, Ap, Al are at most one, the upper ones not far above
 
 module _ (f : List ℕ) (c : Case) (e : reading f ≡ accepted c) where
@@ -97,8 +102,8 @@ module _ (f : List ℕ) (c : Case) (e : reading f ≡ accepted c) where
   small : (e : Ends) → e .lower ≤ 10 ^ 9 → e .upper ≤ e .lower + (100000 + 40 * length (c .rows)) → Small e
   small e l n = record { low = omega (arith, l); high = omega (arith, l, n, v .few) }
 
-  figures-fit : Printable (answer c) (shares c)
-  unfolding answer figures endsOf shares
+  figures-fit : Printable (answer c) (linesIn (accepted c))
+  unfolding answer figures endsOf linesIn
   figures-fit =
       let k = promise f c e in
       let w = k .width in
@@ -108,8 +113,7 @@ module _ (f : List ℕ) (c : Case) (e : reading f ≡ accepted c) where
         verdict-fits = by (k .verdict .no-other);
         ends-fit = ends-short (attainedOf (partialsOf c) ∷ at (partialsOf c) 0 ∷ at (partialsOf c) 1 ∷ at (partialsOf c) 2 ∷ [])
             (small _ low-attained (w .attained .near), (small _ (lows .0) (w .partials .0 .near), (small _ (lows .1) (w .partials .1 .near), (small _ (lows .2) (w .partials .2 .near), tt))));
-        shares-fit = ends-short (sharesFrom (c .hull) nowhere (c .rows)) (shares-small (share-small (hulled (c .hull) (v .hull))) nowhere (c .rows) (rows-follow c v));
-        two-a-row = length-numbers (c .hull) nowhere (c .rows);
+        shares-fit = rw (same-shares (c .hull) nowhere (c .rows)) (ends-short (sharesFrom (c .hull) nowhere (c .rows)) (shares-small (share-small (hulled (c .hull) (v .hull))) nowhere (c .rows) (rows-follow c v)));
       }
     where
       by : {n : ℕ} → ((n ≡ 1) ⊎ ((n ≡ 2) ⊎ (n ≡ 3))) → n < 256
@@ -119,15 +123,14 @@ module _ (f : List ℕ) (c : Case) (e : reading f ≡ accepted c) where
 
 -- ---- any input
 
-fits-by : (f : List ℕ) (r : Reading) → reading f ≡ r → Printable (answered r 1000) (sharesIn r)
-unfolding answered sharesIn endsOf
+fits-by : (f : List ℕ) (r : Reading) → reading f ≡ r → Printable (answered r 1000) (linesIn r)
+unfolding answered linesIn endsOf sharesOf
 fits-by f (refused k l) e = record {
   number-fits = number-fits k (of-the-table f k l e);
   line-fits = line-fits f k l (is-refusal f k l e);
   verdict-fits = omega arith;
   ends-fit = ends-short (answers.noEnds ∷ answers.noEnds ∷ answers.noEnds ∷ answers.noEnds ∷ []) (none, (none, (none, (none, tt))));
   shares-fit = ends-short [] tt;
-  two-a-row = refl;
 }
   where
     none : Small answers.noEnds
@@ -141,4 +144,4 @@ every-figure-fits f = fits-by f (reading f) refl
 
 pub printed-reads-back : PrintedReadsBack
 unfolding report
-printed-reads-back f = reads-back (answered (reading f) 1000) (sharesIn (reading f)) (every-figure-fits f)
+printed-reads-back f = reads-back (answered (reading f) 1000) (linesIn (reading f)) (every-figure-fits f)

@@ -19,6 +19,8 @@ pub mod Sheet
 pub mod Files
 pub mod Service
 pub mod Fits
+pub mod Marks
+pub mod Survivals
 pub mod OfSolas
 pub mod LayerRows
 pub mod LayerSums

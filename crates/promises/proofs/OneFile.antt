@@ -20,7 +20,8 @@ use Rattle.penetration.specs.Penetration.{partEnds, GEnds, mixed, QEnds}
 use Rattle.chances.specs.Share.{withinEnds, sumsOf, lowest, highest, rowOf, rowEnds}
 use Rattle.numbers.specs.Ratio.{ratioOf}
 use Rattle.heights.specs.Height.{rowVs}
-use Rattle.survival.specs.Survival.{factorOf, scaledOf, roundedOf, factorsOf, survivalsOf}
+use Rattle.survival.specs.Marks.{foundMarks, marksOf}
+use Rattle.survival.specs.Survival.{factorOf, scaledOf, roundedOf, survivalOf, survivalsOf}
 use Rattle.indices.specs.Index.{addsOf, rowAdds, partials, attainedOf}
 use Rattle.verdicts.specs.Verdict.{reaches, allReach, verdictOf}
 use Rattle.lines.specs.Lines.{lines}
@@ -32,11 +33,12 @@ use Rattle.casefile.specs.Order.{atTop, closesGroup, sameGroup, sameLayer, earl
 use Rattle.casefile.specs.Table.{firstHolds, wrongHullFrame, wrongFrame, wrongZones, hullChecks, rowChecks, endChecks, lineChecks}
 use Rattle.casefile.specs.Reading.{accepted, readFrom, reading}
 use Rattle.digits.specs.Fields.{endsField, partialField, partialsField}
-use Rattle.printing.specs.Printed.{printed, figuresFrame, refusalFrame, shareFrame, shareLines}
+use Rattle.printing.specs.Marks.{markByte, marksAt, marksField}
+use Rattle.printing.specs.Printed.{printed, figuresFrame, refusalFrame, rowFrame, rowLines}
 use Rattle.rows.specs.Standing.{stands}
-use Rattle.rows.specs.Work.{shareAt, addsAt, sharesFrom, addsFrom}
-use Rattle.answers.specs.Answer.{partialsOf, figures, answer, shares, answered}
-use Rattle.answers.specs.Report.{sharesIn, report}
+use Rattle.rows.specs.Work.{shareAt, addsAt, addsFrom, linesFrom}
+use Rattle.answers.specs.Answer.{partialsOf, figures, answer, answered}
+use Rattle.answers.specs.Report.{linesIn, report}
 use Rattle.promises.specs.OneFile.{printedCase, text, OneFileIsRead, OneFileInFull}
 
 pub file-read : OneFileIsRead
@@ -45,10 +47,10 @@ unfolding reading readFrom lines firstHolds hullChecks rowChecks endChecks lineC
 file-read = refl
 
 case-printed : report (accepted printedCase) ≡ text
-unfolding report answered answer figures partialsOf shares sharesIn sharesFrom addsFrom addsAt shareAt stands sameGroup sameLayer
+unfolding report answered answer figures partialsOf linesIn linesFrom addsFrom addsAt shareAt stands sameGroup sameLayer
     rowEnds rowOf lowest highest sumsOf withinEnds added taken QEnds mixed c d PEnds GEnds pEnds partEnds G1Ends G3Ends minus plus rounded.endsOf billionthsOf portionOf halvesOf ceil touch P p G1 G3 _⊹_ _⊛_ _less_over_
-    rowVs rowV vAt v dp survivalsOf factorsOf factorOf s⁴ k ratioOf scaledOf roundedOf rootDown rootUp withDigits addsOf rowAdds partials attainedOf R partialMark reaches allReach verdictOf
-    printed lineOf figuresFrame refusalFrame shareFrame shareLines endsField partialField partialsField bytes digit hex
+    rowVs rowV vAt v dp survivalsOf survivalOf factorOf marksOf foundMarks s⁴ k ratioOf scaledOf roundedOf rootDown rootUp withDigits addsOf rowAdds partials attainedOf R partialMark reaches allReach verdictOf
+    printed lineOf figuresFrame refusalFrame rowFrame rowLines markByte marksAt marksField endsField partialField partialsField bytes digit hex
 case-printed = refl
 
 pub one-file-in-full : OneFileInFull

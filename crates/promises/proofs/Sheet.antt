@@ -13,7 +13,7 @@ use Rattle.casefile.proofs.Soundness.{sound}
 use Rattle.rows.specs.declared.Standing.{Standing}
 use Rattle.rows.specs.Standing.{nowhere, stands}
 use Rattle.rows.specs.Work.{sharesFrom, numbers}
-use Rattle.rows.proofs.InTurn.{length-numbers}
+use Rattle.rows.proofs.OnSheet.{length-numbers}
 use Rattle.rows.specs.Running.{Follow}
 use Rattle.answers.specs.Answer.{shares, sheetAfter}
 use Rattle.answers.proofs.ValidCase.{hulled, rows-follow}

@@ -13,10 +13,11 @@ use Rattle.casefile.proofs.Soundness.{sound}
 use Rattle.printing.specs.Printed.{printedLength}
 use Rattle.printing.proofs.Whole.{length-printed}
 use Rattle.rows.specs.Standing.{nowhere}
-use Rattle.answers.specs.Answer.{figures, answer, shares, refusal, answered}
-use Rattle.answers.specs.Report.{sharesIn, report}
-use Rattle.rows.proofs.InTurn.{length-numbers}
-use Rattle.promises.specs.Sizes.{shortestReport, longestReport, longestSheet, ReportsFit, SheetsServe}
+use Rattle.answers.specs.Answer.{figures, answer, refusal, answered}
+use Rattle.answers.specs.Report.{linesIn, report, survivalsIn}
+use Rattle.answers.proofs.Prints.{length-lines}
+use Rattle.rows.proofs.AsNumbers.{length-survivals}
+use Rattle.promises.specs.Sizes.{shortestReport, longestReport, longestSheet, longestRows, ReportsFit, RowsFit, SheetsServe}
 
 -- a sheet that is long enough for a case's shares
 roomy : (c : Case) → length (c .rows) ≤ 500 → (size : ℕ) → longestSheet ≤ size → answered (accepted c) size ≡ answer c
@@ -31,16 +32,16 @@ sheets-serve f c e size h = rw e (roomy c (sound f c e .1 .few) size h)
 -- ---- how long a printed answer is
 
 of-refusal : (k l : ℕ) → (shortestReport ≤ length (report (refused k l))) × (length (report (refused k l)) ≤ longestReport)
-unfolding report answered sharesIn printedLength
+unfolding report answered linesIn printedLength
 of-refusal k l = by (eqb k 0) (length-printed (refusal k l) [] refl)
   where
     by : (b : Bool) {n : ℕ} → n ≡ cond b 69 9 → (shortestReport ≤ n) × (n ≤ longestReport)
     by true e = (omega (arith, e), omega (arith, e))
     by false e = (omega (arith, e), omega (arith, e))
 
-of-case : (c : Case) → length (c .rows) ≤ 500 → length (report (accepted c)) ≡ 69 + 19 * length (c .rows)
-unfolding report sharesIn answer figures shares printedLength
-of-case c few = rw (roomy c few 1000 (omega arith)) (length-printed (answer c) (shares c) (length-numbers (c .hull) nowhere (c .rows)))
+of-case : (c : Case) → length (c .rows) ≤ 500 → length (report (accepted c)) ≡ 69 + 25 * length (c .rows)
+unfolding report linesIn answer figures printedLength
+of-case c few = rw (roomy c few 1000 (omega arith)) (length-printed (answer c) (linesIn (accepted c)) (length-lines (c .hull) nowhere (c .rows)))
 
 pub reports-fit : ReportsFit
 reports-fit f = by (reading f) (λ c e. sound f c e .1 .few)
@@ -48,3 +49,13 @@ reports-fit f = by (reading f) (λ c e. sound f c e .1 .few)
     by : (r : Reading) → ((c : Case) → r ≡ accepted c → length (c .rows) ≤ 500) → (shortestReport ≤ length (report r)) × (length (report r) ≤ longestReport)
     by (refused k l) few = of-refusal k l
     by (accepted c) few = let e = of-case c (few c refl) in let most : length (c .rows) ≤ 500 = few c refl in (omega (arith, e), omega (arith, e))
+
+-- ---- and how many numbers its rows' survivals are
+
+pub rows-fit : RowsFit
+unfolding survivalsIn
+rows-fit f = by (reading f) (λ c e. sound f c e .1 .few)
+  where
+    by : (r : Reading) → ((c : Case) → r ≡ accepted c → length (c .rows) ≤ 500) → length (survivalsIn r) ≤ longestRows
+    by (refused k l) few = omega arith
+    by (accepted c) few = let most : length (c .rows) ≤ 500 = few c refl in omega (arith, length-survivals (c .rows))

@@ -1,6 +1,6 @@
 -- Document 01's table of proved values: C, G1, v and R as solas has them, the others by computation from the definitions. Assumes nothing.
 use Prim.Native.Nat.{ℕ}
-use mathlib.Core.Path.{refl}
+use mathlib.Core.Path.{refl, ap}
 use native.Mathlib.Omega.{arith}
 use lib.Dec.{lit<}
 use Rattle.laws.specs.Fraction.{_less_over_, whole, _≈_, _⊹_, _⊝_, _⊛_}
@@ -24,7 +24,9 @@ none g t = same (lit< tt) (is-shifted 0 0 (omega arith) (is-s⁴ g t 3000)) (is-
 
 heeled : (g t : ℕ) → gives g t 3000 0 0
 unfolding survivalOf factorOf scaledOf roundedOf ratioOf rootDown rootUp withDigits ceil _less_over_
-heeled g t = ends-same (none g t) (s⁴-not-negative g t 3000, s⁴-at-most-one g t 3000)
+heeled g t =
+    let same = ends-same (none g t) (s⁴-not-negative g t 3000, s⁴-at-most-one g t 3000) in
+    (ap (λ r. r .bottom) same, ap (λ r. r .top) same)
 
 pub proved-values : ProvedValues
 unfolding p P Q G touch C G1 G3 within share rowShare survivalOf factorOf s⁴ k ratioOf scaledOf roundedOf rootDown rootUp withDigits ceil _⊹_ _⊝_ _⊛_ _less_over_
@@ -41,8 +43,8 @@ proved-values = record {
   v-7801 = values.v-7801;
   R-8000 = values.R-8000;
   R-10000 = values.R-10000;
-  s-30-400-0 = refl;
-  s-60-800-0 = refl;
-  s-120-1600-2995 = refl;
+  s-30-400-0 = (refl, refl);
+  s-60-800-0 = (refl, refl);
+  s-120-1600-2995 = (refl, refl);
   s-at-3000 = heeled;
 }

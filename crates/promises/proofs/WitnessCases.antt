@@ -24,7 +24,7 @@ use Rattle.penetration.specs.Penetration.{partEnds, GEnds, mixed, QEnds}
 use Rattle.chances.specs.Share.{withinEnds, sumsOf, lowest, highest, rowOf, rowEnds}
 use Rattle.numbers.specs.Ratio.{ratioOf}
 use Rattle.heights.specs.Height.{rowVs}
-use Rattle.survival.specs.Survival.{factorOf, scaledOf, roundedOf, factorsOf, survivalsOf}
+use Rattle.survival.specs.Survival.{factorOf, scaledOf, roundedOf, survivalOf, survivalsOf}
 use Rattle.indices.specs.Index.{addsOf, rowAdds, partials, attainedOf}
 use Rattle.verdicts.specs.Verdict.{reaches, allReach, verdictOf}
 use Rattle.casefile.specs.Record.{Row, Case}
@@ -132,7 +132,7 @@ pub record Answers : Type 0 where
 pub answers : Answers
 unfolding answer figures partialsOf addsFrom addsAt shareAt stands sameGroup sameLayer
     rowEnds rowOf lowest highest sumsOf withinEnds added taken QEnds mixed c d PEnds GEnds pEnds partEnds G1Ends G3Ends minus plus rounded.endsOf billionthsOf portionOf halvesOf ceil touch P p G1 G3 _⊹_ _⊛_ _less_over_
-    rowVs rowV vAt v dp survivalsOf factorsOf factorOf s⁴ k ratioOf scaledOf roundedOf rootDown rootUp withDigits addsOf rowAdds partials attainedOf R partialMark reaches allReach verdictOf
+    rowVs rowV vAt v dp survivalsOf survivalOf factorOf s⁴ k ratioOf scaledOf roundedOf rootDown rootUp withDigits addsOf rowAdds partials attainedOf R partialMark reaches allReach verdictOf
 answers = record { of-decked = refl; of-meeting = refl; of-failing = refl; of-unsettled = refl; rising-meets = refl; raised-fails = refl }
 
 -- ---- two zones, whose pair is not listed, and three, of which nothing is listed and the middle one is longer than any damage

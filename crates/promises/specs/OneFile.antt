@@ -1,4 +1,5 @@
--- Document 01, "One file in full": what `damindex` reads and what it writes, character by character, and the case that it is. Assumes nothing.
+-- Document 01, "One file in full", with document 02's marks: what `damindex` reads and what it writes, character by character, and the case that it is. Assumes
+-- nothing.
 use Prim.Native.Nat.{ℕ}
 use Prim.Native.Char.{code}
 use Prim.Native.String.{String, [] as none, _∷_ as _then_}
@@ -22,12 +23,18 @@ file =
     ++ line "03020103204844271027102710"
     ++ line "0f0003"
 
+-- the same characters with more after them, and the line feed
+abbrev pub lineWith : String → String → List ℕ
+lineWith none more = line more
+lineWith (c then s) more = code c ∷ lineWith s more
+
+-- document 01's lines as they stand there, each row's with its marks after it
 abbrev pub text : List ℕ
 text =
     line "810134243ab934243abb34243ab934243abb34243ab934243abb34243ab934243abb"
-    ++ line "82072648b6072648b7"
-    ++ line "8203e36aea03e36aec"
-    ++ line "823091165e3091165f"
+    ++ lineWith "82072648b6072648b7" "030303"
+    ++ lineWith "8203e36aea03e36aec" "000000"
+    ++ lineWith "823091165e3091165f" "000000"
 
 -- 99 m long, 16 m broad, draughts of 6 and 4 m, two zones that meet at 15 m; three groups, each with one layer of one row
 abbrev row : ℕ → ℕ → ℕ → Finding → Row

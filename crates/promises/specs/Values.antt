@@ -18,7 +18,7 @@ printedShip = shipOf (printedCase .hull)
 
 -- a lever, a range and a heel that were found give this bottom and top
 abbrev pub gives : ℕ → ℕ → ℕ → ℕ → ℕ → Type 0
-gives g t e bottom top = survivalOf 2 (record { lever = g; range = t; heel = e; given = 0 }) ≡ record { bottom = bottom; top = top }
+gives g t e bottom top = let s = survivalOf 2 (record { lever = g; range = t; heel = e; given = 0 }) in (s .bottom ≡ bottom) × (s .top ≡ top)
 
 pub record ProvedValues : Type 0 where
   -- "At L = 9,900: x = 1,500 gives p 35/396; x = 3,000 gives 70/297"

@@ -42,10 +42,18 @@ pub struct Ratio {
     pub den: u64,
 }
 
-// A survival factor in ten-thousandths: the exact one is not below the bottom and not above the top.
+// What holds a survival down, yes or no: the lever is below its cap of 120, the range below its cap of 1,600, the heel above 2,500.
+pub struct Marks {
+    pub lever: bool,
+    pub range: bool,
+    pub heel: bool,
+}
+
+// A survival factor in ten-thousandths: the exact one is not below the bottom and not above the top. And its marks: a given one has none.
 pub struct Survival {
     pub bottom: u64,
     pub top: u64,
+    pub marks: Marks,
 }
 
 // The ends of a figure at each of the three draughts, in the order deepest, partial, light.

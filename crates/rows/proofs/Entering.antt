@@ -6,6 +6,7 @@ use Rattle.records.specs.declared.Hull.{Hull}
 use Rattle.records.specs.declared.Ends.{Ends}
 use Rattle.records.specs.declared.Finding.{Finding}
 use Rattle.records.specs.declared.RowHead.{RowHead}
+use Rattle.records.specs.declared.Survival.{Survival}
 use Rattle.records.specs.declared.Trio.{Trio}
 use Rattle.solas.specs.Index.{draughts}
 use Rattle.spans.specs.Hull.{Hulled}
@@ -13,7 +14,7 @@ use Rattle.spans.specs.Table.{tableOf}
 use Rattle.chances.specs.Share.{Few}
 use Rattle.heights.specs.Height.{rowVs}
 use Rattle.survival.specs.Survival.{survivalsOf}
-use Rattle.indices.specs.Index.{plus, rowAdds, Share, Given, Within}
+use Rattle.indices.specs.Index.{plus, rowAdds, Share, RowWeights, Given, Within}
 use Rattle.indices.proofs.Rows.{row-weights}
 use Rattle.indices.proofs.Sums.{row-within}
 use Rattle.rows.specs.declared.Standing.{Standing}
@@ -34,12 +35,15 @@ module _ (y : Standing) (head : RowHead) {h : Hull} {t : List ℕ} {z : Standing
   pub share-small : {part : Part} → part ≡ partAt h z → Share (part .share)
   share-small e = rw e (ready .shares z stood-there)
 
-pub adds-small : (below height kind : ℕ) (at : List ℕ) {share : Ends} {fs : List Finding} {adds : Trio} → Share share → Given fs →
-    adds ≡ rowAdds share (rowVs below height at) (survivalsOf kind fs) → Within (10 ^ 9) adds
-adds-small below height kind at s g e = rw e (row-within s (row-weights below height at kind g))
+pub adds-small : {share : Ends} {vs : List ℕ} {ss : List Survival} {adds : Trio} → Share share → RowWeights vs ss → adds ≡ rowAdds share vs ss → Within (10 ^ 9) adds
+adds-small s w e = rw e (row-within s w)
 
-pub row-entered : (h : Hull) (s : Running) (head : RowHead) (fs : List Finding) {z : Standing} {part : Part} {at : List ℕ} {adds sums : Trio} → z ≡ stands (s .standing) head →
-    part ≡ partAt h z → at ≡ draughts (h .deepest) (h .light) → adds ≡ rowAdds (part .share) (rowVs (z .below) (head .height) at) (survivalsOf (head .kind) fs) → sums ≡ plus (s .sums) adds →
-    record { standing = z; part = part; sums = sums } ≡ entered h s head fs
+-- what the sums ask: v and survival are at most one
+pub weights : (below height kind : ℕ) (at : List ℕ) {fs : List Finding} {ss : List Survival} → Given fs → ss ≡ survivalsOf kind fs → RowWeights (rowVs below height at) ss
+weights below height kind at g e = rw e (row-weights below height at kind g)
+
+pub row-entered : (h : Hull) (s : Running) (head : RowHead) (fs : List Finding) {z : Standing} {part : Part} {at : List ℕ} {ss : List Survival} {adds sums : Trio} → z ≡ stands (s .standing) head →
+    part ≡ partAt h z → at ≡ draughts (h .deepest) (h .light) → ss ≡ survivalsOf (head .kind) fs → adds ≡ rowAdds (part .share) (rowVs (z .below) (head .height) at) ss → sums ≡ plus (s .sums) adds →
+    record { standing = z; part = part; survivals = ss; sums = sums } ≡ entered h s head fs
 unfolding entered addsAt
-row-entered h s head fs e1 e2 e3 e4 e5 = rw (e5, e4, e2, e3, e1, head-is (s .standing) head) refl
+row-entered h s head fs e1 e2 e3 e4 e5 e6 = rw (e6, e5, e4, e2, e3, e1, head-is (s .standing) head) refl

@@ -2,3 +2,7 @@ pub mod Stands
 pub mod Parts
 pub mod Entering
 pub mod InTurn
+pub mod OnSheet
+pub mod InLines
+pub mod Values
+pub mod AsNumbers

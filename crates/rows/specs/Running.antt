@@ -9,6 +9,7 @@ use Rattle.solas.specs.Count.{Group}
 use Rattle.spans.specs.Hull.{shipOf, Hulled}
 use Rattle.spans.specs.Table.{tableOf}
 use Rattle.chances.specs.Share.{nothing}
+use Rattle.survival.specs.Survival.{noSurvival, survivalsOf}
 use Rattle.indices.specs.Index.{plus, partials, Share, Given}
 use Rattle.casefile.specs.Record.{Row}
 use Rattle.rows.specs.declared.Standing.{Standing}
@@ -16,16 +17,16 @@ use Rattle.rows.specs.declared.Running.{Running}
 use Rattle.rows.specs.Standing.{nowhere, stands}
 use Rattle.rows.specs.Work.{shareAt, partAt, addsAt}
 
--- ---- what is known: where the last row stood, its part, and the sums of what the rows added
+-- ---- what is known: where the last row stood, its part, its survivals, and the sums of what the rows added
 
 unfoldable pub begun : Running
-begun = record { standing = nowhere; part = record { group = nothing; share = record { lower = 0; upper = 0 } }; sums = partials [] }
+begun = record { standing = nowhere; part = record { group = nothing; share = record { lower = 0; upper = 0 } }; survivals = noSurvival ∷ noSurvival ∷ noSurvival ∷ []; sums = partials [] }
 
 -- after one row more
 unfoldable pub entered : Hull → Running → RowHead → List Finding → Running
 entered h s head results =
     let z = stands (s .standing) head in
-    record { standing = z; part = partAt h z; sums = plus (s .sums) (addsAt h z results) }
+    record { standing = z; part = partAt h z; survivals = survivalsOf (head .kind) results; sums = plus (s .sums) (addsAt h z results) }
 
 -- ---- what is asked
 

@@ -1,4 +1,4 @@
--- What each row of a case comes to: its share's ends, and what it adds at the three draughts. Assumes nothing.
+-- What each row of a case comes to: its share's ends, what it adds at the three draughts, and what its line is printed from. Assumes nothing.
 use Prim.Native.Nat.{ℕ}
 use mathlib.Core.List.{List, [], _∷_}
 use Rattle.records.specs.declared.Hull.{Hull}
@@ -12,6 +12,7 @@ use Rattle.chances.specs.Share.{sumsOf, rowEnds}
 use Rattle.heights.specs.Height.{rowVs}
 use Rattle.survival.specs.Survival.{survivalsOf}
 use Rattle.indices.specs.Index.{rowAdds}
+use Rattle.printing.specs.Printed.{RowLine}
 use Rattle.casefile.specs.Record.{Row}
 use Rattle.rows.specs.declared.Standing.{Standing}
 use Rattle.rows.specs.declared.Part.{Part}
@@ -32,6 +33,10 @@ partAt h y = record { group = sumsAt h y; share = shareAt h y }
 unfoldable pub addsAt : Hull → Standing → List Finding → Trio
 addsAt h y fs = rowAdds (shareAt h y) (rowVs (y .below) (y .head .height) (draughts (h .deepest) (h .light))) (survivalsOf (y .head .kind) fs)
 
+-- what its line is printed from
+abbrev pub lineAt : Hull → Standing → List Finding → RowLine
+lineAt h y fs = record { share = shareAt h y; survivals = survivalsOf (y .head .kind) fs }
+
 -- the rows in turn, after one that stood at y
 unfoldable pub sharesFrom : Hull → Standing → List Row → List Ends
 sharesFrom h y [] = []
@@ -40,6 +45,10 @@ sharesFrom h y (r ∷ rs) = let z = stands y (r .head) in shareAt h z ∷ shares
 unfoldable pub addsFrom : Hull → Standing → List Row → List Trio
 addsFrom h y [] = []
 addsFrom h y (r ∷ rs) = let z = stands y (r .head) in addsAt h z (r .results) ∷ addsFrom h z rs
+
+unfoldable pub linesFrom : Hull → Standing → List Row → List RowLine
+linesFrom h y [] = []
+linesFrom h y (r ∷ rs) = let z = stands y (r .head) in lineAt h z (r .results) ∷ linesFrom h z rs
 
 -- "each row's share, lower then upper, in row order"
 abbrev pub numbers : List Ends → List ℕ

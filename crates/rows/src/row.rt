@@ -1,4 +1,4 @@
-// A row after those before it: where it stands, its share, and what it adds.
+// A row after those before it: where it stands, its share, its survivals, and what it adds.
 ghost use mathlib.Core.Path.{_≡_};
 ghost use Prim.Native.Nat.{_^_};
 ghost use Rattle.solas.specs.Index.{draughts};
@@ -10,7 +10,7 @@ ghost use Rattle.casefile.specs.Order.{sameLayer};
 ghost use Rattle.chances.specs.Share.{Few};
 ghost use Rattle.rows.specs.Work.{sumsAt, partAt};
 ghost use mathlib.Core.Bool.{false};
-ghost use Rattle.rows.specs.Running.{Stood, Ready, entered};
+ghost use Rattle.rows.specs.Running.{Stood, Ready, begun, entered};
 use super::Part;
 use super::Running;
 use super::Standing;
@@ -20,7 +20,11 @@ use groups::sums_at;
 use records::Ends;
 use records::Finding;
 use records::Hull;
+use records::Marks;
 use records::RowHead;
+use records::Survival;
+use records::Trio;
+use survival::finding::survivals;
 
 // Where a row stands after one that stood at y.
 fn next(y: Standing, r: RowHead) -> Standing
@@ -85,6 +89,49 @@ fn part_after(t: &[u64], h: Hull, y: Standing, part: Part, z: Standing) -> Part
     next_part(t, h, y, group, z)
 }
 
+// Before the first row.
+pub fn begin() -> Running
+    ensures { λ r. ⌜ r ≡ begun ⌝ }
+{
+    let head = RowHead {
+        kind: 0,
+        first: 0,
+        count: 0,
+        depth: 0,
+        height: 0,
+    };
+    let standing = Standing {
+        head,
+        before: 0,
+        below: 0,
+    };
+    let added = Ends { lower: 0, upper: 0 };
+    let taken = Ends { lower: 0, upper: 0 };
+    let group = Sums { added, taken };
+    let share = Ends { lower: 0, upper: 0 };
+    let part = Part { group, share };
+    let marks = Marks {
+        lever: false,
+        range: false,
+        heel: false,
+    };
+    let noSurvival = Survival {
+        bottom: 0,
+        top: 0,
+        marks,
+    };
+    let sums = Trio {
+        lower: [0, 0, 0],
+        upper: [0, 0, 0],
+    };
+    Running {
+        standing,
+        part,
+        survivals: [noSurvival, noSurvival, noSurvival],
+        sums,
+    }
+}
+
 // One row more.
 pub fn enter(
     t: &[u64],
@@ -103,11 +150,13 @@ pub fn enter(
     let z = next(y, head);
     let part = part_after(t, h, y, last, z);
     let share = part.share;
-    let adds = sums::row(share, z.below, head.height, at, head.kind, results);
+    let survivals = survivals(head.kind, results);
+    let adds = sums::row(share, z.below, head.height, at, survivals);
     let sums = sums::sum(so_far, adds);
     Running {
         standing: z,
         part,
+        survivals,
         sums,
     }
 }

@@ -7,48 +7,11 @@ ghost use Rattle.indices.specs.Index.{partials, Within};
 ghost use Rattle.casefile.specs.Kept.{keptRows};
 ghost use Rattle.rows.specs.Standing.{nowhere};
 ghost use Rattle.rows.specs.Work.{sharesFrom, addsFrom, numbers};
-ghost use Rattle.rows.specs.Running.{begun, Follow, Ready};
-use super::Part;
-use super::Running;
-use super::Standing;
+ghost use Rattle.rows.specs.Running.{Follow, Ready};
+use super::row::begin;
 use super::row::enter;
-use chances::Sums;
-use records::Ends;
 use records::Hull;
-use records::RowHead;
 use records::Trio;
-
-// Before the first row.
-fn begin() -> Running
-    ensures { λ r. ⌜ r ≡ begun ⌝ }
-{
-    let head = RowHead {
-        kind: 0,
-        first: 0,
-        count: 0,
-        depth: 0,
-        height: 0,
-    };
-    let standing = Standing {
-        head,
-        before: 0,
-        below: 0,
-    };
-    let added = Ends { lower: 0, upper: 0 };
-    let taken = Ends { lower: 0, upper: 0 };
-    let group = Sums { added, taken };
-    let share = Ends { lower: 0, upper: 0 };
-    let part = Part { group, share };
-    let sums = Trio {
-        lower: [0, 0, 0],
-        upper: [0, 0, 0],
-    };
-    Running {
-        standing,
-        part,
-        sums,
-    }
-}
 
 // So many rows, as they are kept: two numbers a row on the sheet.
 pub fn fill(kept: &[u8], rows: usize, h: Hull, t: &[u64], sheet: &mut [u64]) -> Trio

@@ -2,15 +2,12 @@
 use heights::row_factors;
 use numbers::ceiling;
 use records::Ends;
-use records::Finding;
 use records::Survival;
 use records::Trio;
-use survival::finding::survivals;
 ghost use mathlib.Core.Path.{_≡_};
 ghost use Prim.Native.Nat.{_*_, _^_, _≤_};
 ghost use Rattle.heights.specs.Height.{rowVs};
-ghost use Rattle.survival.specs.Survival.{survivalsOf};
-ghost use Rattle.indices.specs.Index.{Share, Weights, RowWeights, Given, Small, Within, addsOf, rowAdds, sums, plus, weighed, attainedOf};
+ghost use Rattle.indices.specs.Index.{Share, Weights, RowWeights, Small, Within, addsOf, rowAdds, sums, plus, weighed, attainedOf};
 
 // 916,500ths times ten-thousandths.
 const SCALE: u64 = 916_500 * 10_000;
@@ -26,7 +23,7 @@ fn product(share: u64, v: u64, s: u64) -> u64
 // What a row adds at one draught: with the bottom at the lower end, and the top at the upper.
 fn adds(share: Ends, v: u64, s: Survival) -> Ends
     requires { ⌜ Share share × Weights v s ⌝ }
-    ensures { λ r. ⌜ r ≡ addsOf share v s ⌝ }
+    ensures { λ r. ⌜ r ≡ addsOf share v (s .bottom) (s .top) ⌝ }
 {
     let lower = product(share.lower, v, s.bottom) / SCALE;
     let upper = ceiling(product(share.upper, v, s.top), SCALE);
@@ -50,20 +47,12 @@ fn row_adds(share: Ends, vs: [u64; 3], ss: [Survival; 3]) -> Trio
     }
 }
 
-// The same from the row's height, the row below it in its layer, and its results.
-pub fn row(
-    share: Ends,
-    below: u64,
-    height: u64,
-    draughts: [u64; 3],
-    kind: u64,
-    fs: [Finding; 3],
-) -> Trio
-    requires { ⌜ Share share × Given fs ⌝ }
-    ensures { λ r. ⌜ r ≡ rowAdds share (rowVs below height draughts) (survivalsOf kind fs) ⌝ }
+// The same from the row's height and the row below it in its layer.
+pub fn row(share: Ends, below: u64, height: u64, draughts: [u64; 3], ss: [Survival; 3]) -> Trio
+    requires { ⌜ Share share × RowWeights (rowVs below height draughts) ss ⌝ }
+    ensures { λ r. ⌜ r ≡ rowAdds share (rowVs below height draughts) ss ⌝ }
 {
     let vs = row_factors(below, height, draughts);
-    let ss = survivals(kind, fs);
     row_adds(share, vs, ss)
 }
 

@@ -16,7 +16,7 @@ use Rattle.roots.proofs.RootValue.{down-root, up-root}
 use Rattle.numbers.specs.Ratio.{ratioOf}
 use Rattle.numbers.proofs.Ratios.{ratio-positive, is-ratio}
 use Rattle.survival.specs.Survival.{fourthPower, Factor, root, given, ends, Sensible, Bottom, Top, BottomAndTop, scaledOf, roundedOf, tenThousandths, NotAbove, NotBelow}
-use Rattle.survival.proofs.Factors.{same-survival, times-down, times-up}
+use Rattle.survival.proofs.Factors.{same-roots, times-down, times-up}
 -- checked first, so that a definition that gives another number is refused there
 use Rattle.survival.proofs.Values.{apart}
 
@@ -108,7 +108,7 @@ top-same e p =
 pub ends-same : {f g : Fraction} → f ≈ g → Sensible (root f) → ends (root f) ≡ ends (root g)
 ends-same {f} {g} e h =
     let k : Sensible (root g) = (≼-trans (h .0) (≼-of-≈ e), ≼-trans (≼-of-≈ (≈-sym e)) (h .1)) in
-    same-survival (bottom-unique (bottom-same e (bottom-is h)) (bottom-is k)) (top-unique (top-same e (top-is h)) (top-is k))
+    same-roots (bottom-unique (bottom-same e (bottom-is h)) (bottom-is k)) (top-unique (top-same e (top-is h)) (top-is k))
 
 -- ---- a survival that is not above is at most the top, one that is not below at least the bottom
 pub not-above-top : (s : Factor) {x : Fraction} → Sensible s → whole 0 ≼ x → NotAbove s x → x ≼ tenThousandths (ends s .top)

@@ -10,14 +10,15 @@ use Rattle.laws.specs.Rounding.{ceil}
 use Rattle.laws.proofs.Equal.{same-floor, same-ceil}
 use Rattle.laws.proofs.Rounding.{ceil-least, floor-not-above-ceil, ceil-near-floor}
 use Rattle.records.specs.declared.Finding.{Finding}
-use Rattle.records.specs.declared.Survival.{Survival}
 use Rattle.solas.specs.Survival.{s⁴}
 use Rattle.solas.proofs.Survival.{s⁴-not-negative, s⁴-at-most-one}
 use Rattle.numbers.specs.Ratio.{ratioOf}
 use Rattle.survival.specs.Caps.{Capped}
-use Rattle.survival.specs.Survival.{root, given, Sensible, factorOf, scaledOf, roundedOf, survivalOf}
+use Rattle.survival.specs.Marks.{foundMarks, unmarked, marksOf}
+use Rattle.survival.specs.Survival.{root, given, Sensible, factorOf, scaledOf, roundedOf, marked, survivalOf}
 use Rattle.records.specs.declared.Ratio.{Ratio}
 use Rattle.survival.specs.declared.finding.Multiple.{Multiple}
+use Rattle.survival.specs.declared.finding.Roots.{Roots}
 use Rattle.survival.proofs.Ratios.{caps-positive}
 
 -- ---- 10¹⁶ times n/d in thirds, where d goes into 3·10¹⁶
@@ -55,16 +56,17 @@ module _ {f : Ratio} (p : Capped f) where
       let hd = caps-positive (p .of-caps) in
       (times-down (10 ^ 16) hd (p .at-most-one), times-up (10 ^ 16) hd (p .at-most-one))
 
-pub same-survival : {a b c d : ℕ} → a ≡ c → b ≡ d → _≡_ {A = Survival} (record { bottom = a; top = b }) (record { bottom = c; top = d })
-same-survival p q = cc
+pub same-roots : {a b c d : ℕ} → a ≡ c → b ≡ d → _≡_ {A = Roots} (record { bottom = a; top = b }) (record { bottom = c; top = d })
+same-roots p q = cc
 
 -- ---- kind by kind
-pub as-given : (kind : ℕ) (f : Finding) → kind ≡ 3 → survivalOf kind f ≡ record { bottom = f .given; top = f .given }
-unfolding survivalOf factorOf
+pub as-given : (kind : ℕ) (f : Finding) → kind ≡ 3 → survivalOf kind f ≡ record { bottom = f .given; top = f .given; marks = unmarked }
+unfolding survivalOf factorOf marksOf
 as-given kind f e = rw (eq-eqb kind 3 e) refl
 
-pub as-found : (kind : ℕ) (f : Finding) → (kind ≡ 3 → ⊥) → survivalOf kind f ≡ roundedOf (ratioOf (s⁴ (f .lever) (f .range) (f .heel)))
-unfolding survivalOf factorOf
+pub as-found : (kind : ℕ) (f : Finding) → (kind ≡ 3 → ⊥) →
+    survivalOf kind f ≡ marked (roundedOf (ratioOf (s⁴ (f .lever) (f .range) (f .heel)))) (foundMarks (f .lever) (f .range) (f .heel))
+unfolding survivalOf factorOf marksOf
 as-found kind f n = rw (ne-eqb kind 3 n) refl
 
 -- what was found and what is given are from 0 to 1

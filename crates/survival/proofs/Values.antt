@@ -1,14 +1,17 @@
 -- Survivals that refuse a slip in this crate at once; document 01's own table is crates/promises/specs/Values.antt. Assumes nothing.
 use Prim.Native.Nat.{ℕ, _*_, _^_}
+use mathlib.Core.Bool.{Bool, true, false}
 use mathlib.Core.Path.{_≡_, refl}
-use Rattle.laws.specs.Fraction.{_less_over_, _⊛_}
+use Rattle.laws.specs.Fraction.{whole, _less_over_, _⊛_}
 use Rattle.laws.specs.Rounding.{ceil}
 use Rattle.roots.specs.Root.{withDigits, rootDown, rootUp}
 use Rattle.records.specs.declared.Finding.{Finding}
+use Rattle.records.specs.declared.Marks.{Marks}
 use Rattle.records.specs.declared.Survival.{Survival}
 use Rattle.solas.specs.Survival.{k, s⁴}
 use Rattle.numbers.specs.Ratio.{ratioOf}
-use Rattle.survival.specs.Survival.{factorOf, scaledOf, roundedOf, survivalOf}
+use Rattle.survival.specs.Marks.{foundMarks, marksOf}
+use Rattle.survival.specs.Survival.{root, ends, factorOf, scaledOf, roundedOf, survivalOf}
 
 abbrev found : ℕ → ℕ → ℕ → Finding
 found lever range heel = record { lever = lever; range = range; heel = heel; given = 0 }
@@ -16,20 +19,47 @@ found lever range heel = record { lever = lever; range = range; heel = heel; giv
 abbrev given : ℕ → Finding
 given s = record { lever = 0; range = 0; heel = 0; given = s }
 
-abbrev s : ℕ → ℕ → Survival
-s bottom top = record { bottom = bottom; top = top }
+abbrev marks : Bool → Bool → Bool → Marks
+marks lever range heel = record { lever = lever; range = range; heel = heel }
+
+abbrev s : ℕ → ℕ → Bool → Bool → Bool → Survival
+s bottom top lever range heel = record { bottom = bottom; top = top; marks = marks lever range heel }
 
 pub survivals :
-    (survivalOf 2 (found 30 400 0) ≡ s 5000 5000)
-    × (survivalOf 2 (found 60 800 0) ≡ s 7071 7072)
-    × (survivalOf 2 (found 120 1600 2995) ≡ s 1000 1000)
-    × (survivalOf 2 (found 120 1600 3000) ≡ s 0 0)
-    × (survivalOf 2 (found 5000 9000 2500) ≡ s 10000 10000)
-    × (survivalOf 3 (given 7071) ≡ s 7071 7071)
-unfolding survivalOf factorOf s⁴ k ratioOf scaledOf roundedOf rootDown rootUp withDigits ceil _⊛_ _less_over_
+    (survivalOf 2 (found 30 400 0) ≡ s 5000 5000 true true false)
+    × (survivalOf 2 (found 60 800 0) ≡ s 7071 7072 true true false)
+    × (survivalOf 2 (found 120 1600 2995) ≡ s 1000 1000 false false true)
+    × (survivalOf 2 (found 120 1600 3000) ≡ s 0 0 false false true)
+    × (survivalOf 2 (found 5000 9000 2500) ≡ s 10000 10000 false false false)
+    × (survivalOf 3 (given 7071) ≡ s 7071 7071 false false false)
+unfolding survivalOf factorOf marksOf foundMarks s⁴ k ratioOf scaledOf roundedOf rootDown rootUp withDigits ceil _⊛_ _less_over_
 survivals = (refl, refl, refl, refl, refl, refl)
 
+-- a millimetre or a hundredth of a degree from one cap, and at all three
+pub nearly :
+    (survivalOf 2 (found 119 1600 2500) ≡ s 9979 9980 true false false)
+    × (survivalOf 2 (found 120 1599 2500) ≡ s 9998 9999 false true false)
+    × (survivalOf 2 (found 120 1600 2501) ≡ s 9989 9990 false false true)
+    × (survivalOf 2 (found 120 1600 2500) ≡ s 10000 10000 false false false)
+unfolding survivalOf factorOf marksOf foundMarks s⁴ k ratioOf scaledOf roundedOf rootDown rootUp withDigits ceil _⊛_ _less_over_
+nearly = (refl, refl, refl, refl)
+
+-- at the cap, and one below or above it; where survival is 0 for another reason the rest is still told
+pub edges :
+    (foundMarks 120 1600 2500 ≡ marks false false false)
+    × (foundMarks 119 1600 2500 ≡ marks true false false)
+    × (foundMarks 120 1599 2500 ≡ marks false true false)
+    × (foundMarks 120 1600 2501 ≡ marks false false true)
+    × (foundMarks 0 1600 3000 ≡ marks true false true)
+unfolding foundMarks
+edges = (refl, refl, refl, refl, refl)
+
 -- 10¹⁶ times a fraction that is 1 and a half: below it 1 is the greatest root, and above it 2 the least
-pub apart : roundedOf (record { num = 3; den = 2 * 10 ^ 16 }) ≡ s 1 2
+pub apart : roundedOf (record { num = 3; den = 2 * 10 ^ 16 }) ≡ record { bottom = 1; top = 2 }
 unfolding scaledOf roundedOf rootDown rootUp withDigits ceil
 apart = refl
+
+-- the root of one
+pub one : ends (root (whole 1)) ≡ record { bottom = 10 ^ 4; top = 10 ^ 4 }
+unfolding ratioOf scaledOf roundedOf rootDown rootUp withDigits ceil _less_over_
+one = refl

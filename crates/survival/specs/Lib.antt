@@ -1,2 +1,4 @@
 pub mod Caps
+pub mod Marks
 pub mod Survival
+pub mod Telling

@@ -1,18 +1,21 @@
--- Document 01, "Height and survival": what a survival is exactly, and its bottom and top in ten-thousandths. Assumes nothing.
+-- Document 01, "Height and survival": what a survival is exactly, its bottom and top in ten-thousandths, and document 02's marks with them. Assumes nothing.
 use Prim.Native.Nat.{ℕ, _*_, _/_, _^_, _≤_}
 use mathlib.Core.Bool.{cond}
-use mathlib.Core.List.{List, [], _∷_, map}
+use mathlib.Core.List.{List, [], _∷_}
 use lib.Dec.{eqb}
 use lib.ListN.{getD}
 use Rattle.laws.specs.Fraction.{Fraction, _over_, whole, _≼_, _⊛_}
 use Rattle.laws.specs.Rounding.{ceil}
 use Rattle.roots.specs.Root.{rootDown, rootUp}
 use Rattle.records.specs.declared.Finding.{Finding}
+use Rattle.records.specs.declared.Marks.{Marks}
 use Rattle.records.specs.declared.Survival.{Survival}
 use Rattle.solas.specs.Survival.{s⁴}
 use Rattle.numbers.specs.Ratio.{ratioOf}
 use Rattle.records.specs.declared.Ratio.{Ratio}
 use Rattle.survival.specs.declared.finding.Multiple.{Multiple}
+use Rattle.survival.specs.declared.finding.Roots.{Roots}
+use Rattle.survival.specs.Marks.{unmarked, marksOf}
 
 -- the fourth root of a fraction, or so many ten-thousandths
 pub data Factor : Type 0 where
@@ -26,16 +29,20 @@ factorOf kind f = cond (eqb kind 3) (given (f .given)) (root (s⁴ (f .lever) (f
 unfoldable pub scaledOf : Ratio → Multiple
 scaledOf f = record { down = 10 ^ 16 * f .num / f .den; up = ceil (10 ^ 16 * f .num) (f .den) }
 
-unfoldable pub roundedOf : Ratio → Survival
+unfoldable pub roundedOf : Ratio → Roots
 roundedOf f = record { bottom = rootDown (scaledOf f .down); top = rootUp (scaledOf f .up) }
 
 -- "A row with given survival has bottom = top"
-abbrev pub ends : Factor → Survival
+abbrev pub ends : Factor → Roots
 ends (root f) = roundedOf (ratioOf f)
 ends (given n) = record { bottom = n; top = n }
 
+-- a result's survival: its ends, and its marks
+abbrev pub marked : Roots → Marks → Survival
+marked r m = record { bottom = r .bottom; top = r .top; marks = m }
+
 unfoldable pub survivalOf : ℕ → Finding → Survival
-survivalOf kind f = ends (factorOf kind f)
+survivalOf kind f = marked (ends (factorOf kind f)) (marksOf kind f)
 
 -- from 0 to 1
 abbrev pub Sensible : Factor → Type 0
@@ -76,9 +83,13 @@ NotBelow (given n) x = tenThousandths n ≼ x
 abbrev pub nothing : Finding
 nothing = record { lever = 0; range = 0; heel = 0; given = 0 }
 
+-- past the third draught
+abbrev pub noSurvival : Survival
+noSurvival = record { bottom = 0; top = 0; marks = unmarked }
+
 -- deepest, partial, light
 unfoldable pub factorsOf : ℕ → List Finding → List Factor
 factorsOf kind fs = factorOf kind (getD fs 0 nothing) ∷ factorOf kind (getD fs 1 nothing) ∷ factorOf kind (getD fs 2 nothing) ∷ []
 
 unfoldable pub survivalsOf : ℕ → List Finding → List Survival
-survivalsOf kind fs = map ends (factorsOf kind fs)
+survivalsOf kind fs = survivalOf kind (getD fs 0 nothing) ∷ survivalOf kind (getD fs 1 nothing) ∷ survivalOf kind (getD fs 2 nothing) ∷ []

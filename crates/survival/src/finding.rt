@@ -1,6 +1,7 @@
-// The survival of a row's results: s⁴ as one fraction, and from it the bottom and the top in ten-thousandths.
+// The survival of a row's results: s⁴ as one fraction, from it the bottom and the top in ten-thousandths, and the marks.
 use numbers::ceiling;
 use records::Finding;
+use records::Marks;
 use records::Ratio;
 use records::Survival;
 use roots::root_down;
@@ -10,6 +11,7 @@ ghost use Prim.Native.Nat.{_*_, _^_, min};
 ghost use Rattle.solas.specs.Survival.{k, s⁴};
 ghost use Rattle.numbers.specs.Ratio.{ratioOf};
 ghost use Rattle.survival.specs.Caps.{Capped, OfCaps};
+ghost use Rattle.survival.specs.Marks.{foundMarks};
 ghost use Rattle.survival.specs.Survival.{scaledOf, roundedOf, survivalOf, survivalsOf};
 
 // The caps of lever (mm) and range (hundredths of a degree), and the heels between which survival falls to nothing.
@@ -33,6 +35,12 @@ const THIRDS: u64 = 30_000_000_000_000_000;
 struct Multiple {
     down: u64,
     up: u64,
+}
+
+// A fourth root in ten-thousandths, rounded down and up.
+struct Roots {
+    bottom: u64,
+    top: u64,
 }
 
 fn lesser(a: u64, b: u64) -> u64
@@ -96,25 +104,51 @@ fn scaled(f: Ratio) -> Multiple
 }
 
 // The fourth root of a fraction in ten-thousandths: the greatest not above it, the least not below.
-fn rounded(f: Ratio) -> Survival
+fn rounded(f: Ratio) -> Roots
     requires { ⌜ Capped f ⌝ }
     ensures { λ r. ⌜ r ≡ roundedOf f ⌝ }
 {
     let s = scaled(f);
     let bottom = root_down(s.down);
     let top = root_up(bottom, s.up);
-    Survival { bottom, top }
+    Roots { bottom, top }
 }
 
-// The survival of a row of kind 2 from what was found, of kind 3 as it is given.
+// What holds the survival of what was found down: lever and range below their caps, the heel above that from which k falls.
+fn marks(f: Finding) -> Marks
+    ensures { λ r. ⌜ r ≡ foundMarks (f .lever) (f .range) (f .heel) ⌝ }
+{
+    Marks {
+        lever: f.lever < LEVER,
+        range: f.range < RANGE,
+        heel: UPRIGHT < f.heel,
+    }
+}
+
+// The survival of a row of kind 2 from what was found, of kind 3 as it is given, with no mark.
 pub fn survival(kind: u64, f: Finding) -> Survival
     ensures { λ r. ⌜ r ≡ survivalOf kind f ⌝ }
 {
     if kind == 3 {
         let s = f.given;
-        return Survival { bottom: s, top: s };
+        let marks = Marks {
+            lever: false,
+            range: false,
+            heel: false,
+        };
+        return Survival {
+            bottom: s,
+            top: s,
+            marks,
+        };
     }
-    rounded(fourth(f))
+    let s = rounded(fourth(f));
+    let marks = marks(f);
+    Survival {
+        bottom: s.bottom,
+        top: s.top,
+        marks,
+    }
 }
 
 // The survivals of a row's three results.

@@ -1,7 +1,7 @@
 -- The program's `main`: what it writes lies in its buffer. Assumes nothing.
 use borrow.Author.Needs.{needs}
 use Rattle.io.proofs.Counting.{front}
-use Rattle.answers.proofs.Prints.{reported-fits}
+use Rattle.answers.proofs.Prints.{written-fits}
 use Rattle.damindex.proofs.main.Statement.{statement}
 use Rattle.damindex.proofs.main.Tie as tie
 
@@ -24,10 +24,10 @@ report-requires : tie.Need-report-requires
 report-requires c κs = search needs
 
 array-share-prefix-out : tie.Need-array-share-prefix-out
-array-share-prefix-out c = let written = c .before .report in reported-fits _ _ (written .ensures .0) (written .ensures .1)
+array-share-prefix-out c = let written = c .before .report in written-fits _ _ (written .ensures .0) (written .ensures .1)
 
 slice-aggregate-write-all : tie.Need-slice-aggregate-write-all
-slice-aggregate-write-all c = let written = c .before .before .report in front _ _ (reported-fits _ _ (written .ensures .0) (written .ensures .1))
+slice-aggregate-write-all c = let written = c .before .before .report in front _ _ (written-fits _ _ (written .ensures .0) (written .ensures .1))
 
 write-all-requires : tie.Need-write-all-requires
 write-all-requires c κs = search needs

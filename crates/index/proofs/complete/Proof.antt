@@ -2,7 +2,7 @@
 use Prim.Native.Nat.{_^_}
 use native.Mathlib.Omega.{arith}
 use Rattle.indices.proofs.Sums.{within-wider}
-use Rattle.index.proofs.Accepted.{hull-is, not-long, fill-asked, answer-is, shares-are}
+use Rattle.index.proofs.Accepted.{hull-is, not-long, rows-asked, answer-is, shares-are}
 use borrow.Author.Needs.{needs}
 use Rattle.index.proofs.complete.Statement.{statement}
 use Rattle.index.proofs.complete.Tie as tie
@@ -14,7 +14,7 @@ slice-aggregate-fill : tie.Need-slice-aggregate-fill
 slice-aggregate-fill c = search needs
 
 fill-requires : tie.Need-fill-requires
-fill-requires c κs = let r = c .before .before .before .before .before in fill-asked (r .args .kept .now) (r .args .h) (r .args .rows) (r .pre .0) (r .args .sheet .now) (c .before .before .span-table .ensures) (r .pre .1) (r .pre .2)
+fill-requires c κs = let r = c .before .before .before .before .before in rows-asked (r .args .kept .now) (r .args .h) (r .args .rows) (r .pre .0) (c .before .before .span-table .ensures) (r .pre .1) (r .pre .2)
 
 conclude-requires : tie.Need-conclude-requires
 conclude-requires c κs = let r = c .before .before .before .before .before .before .before .before in (not-long (r .args .kept .now) (r .args .h) (r .args .rows) (r .pre .0), within-wider {k = 2 ^ 60} (omega arith) (c .before .before .fill .ensures .1))

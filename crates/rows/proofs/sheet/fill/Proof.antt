@@ -3,14 +3,17 @@ use Prim.Native.Nat.{_-_, _*_, _^_}
 use lib.Seq.{lt-length-set}
 use borrow.Author.Needs.{needs}
 use native.Mathlib.Omega.{arith}
-use mathlib.Core.Path.{refl}
+use mathlib.Core.Path.{refl, ap}
 use Rattle.indices.proofs.Sums.{within-wider}
-use Rattle.rows.proofs.InTurn.{Reached, starts, may-enter, goes-on, sums-are, sheet-is}
+use Rattle.rows.specs.declared.Running.{Running}
+use Rattle.rows.specs.Running.{begun}
+use Rattle.rows.proofs.InTurn.{Reached, starts, may-enter, stands-there, part-there, goes-on, sums-are}
+use Rattle.rows.proofs.OnSheet.{OnSheet, none-on-sheet, more-on-sheet, all-on-sheet}
 use Rattle.rows.proofs.sheet.fill.Statement.{statement}
 use Rattle.rows.proofs.sheet.fill.Tie as tie
 
 abbrev Inv-loop : tie.InvT-loop
-Inv-loop kept rows h t sheet₀ at s₀ i₀ sheet s i = Reached h kept rows sheet₀ sheet s i
+Inv-loop kept rows h t sheet₀ at s₀ i₀ sheet s i = Reached h kept rows s i × OnSheet h kept rows sheet₀ sheet (s .standing) i
 
 abbrev μ-loop : tie.MeasureT-loop
 μ-loop kept rows h t sheet₀ at s₀ i₀ sheet s i = rows - i
@@ -22,7 +25,11 @@ begin-requires : tie.Need-begin-requires Inv-loop μ-loop
 begin-requires c κs = search needs
 
 loop-holds : tie.Need-loop-holds Inv-loop μ-loop
-loop-holds c = let r = c .before .before .before .before .before in starts (r .args .h) (r .args .kept .now) (r .args .rows) (r .args .sheet .now) (r .pre .5) (c .begin .ensures)
+loop-holds c =
+    let r = c .before .before .before .before .before in (
+      starts (r .args .h) (r .args .kept .now) (r .args .rows) (r .pre .5) (c .begin .ensures),
+      none-on-sheet (r .args .h) (r .args .kept .now) (r .args .rows) (r .args .sheet .now) (unfold begun in ap (λ (s : Running). s .standing) (c .begin .ensures)),
+    )
 
 head-at-requires : tie.Need-head-at-requires Inv-loop μ-loop
 head-at-requires c κs = omega (arith, c .loop-test .taken, c .before .before .before .before .before .before .before .pre .3)
@@ -34,7 +41,7 @@ enter-requires : tie.Need-enter-requires Inv-loop μ-loop
 enter-requires c κs =
     let r = c .before .before .before .before .before .before .before .before .before in
     let l = c .before .before .before in
-    may-enter (r .args .h) (r .args .kept .now) (r .args .rows) (r .args .sheet .now) (l .loop .sheet) (l .loop .s) (l .loop .i) (l .loop .inv) (c .before .before .loop-test .taken) (r .pre .0) (l .before .before .three-draughts .ensures) (c .before .head-at .ensures) (c .results-at .ensures) (r .pre .2)
+    may-enter (r .args .h) (r .args .kept .now) (r .args .rows) (l .loop .s) (l .loop .i) (l .loop .inv .0) (c .before .before .loop-test .taken) (r .pre .0) (l .before .before .three-draughts .ensures) (c .before .head-at .ensures) (c .results-at .ensures) (r .pre .2)
 
 mul-k : tie.Need-mul-k Inv-loop μ-loop
 mul-k c = omega (arith, c .before .before .before .before .before .loop-test .taken, c .before .before .before .before .before .before .before .before .before .before .before .before .pre .2)
@@ -43,7 +50,7 @@ mul-sheet : tie.Need-mul-sheet Inv-loop μ-loop
 mul-sheet c = omega (arith, c .before .before .before .before .before .loop-test .taken, c .before .before .before .before .before .before .before .before .before .before .before .before .pre .2)
 
 slice-write-sheet : tie.Need-slice-write-sheet Inv-loop μ-loop
-slice-write-sheet c = omega (arith, c .before .before .before .before .before .loop-test .taken, c .before .before .before .before .before .before .before .before .before .before .before .before .pre .4, c .before .before .before .before .before .before .loop .inv .long)
+slice-write-sheet c = omega (arith, c .before .before .before .before .before .loop-test .taken, c .before .before .before .before .before .before .before .before .before .before .before .before .pre .4, c .before .before .before .before .before .before .loop .inv .1 .long)
 
 add-sheet : tie.Need-add-sheet Inv-loop μ-loop
 add-sheet c = omega (arith, c .before .before .before .before .before .loop-test .taken, c .before .before .before .before .before .before .before .before .before .before .before .before .pre .2)
@@ -52,7 +59,7 @@ mul-sheet-2 : tie.Need-mul-sheet-2 Inv-loop μ-loop
 mul-sheet-2 c = omega (arith, c .before .before .before .before .before .loop-test .taken, c .before .before .before .before .before .before .before .before .before .before .before .before .pre .2)
 
 slice-write-sheet-2 : tie.Need-slice-write-sheet-2 Inv-loop μ-loop
-slice-write-sheet-2 c = lt-length-set (c .before .before .before .before .before .before .loop .sheet) _ _ (omega (arith, c .before .before .before .before .before .loop-test .taken, c .before .before .before .before .before .before .before .before .before .before .before .before .pre .4, c .before .before .before .before .before .before .loop .inv .long))
+slice-write-sheet-2 c = lt-length-set (c .before .before .before .before .before .before .loop .sheet) _ _ (omega (arith, c .before .before .before .before .before .loop-test .taken, c .before .before .before .before .before .before .before .before .before .before .before .before .pre .4, c .before .before .before .before .before .before .loop .inv .1 .long))
 
 add-i : tie.Need-add-i Inv-loop μ-loop
 add-i c = omega (arith, c .before .before .before .before .before .loop-test .taken, c .before .before .before .before .before .before .before .before .before .before .before .before .pre .2)
@@ -64,7 +71,17 @@ loop-again : tie.Need-loop-again Inv-loop μ-loop
 loop-again c =
     let r = c .before .before .before .before .before .before .before .before .before .before .before .before in
     let l = c .before .before .before .before .before .before in
-    goes-on (r .args .h) (r .args .kept .now) (r .args .rows) (r .args .sheet .now) (l .loop .sheet) (l .loop .s) (l .loop .i) (l .loop .inv) (c .before .before .before .before .before .loop-test .taken) (r .pre .0 .shares) (c .before .before .before .before .head-at .ensures) (c .before .before .before .results-at .ensures) (c .before .before .enter .ensures .0) (c .before .before .enter .ensures .1) refl
+    let more = c .before .before .before .before .before .loop-test .taken in
+    let here = c .before .before .before .before .head-at .ensures in
+    let found = c .before .before .before .results-at .ensures in
+    let step = c .before .before .enter .ensures in
+    let g = l .loop .inv .0 in (
+      goes-on (r .args .h) (r .args .kept .now) (r .args .rows) (l .loop .s) (l .loop .i) g more (r .pre .0 .shares) here found (step .0) (step .1),
+      more-on-sheet (r .args .h) (r .args .kept .now) (r .args .rows) (r .args .sheet .now) (l .loop .s .standing) (l .loop .i) (l .loop .inv .1) more
+          (stands-there (r .args .h) (r .args .kept .now) (r .args .rows) (l .loop .s) (l .loop .i) g more (r .pre .0 .shares) here found (step .0) (step .1))
+          (part-there (r .args .h) (r .args .kept .now) (r .args .rows) (l .loop .s) (l .loop .i) g more (r .pre .0 .shares) here found (step .0) (step .1))
+          refl,
+    )
 
 same-length : tie.Need-same-length Inv-loop μ-loop
 same-length c = search needs
@@ -74,8 +91,12 @@ returns c =
     let r = c .before .before .before .before .before .before .before .before in
     let l = c .before .before in
     let last = c .before .loop-test .left in
-    let few = within-wider {k = 500 * 10 ^ 9} (omega (arith, l .loop .inv .within, r .pre .2)) (l .loop .inv .small) in
-    (sums-are (r .args .h) (r .args .kept .now) (r .args .rows) (r .args .sheet .now) (l .loop .sheet) (l .loop .s) (l .loop .i) (l .loop .inv) last, few, sheet-is (r .args .h) (r .args .kept .now) (r .args .rows) (r .args .sheet .now) (l .loop .sheet) (l .loop .s) (l .loop .i) (l .loop .inv) last (r .pre .4))
+    let g = l .loop .inv .0 in
+    let few = within-wider {k = 500 * 10 ^ 9} (omega (arith, g .within, r .pre .2)) (g .small) in (
+      sums-are (r .args .h) (r .args .kept .now) (r .args .rows) (l .loop .s) (l .loop .i) g last,
+      few,
+      all-on-sheet (r .args .h) (r .args .kept .now) (r .args .rows) (r .args .sheet .now) (l .loop .s .standing) (l .loop .i) (l .loop .inv .1) last (r .pre .4),
+    )
 
 pub fill-spec : {M : Type 1} → statement M
 fill-spec =

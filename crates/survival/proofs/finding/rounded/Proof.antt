@@ -4,7 +4,7 @@ use native.Mathlib.Omega.{arith}
 use Rattle.roots.proofs.Root.{below-next}
 use Rattle.roots.proofs.RootValue.{down-value, up-value}
 use Rattle.survival.specs.Survival.{roundedOf}
-use Rattle.survival.proofs.Factors.{scaled-fits, scaled-near, same-survival}
+use Rattle.survival.proofs.Factors.{scaled-fits, scaled-near, same-roots}
 use Rattle.survival.proofs.finding.rounded.Statement.{statement}
 use Rattle.survival.proofs.finding.rounded.Tie as tie
 
@@ -25,7 +25,7 @@ unfolding roundedOf
 returns c =
     let s = c .before .before .scaled .ensures in
     let h = scaled-fits (c .before .before .before .pre) in
-    same-survival (down-value (omega arith) (rw s at (c .before .root-down .ensures .0))) (up-value (omega arith) (rw s at (c .root-up .ensures)))
+    same-roots (down-value (omega arith) (rw s at (c .before .root-down .ensures .0))) (up-value (omega arith) (rw s at (c .root-up .ensures)))
 
 pub rounded-spec : {M : Type 1} → statement M
 rounded-spec = tie.close (tie.spec scaled-requires root-down-requires root-up-requires returns)

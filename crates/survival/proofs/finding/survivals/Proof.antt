@@ -7,7 +7,7 @@ use lib.ListN.{getD}
 use Rattle.laws.proofs.Lists.{three-same}
 use Rattle.records.specs.declared.Finding.{Finding}
 use Rattle.records.specs.declared.Survival.{Survival}
-use Rattle.survival.specs.Survival.{nothing, factorsOf, survivalOf, survivalsOf}
+use Rattle.survival.specs.Survival.{nothing, survivalOf, survivalsOf}
 use Rattle.survival.proofs.finding.survivals.Statement.{statement}
 use Rattle.survival.proofs.finding.survivals.Tie as tie
 
@@ -31,7 +31,7 @@ survival-requires-3 c κs = search needs
 
 in-order : (kind : ℕ) (fs : List Finding) {s p l : Survival} →
     s ≡ survivalOf kind (getD fs 0 nothing) → p ≡ survivalOf kind (getD fs 1 nothing) → l ≡ survivalOf kind (getD fs 2 nothing) → (s ∷ p ∷ l ∷ []) ≡ survivalsOf kind fs
-unfolding survivalsOf factorsOf survivalOf
+unfolding survivalsOf
 in-order kind fs e f g = three-same e f g
 
 returns : tie.Need-returns

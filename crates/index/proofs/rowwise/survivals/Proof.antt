@@ -1,0 +1,65 @@
+-- `index::rowwise::survivals` meets its contract: a refusal, too little room, or all numbers. Assumes nothing.
+use native.Mathlib.Omega.{arith}
+use Rattle.casefile.specs.Reading.{reading}
+use Rattle.index.proofs.Accepted.{few-rows}
+use Rattle.index.proofs.Reported.{refusal-lists-none, list-too-long, list-written}
+use borrow.Author.Needs.{needs}
+use Rattle.index.proofs.rowwise.survivals.Statement.{statement}
+use Rattle.index.proofs.rowwise.survivals.Tie as tie
+
+slice-aggregate-judge : tie.Need-slice-aggregate-judge
+slice-aggregate-judge c = search needs
+
+judge-requires : tie.Need-judge-requires
+judge-requires c κs = search needs
+
+returns : tie.Need-returns
+returns c =
+    let judged = c .before .before .before in
+    let r = judged .before .before .before .before in
+    refusal-lists-none (reading (r .args .input .now)) (r .args .out .now) (judged .judge .ensures .0) (c .if1 .taken)
+
+mul-n : tie.Need-mul-n
+mul-n c =
+    let judged = c .before .before .before in
+    let r = judged .before .before .before .before in
+    omega (arith, few-rows (r .args .input .now) (judged .judge .ensures .0) (search needs) _ (judged .judge .ensures .1))
+
+returns-2 : tie.Need-returns-2
+returns-2 c =
+    let judged = c .before .before .before .before in
+    let r = judged .before .before .before .before in
+    list-too-long (r .args .input .now) (judged .judge .ensures .0) (search needs) _ (judged .judge .ensures .1) (r .args .out .now) (c .if2 .taken)
+
+slice-aggregate-list : tie.Need-slice-aggregate-list
+slice-aggregate-list c = search needs
+
+list-requires : tie.Need-list-requires
+list-requires c κs =
+    let judged = c .before .before .before .before .before .before in
+    let r = judged .before .before .before .before in
+    (omega (arith, few-rows (r .args .input .now) (judged .judge .ensures .0) (search needs) _ (judged .judge .ensures .1)), omega (arith, c .before .before .if2 .left))
+
+same-length : tie.Need-same-length
+same-length c = search needs
+
+returns-3 : tie.Need-returns-3
+returns-3 c =
+    let rowwise = c .before .before in
+    let judged = rowwise .before .before .before .before .before .before .before in
+    let r = judged .before .before .before .before in
+    list-written (r .args .input .now) (judged .judge .ensures .0) (search needs) _ (judged .judge .ensures .1) (r .args .out .now) (omega (arith, rowwise .before .before .before .if2 .left)) (rowwise .list .ensures)
+
+pub survivals-spec : {M : Type 1} → statement M
+survivals-spec =
+    tie.close
+    (tie.spec
+    slice-aggregate-judge
+    judge-requires
+    returns
+    mul-n
+    returns-2
+    slice-aggregate-list
+    list-requires
+    same-length
+    returns-3)

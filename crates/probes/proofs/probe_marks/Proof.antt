@@ -1,0 +1,19 @@
+-- `probes::probe_marks` gives the byte of the survival's marks. Assumes nothing.
+use borrow.Author.Needs.{needs}
+use mathlib.Core.Path.{_∙_, ap}
+use Rattle.records.specs.declared.Survival.{Survival}
+use Rattle.printing.specs.Marks.{markByte}
+use Rattle.probes.proofs.probe_marks.Statement.{statement}
+use Rattle.probes.proofs.probe_marks.Tie as tie
+
+survival-requires : tie.Need-survival-requires
+survival-requires c κs = search needs
+
+mark-byte-requires : tie.Need-mark-byte-requires
+mark-byte-requires c κs = search needs
+
+returns : tie.Need-returns
+returns c = c .mark-byte .ensures ∙ ap (λ (s : Survival). markByte (s .marks)) (c .before .survival .ensures)
+
+pub probe-marks-spec : {M : Type 1} → statement M
+probe-marks-spec = tie.close (tie.spec survival-requires mark-byte-requires returns)

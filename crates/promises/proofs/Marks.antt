@@ -1,0 +1,53 @@
+-- What a report tells of an accepted file: the shares of the sheet, and the marks of each row's results. Assumes nothing.
+use Prim.Native.Nat.{ℕ, _*_}
+use mathlib.Core.Path.{_≡_, refl, _∙_, ap}
+use mathlib.Core.Bool.{true, false}
+use mathlib.Core.List.{List, [], _∷_}
+use native.Mathlib.Omega.{arith}
+use lib.Dec.{ltb}
+use lib.ListN.{length, getD}
+use borrow.Author.Tests.{le-ltb}
+use Rattle.records.specs.declared.Finding.{Finding}
+use Rattle.records.specs.declared.Hull.{Hull}
+use Rattle.records.specs.declared.RowHead.{RowHead}
+use Rattle.survival.specs.Marks.{foundMarks, marksOf}
+use Rattle.survival.specs.Survival.{nothing, survivalOf, survivalsOf}
+use Rattle.printing.specs.Marks.{marksAt}
+use Rattle.printing.specs.ReadBack.{marksOfLines, toldBy}
+use Rattle.casefile.specs.Record.{Row}
+use Rattle.casefile.proofs.Soundness.{sound}
+use Rattle.rows.specs.declared.Standing.{Standing}
+use Rattle.rows.specs.Standing.{nowhere, stands}
+use Rattle.rows.specs.Work.{linesFrom}
+use Rattle.rows.proofs.Stands.{head-is}
+use Rattle.answers.specs.Answer.{figures, answer, shares, answered}
+use Rattle.answers.specs.Report.{linesIn}
+use Rattle.promises.specs.Printing.{resultMarks, marksOfRows, ReportTellsMarks}
+use Rattle.promises.proofs.Fits.{same-shares, printed-reads-back}
+
+-- a row whose results have the marks of lever, range and heel in turn
+abbrev found : ℕ → ℕ → ℕ → Finding
+found lever range heel = record { lever = lever; range = range; heel = heel; given = 0 }
+
+abbrev turned : Row
+turned = record { head = record { kind = 2; first = 1; count = 1; depth = 1; height = 1 }; results = found 119 1600 0 ∷ found 120 1599 0 ∷ found 120 1600 2501 ∷ [] }
+
+in-turn : marksOfRows (turned ∷ [])
+    ≡ record { lever = true; range = false; heel = false } ∷ record { lever = false; range = true; heel = false } ∷ record { lever = false; range = false; heel = true } ∷ []
+unfolding marksOfRows marksOf foundMarks
+in-turn = refl
+
+same-marks : (h : Hull) (y : Standing) (rs : List Row) → marksOfLines (linesFrom h y rs) ≡ marksOfRows rs
+unfolding linesFrom marksOfLines marksOfRows marksAt survivalsOf survivalOf
+same-marks h y [] = refl
+same-marks h y (r ∷ rs) =
+    let z = stands y (r .head) in
+    ap (λ (head : RowHead). marksOf (head .kind) (getD (r .results) 0 nothing) ∷ marksOf (head .kind) (getD (r .results) 1 nothing) ∷ marksOf (head .kind) (getD (r .results) 2 nothing) ∷ marksOfLines (linesFrom h z rs)) (head-is y (r .head))
+    ∙ ap (λ ms. resultMarks r 0 ∷ resultMarks r 1 ∷ resultMarks r 2 ∷ ms) (same-marks h z rs)
+
+pub report-tells-marks : ReportTellsMarks
+unfolding answered linesIn toldBy answer figures shares
+report-tells-marks f c e =
+    let few = sound f c e .1 .few in
+    let room : ltb 1000 (2 * length (c .rows)) ≡ false = le-ltb 1000 (2 * length (c .rows)) (omega (arith, few)) in
+    printed-reads-back f ∙ rw (e, room, same-shares (c .hull) nowhere (c .rows), same-marks (c .hull) nowhere (c .rows)) refl

@@ -14,7 +14,7 @@
 #include <string.h>
 #include <time.h>
 
-enum { ROOM = 9569, LONGEST = 65536, MOST_TURNS = 1000, ALL = 4 };
+enum { ROOM = 12569, LONGEST = 65536, MOST_TURNS = 1000, ALL = 4 };
 
 typedef size_t Report(const uint8_t *input, size_t size, uint8_t *out, size_t room);
 typedef size_t Shares(const uint64_t *hull, size_t numbers, const uint64_t *rows, size_t fields, uint64_t *out, size_t room);
@@ -104,7 +104,7 @@ static void same_reports(const char *name, const File *f) {
 static size_t rows_of(const File *f) {
     uint8_t out[ROOM];
     size_t size = damindex_report(f->bytes, f->size, out, ROOM);
-    return size < 69 ? 0 : (size - 69) / 19;
+    return size < 69 ? 0 : (size - 69) / 25;
 }
 
 static void files(long turns, int count, char **paths) {

@@ -157,9 +157,13 @@ static Ends survival(u64 lever, u64 range, u64 heel) {
     return (Ends){s, s + ((u128)fourth_power(s) * d != scaled)};
 }
 
+/* What holds a survival down: 1 for the lever, 2 for the range, 4 for the heel. */
+static u8 marks(u64 lever, u64 range, u64 heel) { return (u8)((lever < 120) | (range < 1600) << 1 | (heel > 2500) << 2); }
+
 /* ---- the answer */
 
-typedef struct { u64 verdict; Ends figures[4], *shares; } Answer;
+typedef struct { Ends share; u8 marks[3]; } Line;
+typedef struct { u64 verdict; Ends figures[4]; Line *lines; } Answer;
 
 static int reaches(u64 end, u64 n, u64 d) { return (u128)end * d >= (u128)n * BILLION; }
 
@@ -189,11 +193,12 @@ static void work_out(const Hull *h, const Row *rows, u64 count, Answer *answer) 
             at = sums(h, &t, r->first, r->count, r->depth);
             one = share(before, at);
         }
-        answer->shares[i] = one;
+        answer->lines[i].share = one;
         for (int k = 0; k < 3; k++) {
             u64 v = height_factor(r->height, draughts[k]) - (same_layer ? height_factor(last->height, draughts[k]) : 0);
             const u64 *f = r->results + 3 * k;
             Ends s = r->kind == 3 ? (Ends){f[0], f[0]} : survival(f[0], f[1], f[2]);
+            answer->lines[i].marks[k] = r->kind == 3 ? 0 : marks(f[0], f[1], f[2]);
             figures[k + 1].lower += one.lower * v * s.lower / 9165000000ul;
             figures[k + 1].upper += up(one.upper * v * s.upper, 9165000000ul);
         }
@@ -301,20 +306,21 @@ u64 REPORT(const u8 *input, u64 size, u8 *out, u64 room) {
     u64 count;
     u8 *to = out;
     Refusal no = read_case(input, size, &h, rows, &count);
-    if (room < (no.number ? 9 : 69 + 19 * count)) return 0;
+    if (room < (no.number ? 9 : 69 + 25 * count)) return 0;
     if (no.number) {
         to = put(put(put(to, 0x8f, 1), no.number, 1), no.line, 2);
         *to++ = '\n';
         return (u64)(to - out);
     }
-    Ends shares[MOST_ROWS];
-    Answer answer = {0, {{0, 0}}, shares};
+    Line lines[MOST_ROWS];
+    Answer answer = {0, {{0, 0}}, lines};
     work_out(&h, rows, count, &answer);
     to = put(put(to, 0x81, 1), answer.verdict, 1);
     for (int k = 0; k < 4; k++) to = put_ends(to, answer.figures[k]);
     *to++ = '\n';
     for (u64 i = 0; i < count; i++) {
-        to = put_ends(put(to, 0x82, 1), shares[i]);
+        to = put_ends(put(to, 0x82, 1), lines[i].share);
+        for (int k = 0; k < 3; k++) to = put(to, lines[i].marks[k], 1);
         *to++ = '\n';
     }
     return (u64)(to - out);

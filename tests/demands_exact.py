@@ -2,12 +2,14 @@
 
 from fractions import Fraction
 from math import isqrt
-from typing import NamedTuple, Tuple
+from typing import NamedTuple, Optional, Tuple
 
 from independent import letters
 
 ROOT_SCALE = 10**24
 WEIGHTS = (Fraction(2, 5), Fraction(2, 5), Fraction(1, 5))
+BEST = (Fraction(5), Fraction(90), Fraction(0))           # the best lever, range and heel that a result may have
+CAPS = (Fraction(12, 100), Fraction(16), Fraction(25))  # those from which on they leave survival as it is
 
 
 class Bracket(NamedTuple):
@@ -17,13 +19,24 @@ class Bracket(NamedTuple):
     high: Fraction
 
 
+class Held(NamedTuple):
+    """Of lever, range and heel, which keep survival below one beside the best others, and which make it one when brought to their cap; and whether
+    it is one."""
+
+    by: Tuple[bool, bool, bool]
+    mended: Tuple[bool, bool, bool]
+    is_one: bool
+
+
 class Exact(NamedTuple):
-    """Row shares, chances by draught, A, As, Ap, Al and their marks, and whether every exposed group is listed."""
+    """Row shares, chances by draught, A, As, Ap, Al and their marks, what holds each row's survivals down, and whether every exposed group is
+    listed."""
 
     shares: Tuple[Fraction, ...]
     chances: Tuple[Fraction, ...]
     figures: Tuple[Bracket, ...]
     marks: Tuple[Fraction, ...]
+    held: Tuple[Tuple[Optional[Held], ...], ...]
     all_listed: bool
 
 
@@ -63,13 +76,29 @@ def fourth_root(fraction):
     return Bracket(low, low if root**4 == scaled else low + Fraction(1, ROOT_SCALE))
 
 
+def in_metres(result):
+    """A result's lever in metres, its range and heel in degrees."""
+    lever, reach, heel = result
+    return Fraction(lever, 1_000), Fraction(reach, 100), Fraction(heel, 100)
+
+
 def survival(height, draught):
     """A row's exact survival at one draught."""
     if height.given:
         given = Fraction(height.given[draught], 10_000)
         return Bracket(given, given)
-    lever, reach, heel = height.results[draught]
-    return fourth_root(letters.s_fourth(Fraction(lever, 1_000), Fraction(reach, 100), Fraction(heel, 100)))
+    return fourth_root(letters.s_fourth(*in_metres(height.results[draught])))
+
+
+def held(height, draught):
+    """What holds a row's survival down at one draught; None where it is given."""
+    if height.given:
+        return None
+    result = in_metres(height.results[draught])
+    alone = [BEST[:at] + result[at:at + 1] + BEST[at + 1:] for at in range(3)]
+    brought = [result[:at] + CAPS[at:at + 1] + result[at + 1:] for at in range(3)]
+    return Held(tuple(letters.s_fourth(*one) < 1 for one in alone), tuple(letters.s_fourth(*one) == 1 for one in brought),
+                letters.s_fourth(*result) == 1)
 
 
 def chance_of_height(H, below, draught):
@@ -90,7 +119,7 @@ def exact_figures(ship):
     spans = Spans(ship)
     ds, dl = Fraction(ship.ds), Fraction(ship.dl)
     draughts = (ds, dl + 3 * (ds - dl) / 5, dl)
-    shares, chances, lows, highs = [], [Fraction(0)] * 3, [Fraction(0)] * 3, [Fraction(0)] * 3
+    shares, holding, chances, lows, highs = [], [], [Fraction(0)] * 3, [Fraction(0)] * 3, [Fraction(0)] * 3
     for group in ship.groups:
         b_before = 0
         for layer in group.layers:
@@ -99,6 +128,7 @@ def exact_figures(ship):
             below = 0
             for height in layer.heights:
                 shares.append(share)
+                holding.append(tuple(held(height, draught) for draught in range(3)))
                 for j, draught in enumerate(draughts):
                     chance = share * chance_of_height(height.H, below, draught)
                     root = survival(height, j)
@@ -113,4 +143,4 @@ def exact_figures(ship):
     required = letters.R(Fraction(ship.L, 100))
     return Exact(
         tuple(shares), tuple(chances), (attained, *partials), (required, required / 2, required / 2, required / 2),
-        every_exposed_group_is_listed(ship, spans))
+        tuple(holding), every_exposed_group_is_listed(ship, spans))

@@ -10,6 +10,7 @@ class Case(NamedTuple):
     refusal: Optional[Tuple[int, int]]
     sheet: Optional[int] = None
     verdict: Optional[int] = None
+    marks: Optional[Tuple[Tuple[int, int, int], ...]] = None
 
 
 def refused(name, data, number, line, shows, sheet=None):
@@ -17,6 +18,6 @@ def refused(name, data, number, line, shows, sheet=None):
     return Case(name, data, shows, (number, line), sheet)
 
 
-def accepted(name, data, shows, sheet=None, verdict=None):
-    """A file that must be accepted, with this verdict where one is stated."""
-    return Case(name, data, shows, None, sheet, verdict)
+def accepted(name, data, shows, sheet=None, verdict=None, marks=None):
+    """A file that must be accepted, with this verdict and these bytes of marks, three a row, where they are stated."""
+    return Case(name, data, shows, None, sheet, verdict, marks)

@@ -34,15 +34,27 @@ def stated(case, output):
         return "stated is that the file is accepted"
     if case.verdict is not None and int(output[2:4], 16) != case.verdict:
         return "stated is the verdict %d" % case.verdict
+    if case.marks is not None and marks_in(output) != list(case.marks):
+        return "stated are the marks %s" % (case.marks,)
     return unsound(output)
 
 
+def frames_of(output):
+    """The bytes of each printed line."""
+    return [bytes.fromhex(line) for line in output.decode("ascii").split("\n")[:-1]]
+
+
+def marks_in(output):
+    """The last three bytes of each row's line."""
+    return [tuple(frame[9:]) for frame in frames_of(output)[1:]]
+
+
 def unsound(output):
-    """What no accepted file may show, whatever its figures: ends that cross, or lie farther apart than they can."""
-    lines = [bytes.fromhex(line) for line in output.decode("ascii").split("\n")[:-1]]
-    rows = len(lines) - 1
-    ends = [[int.from_bytes(line[at:at + 4], "big") for at in range(start, len(line), 4)]
-            for line, start in zip(lines, [2] + [1] * rows)]
+    """What no accepted file may show, whatever its figures: ends that cross, or lie farther apart than they can, or a byte that is no marks."""
+    frames = frames_of(output)
+    rows = len(frames) - 1
+    ends = [[int.from_bytes(frame[at:at + 4], "big") for at in range(start, stop, 4)]
+            for frame, (start, stop) in zip(frames, [(2, 34)] + [(1, 9)] * rows)]
     apart = [[high - low for low, high in zip(four[::2], four[1::2])] for four in ends]
     if any(width < 0 for widths_of in apart for width in widths_of):
         return "a lower end is above its upper end"
@@ -50,6 +62,8 @@ def unsound(output):
         return "a row's ends are more than 32 apart"
     if any(width > (100000 + 40 * rows if rows else 0) for width in apart[0]):
         return "an index's ends are more than 100,000 + 40 a row apart"
+    if any(len(three) != 3 or max(three) > 7 for three in marks_in(output)):
+        return "a row has no three bytes of marks"
     return None
 
 

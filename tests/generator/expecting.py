@@ -9,9 +9,9 @@ def refusal_line(refusal, line):
     return ("8f" + number(refusal, 1) + number(line, 2) + "\n").encode("ascii")
 
 
-def answer_lines(verdict, ends, shares):
+def answer_lines(verdict, ends, shares, marks):
     first = "81" + number(verdict, 1) + "".join(number(end, 4) for pair in ends for end in pair)
-    rows = ["82" + number(low, 4) + number(high, 4) for low, high in shares]
+    rows = ["82" + number(low, 4) + number(high, 4) + bytes(three).hex() for (low, high), three in zip(shares, marks)]
     return ("\n".join([first] + rows) + "\n").encode("ascii")
 
 

@@ -1,4 +1,4 @@
-"""The generator's own reading of the figures: shares, heights, survivals and the verdict, each rule a method that can be broken."""
+"""The generator's own reading of the figures: shares, heights, survivals, marks and the verdict, each rule a method that can be broken."""
 
 BILLION = 10 ** 9
 FULL_HEIGHT = 916500
@@ -188,6 +188,26 @@ class Figures:
                 above = middle
         return bottom, bottom + (bottom ** 4 * under < over)
 
+    # what holds a survival down
+
+    def marked(self, lever, reach, heel):
+        """Yes or no to lever, range and heel."""
+        return lever < 120, reach < 1600, heel > 2500
+
+    def added_up(self, lever, reach, heel):
+        """Three answers as one byte."""
+        return sum(one for one, held in ((1, lever), (2, reach), (4, heel)) if held)
+
+    def marks_at(self, row, draught):
+        """The byte of a row's marks at draught 0, 1 or 2; a given survival has none."""
+        if len(row.figures) == 3:
+            return 0
+        return self.added_up(*self.marked(*row.figures[3 * draught:3 * draught + 3]))
+
+    def row_marks(self):
+        """Three bytes for each row."""
+        return [tuple(self.marks_at(row, draught) for draught in range(3)) for row in self.rows]
+
     # the answer
 
     def adds(self, share, v, s):
@@ -219,7 +239,7 @@ class Figures:
         return 3
 
     def answer(self):
-        """The verdict, the ends of A, As, Ap and Al, and each row's share ends."""
+        """The verdict, the ends of A, As, Ap and Al, and each row's share ends and marks."""
         shares, partials = [], [[0, 0], [0, 0], [0, 0]]
         for row, (before, under) in zip(self.rows, self.below()):
             share = self.share(row, before)
@@ -229,4 +249,4 @@ class Figures:
                 partials[at][0] += low
                 partials[at][1] += high
         ends = [self.weighed(partials)] + [tuple(ends) for ends in partials]
-        return self.verdict(ends), ends, shares
+        return self.verdict(ends), ends, shares, self.row_marks()

@@ -3,7 +3,9 @@
  * A question is a letter and what `asking.h` says of its numbers and files:
  *   f sheet figures file   -> what is returned, the array around the sheet, the array around the figures
  *   r out file             -> what is returned, the array around the buffer, byte by byte
+ *   n rows file            -> what is returned, the array around the rows' numbers
  *   v                      -> the library's version, the header's
+ *   c                      -> the header's sizes and marks, in its order
  * All of it runs on a stack of 64 kilobytes, which the header says is enough. */
 #include "asking.h"
 #include "damindex.h"
@@ -70,10 +72,29 @@ static void report_of_a_file(void) {
     free(out);
 }
 
+static void rows_of_a_file(void) {
+    size_t length = (size_t)ask();
+    uint64_t *rows = marked_numbers(length);
+    take_file();
+    tell(damindex_rows(file, file_length, rows + MARGIN, length));
+    drop_file();
+    tell_numbers(rows, length);
+}
+
+static void constants(void) {
+    static const uint64_t sizes[] = {DAMINDEX_LONGEST_INPUT, DAMINDEX_LONGEST_REPORT, DAMINDEX_LONGEST_SHEET,
+                                     DAMINDEX_FIGURES, DAMINDEX_ROW_NUMBERS, DAMINDEX_LONGEST_ROWS};
+    static const uint64_t marks[] = {DAMINDEX_LOW_LEVER, DAMINDEX_LOW_RANGE, DAMINDEX_HIGH_HEEL};
+    for (size_t i = 0; i < sizeof sizes / sizeof *sizes; i++) tell(sizes[i]);
+    for (size_t i = 0; i < sizeof marks / sizeof *marks; i++) tell(marks[i]);
+}
+
 static void *answer_questions(void *none) {
     for (int question; (question = getchar()) != EOF;) {
         if (question == 'f') figures_of_a_file();
         else if (question == 'r') report_of_a_file();
+        else if (question == 'n') rows_of_a_file();
+        else if (question == 'c') constants();
         else if (question == 'v') tell(damindex_version()), tell(DAMINDEX_VERSION);
         else exit(2);
     }

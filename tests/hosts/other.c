@@ -9,6 +9,11 @@ size_t damindex_figures(const uint8_t *input, size_t input_length, uint64_t *she
     return 0;
 }
 
+size_t damindex_rows(const uint8_t *input, size_t input_length, uint64_t *rows, size_t rows_length) {
+    (void)input, (void)input_length, (void)rows, (void)rows_length;
+    return 0;
+}
+
 size_t damindex_report(const uint8_t *input, size_t input_length, uint8_t *out, size_t out_length) {
     (void)input, (void)input_length, (void)out, (void)out_length;
     return 0;

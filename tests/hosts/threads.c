@@ -1,9 +1,10 @@
 /* Calls the library from many threads at once, each with a stack of 64 kilobytes, and tells what each of them was answered.
  *
  * Asked: how many threads, how many files, and the files, as `asking.h` has them. The threads start together, each at another file, and go
- * through all files three times; where a later answer is not the first one, the program ends with status 3. Told, thread by thread and file by
- * file: what damindex_figures returned, the twelve figures and each row's share, what damindex_report returned and the text. The files are lent
- * to all threads; what a call writes is its own. */
+ * through all files three times; where a later answer is not the first one, the program ends with status 3, and where the marks among the rows'
+ * numbers are not those of the text, with status 4. Told, thread by thread and file by file: what damindex_figures returned, the twelve figures
+ * and each row's share, what damindex_rows returned and the rows' numbers, what damindex_report returned and the text. The files are lent to all
+ * threads; what a call writes is its own. */
 #define _POSIX_C_SOURCE 200809L
 #include "asking.h"
 #include "damindex.h"
@@ -11,6 +12,7 @@
 #include <string.h>
 
 enum { STACK = 65536, TURNS = 3 };
+enum { FIRST_LINE = 69, ROW_LINE = 25, MARKS = 18 }; /* of the text, with each line feed: the lengths of its lines, and where a row's marks begin */
 
 struct file {
     uint8_t *bytes;
@@ -18,8 +20,8 @@ struct file {
 };
 
 struct answer {
-    size_t returned, length;
-    uint64_t figures[DAMINDEX_FIGURES], sheet[DAMINDEX_LONGEST_SHEET];
+    size_t returned, length, numbers;
+    uint64_t figures[DAMINDEX_FIGURES], sheet[DAMINDEX_LONGEST_SHEET], rows[DAMINDEX_LONGEST_ROWS];
     uint8_t report[DAMINDEX_LONGEST_REPORT];
 };
 
@@ -41,7 +43,19 @@ static void *room(size_t count, size_t size) {
 
 static void take_answer(const struct file *file, struct answer *answer) {
     answer->returned = damindex_figures(file->bytes, file->length, answer->sheet, DAMINDEX_LONGEST_SHEET, answer->figures, DAMINDEX_FIGURES);
+    answer->numbers = damindex_rows(file->bytes, file->length, answer->rows, DAMINDEX_LONGEST_ROWS);
     answer->length = damindex_report(file->bytes, file->length, answer->report, sizeof answer->report);
+}
+
+/* Whether the text has the marks of the rows' numbers: a byte below 8, in two digits, at each draught. */
+static int same_marks(const struct answer *answer) {
+    size_t rows = answer->numbers / DAMINDEX_ROW_NUMBERS;
+    if (rows != answer->figures[DAMINDEX_ROWS] || answer->length != (answer->figures[DAMINDEX_NUMBER] ? 9 : FIRST_LINE + ROW_LINE * rows)) return 0;
+    for (size_t at = 0; at < 3 * rows; at++) {
+        const uint8_t *digits = answer->report + FIRST_LINE + ROW_LINE * (at / 3) + MARKS + 2 * (at % 3);
+        if (digits[0] != '0' || digits[1] != '0' + answer->rows[3 * at + 2]) return 0;
+    }
+    return 1;
 }
 
 static void *work(void *given) {
@@ -51,6 +65,7 @@ static void *work(void *given) {
         size_t place = (worker->first + turn) % file_count;
         if (turn < file_count) {
             take_answer(&files[place], &worker->answers[place]);
+            if (!same_marks(&worker->answers[place])) exit(4);
         } else {
             memset(worker->later, 0, sizeof *worker->later);
             take_answer(&files[place], worker->later);
@@ -64,6 +79,8 @@ static void tell_answer(const struct answer *answer) {
     tell(answer->returned);
     for (size_t i = 0; i < DAMINDEX_FIGURES; i++) tell(answer->figures[i]);
     for (size_t i = 0; i < 2 * answer->figures[DAMINDEX_ROWS]; i++) tell(answer->sheet[i]);
+    tell(answer->numbers);
+    for (size_t i = 0; i < answer->numbers; i++) tell(answer->rows[i]);
     tell(answer->length);
     fwrite(answer->report, 1, answer->length, stdout);
 }

@@ -2,13 +2,14 @@
 
 from .answering import Answer, answer, answer_to_case
 from .casefile import Case, Hull, Refusal, Result, Row, reading
-from .printing import exact_text, figures, printed, total_text
+from .printing import exact_text, figures, printed, row_numbers, rows_text, total_text
 from .rounding import Ends
 from .settling import settled_text
 
 __all__ = [
     "Answer", "Case", "Ends", "Hull", "Refusal", "Result", "Row",
-    "answer", "answer_to_case", "exact_text", "figures", "judge", "printed", "reading", "run", "settled_text", "total_text",
+    "answer", "answer_to_case", "exact_text", "figures", "judge", "printed", "reading", "row_numbers", "rows_text", "run", "settled_text",
+    "total_text",
 ]
 
 

@@ -1,23 +1,31 @@
-"""The answer to a case file: refusal or verdict, the ends of A, As, Ap and Al, and each row's share for the sheet."""
+"""The answer to a case file: refusal or verdict, the ends of A, As, Ap and Al, and each row's share and survivals."""
 
 from typing import NamedTuple, Tuple
 
 from .casefile import Refusal, reading
-from .regulation import draughts, marks, s_fourth
+from .regulation import NO_MARKS, Marks, draughts, marks, s_fourth, survival_marks
 from .rounding import BILLION, Ends, added_ends, attained_ends, share_ends, sum_ends, survival_ends
 
 MEETS, FAILS, UNSETTLED = 1, 2, 3
 NO_ENDS = (Ends(0, 0),) * 4
 
 
+class Survival(NamedTuple):
+    """A row's survival at one draught: bottom and top in ten-thousandths, and its marks."""
+
+    ends: Ends
+    marks: Marks
+
+
 class Answer(NamedTuple):
-    """Number and line of a refusal, verdict, the ends of A, As, Ap, Al, and the rows' shares; zeros at a refusal."""
+    """Number and line of a refusal, verdict, the ends of A, As, Ap, Al, the rows' shares and their survivals by draught; zeros at a refusal."""
 
     number: int
     line: int
     verdict: int
     ends: Tuple[Ends, ...]
     shares: Tuple[Ends, ...]
+    survivals: Tuple[Tuple[Survival, ...], ...]
 
     @property
     def rows(self):
@@ -25,16 +33,18 @@ class Answer(NamedTuple):
 
 
 def row_survival(row, draught):
-    """Height and survival: bottom and top of a row's survival at one draught; a given survival has bottom = top."""
+    """Height and survival: a row's survival at one draught; a given one has bottom = top, and no mark."""
     if row.given is not None:
-        return Ends(row.given[draught], row.given[draught])
-    return survival_ends(s_fourth(*row.results[draught]))
+        return Survival(Ends(row.given[draught], row.given[draught]), NO_MARKS)
+    result = row.results[draught]
+    return Survival(survival_ends(s_fourth(*result)), survival_marks(*result))
 
 
-def partial_ends(case, shares, draught):
+def partial_ends(case, shares, survivals, draught):
     """Height and survival: a partial index, the sum of what the rows add at one draught."""
     d = draughts(case.hull.ds, case.hull.dl)[draught]
-    return sum_ends([added_ends(share, row, d, row_survival(row, draught)) for row, share in zip(case.rows, shares)])
+    rows = zip(case.rows, shares, survivals)
+    return sum_ends([added_ends(share, row, d, three[draught].ends) for row, share, three in rows])
 
 
 def verdict_of(ends, L):
@@ -49,9 +59,10 @@ def verdict_of(ends, L):
 def answer_to_case(case):
     """Height and survival: the answer of an accepted file."""
     shares = tuple(share_ends(case.hull, row) for row in case.rows)
-    partials = tuple(partial_ends(case, shares, draught) for draught in range(3))
+    survivals = tuple(tuple(row_survival(row, draught) for draught in range(3)) for row in case.rows)
+    partials = tuple(partial_ends(case, shares, survivals, draught) for draught in range(3))
     ends = (attained_ends(*partials),) + partials
-    return Answer(0, 0, verdict_of(ends, case.hull.L), ends, shares)
+    return Answer(0, 0, verdict_of(ends, case.hull.L), ends, shares, survivals)
 
 
 def answer(data, sheet=None):
@@ -60,5 +71,5 @@ def answer(data, sheet=None):
     if not isinstance(read, Refusal) and sheet is not None and sheet < 2 * len(read.rows):
         read = Refusal(11, 0)
     if isinstance(read, Refusal):
-        return Answer(read.number, read.line, 0, NO_ENDS, ())
+        return Answer(read.number, read.line, 0, NO_ENDS, (), ())
     return answer_to_case(read)

@@ -59,6 +59,18 @@ FIGURES = [
     ("K² stands for K⁴", "Fraction(3_000 - heel, 500) ** 2", "Fraction(3_000 - heel, 500)"),
     ("k rises again beyond a heel of 3,000", "heel >= 3_000", "heel == 3_000"),
     ("the partial draught is the mean", "3 * (ds - dl) // 5", "(ds - dl) // 2"),
+    # Marks
+    ("a lever at its cap is marked", "lever < 120", "lever <= 120"),
+    ("a lever just below its cap is not marked", "lever < 120", "lever < 119"),
+    ("a range at its cap is marked", "reach < 1_600", "reach <= 1_600"),
+    ("a range just below its cap is not marked", "reach < 1_600", "reach < 1_599"),
+    ("a heel of 2,500 is marked", "heel > 2_500", "heel >= 2_500"),
+    ("a heel of 2,501 is not marked", "heel > 2_500", "heel > 2_501"),
+    ("a heel of 3,000 is not marked", "heel > 2_500", "3_000 > heel > 2_500"),
+    ("a lever of nothing is not marked", "lever < 120", "0 < lever < 120"),
+    ("a range of nothing is not marked", "reach < 1_600", "0 < reach < 1_600"),
+    ("lever and range are told for each other", "Marks(lever < 120, reach < 1_600,", "Marks(reach < 1_600, lever < 120,"),
+    ("the heel alone is marked where it makes survival 0", "Marks(lever < 120, reach < 1_600,", "Marks(lever < 120 and heel < 3_000, reach < 1_600,"),
     ("R changes its form a centimetre too late", "L > 10_000", "L > 10_001"),
     ("a partial index must reach the whole of R", "(R(L), R(L) / 2, ", "(R(L), R(L), "),
 ]
@@ -102,7 +114,12 @@ ENDS = [
 ]
 
 ANSWER = [
-    ("a result is that of the deepest draught", "*row.results[draught]", "*row.results[0]"),
+    ("a result is that of the deepest draught", "row.results[draught]", "row.results[0]"),
+    ("a given survival is marked where it is not one", "NO_MARKS)", "Marks(*(row.given[draught] < 10_000,) * 3))"),
+    ("a given survival is read as a lever", "NO_MARKS)", "survival_marks(row.given[draught], 1_600, 0))"),
+    ("the marks are those of the light draught", "survival_marks(*result)", "survival_marks(*row.results[2])"),
+    ("the marks of a row are those of the first", "(row_survival(row, draught) for draught in range(3))",
+     "(row_survival(row, draught)._replace(marks=row_survival(case.rows[0], draught).marks) for draught in range(3))"),
     ("every partial index stands at the deepest draught", "case.hull.dl)[draught]", "case.hull.dl)[0]"),
     ("the verdict meets by upper ends", "all(end.lower >= mark", "all(end.upper >= mark"),
     ("the verdict fails only where all fall short", "any(end.upper < mark", "all(end.upper < mark"),
@@ -110,6 +127,18 @@ ANSWER = [
 ]
 
 TEXT = [
+    ("range and heel change their bytes", "2 * marks.reach + 4 * marks.heel", "4 * marks.reach + 2 * marks.heel"),
+    ("lever and range change their bytes", "1 * marks.lever + 2 * marks.reach", "2 * marks.lever + 1 * marks.reach"),
+    ("one mark alone is told", "1 * marks.lever + 2 * marks.reach + 4 * marks.heel", "max(1 * marks.lever, 2 * marks.reach, 4 * marks.heel)"),
+    ("the marks of the light draught stand for the partial", "for survival in survivals)", "for survival in (survivals[0], *survivals[2:] * 2))"),
+    ("the draughts come light first", "for survival in survivals)", "for survival in survivals[::-1])"),
+    ("the first row's marks are repeated", "row_line(*row) for row in zip(answer.shares, answer.survivals)",
+     "row_line(share, answer.survivals[0]) for share in answer.shares"),
+    ("the nine numbers have top before bottom", "(survival.ends.lower, survival.ends.upper, mark", "(survival.ends.upper, survival.ends.lower, mark"),
+    ("the nine numbers have the marks first", "(survival.ends.lower, survival.ends.upper, mark_byte(survival.marks))",
+     "(mark_byte(survival.marks), survival.ends.lower, survival.ends.upper)"),
+    ("the nine numbers come draught by draught", "for three in answer.survivals for survival in three",
+     "for draught in range(3) for survival in [three[draught] for three in answer.survivals]"),
     ("the total takes in groups that are not listed", "(shares[group] for group in listed)", "(shares[group] for group in shares)"),
     ("groups of no share are told as missing", "if share and (a, n) not in listed", "if (a, n) not in listed"),
     ("a group is told as missing though it is listed", "if share and (a, n) not in listed", "if share"),

@@ -1,4 +1,4 @@
-"""The text of an answer: the lines of the program damindex, the bare figures, and the exact figures and total for reading."""
+"""The text of an answer: the lines of the program damindex, the bare figures and rows, and the exact figures and total for reading."""
 
 from fractions import Fraction
 from math import floor
@@ -9,13 +9,24 @@ from .regulation import R, WHOLE_SURVIVAL, WHOLE_V, draughts, group_share, row_s
 DRAUGHTS = ("deepest", "partial", "light")
 
 
+def mark_byte(marks):
+    """Why is this survival not one: 1 for lever, 2 for range, 4 for heel, added up."""
+    return 1 * marks.lever + 2 * marks.reach + 4 * marks.heel
+
+
+def row_line(share, survivals):
+    """One file in full: an 82 line, a row's share ends and the byte of its marks at each draught."""
+    marks = "".join(f"{mark_byte(survival.marks):02x}" for survival in survivals)
+    return f"82{share.lower:08x}{share.upper:08x}{marks}\n"
+
+
 def printed(answer):
     """One file in full: an 81 line and an 82 line a row, or the one 8f line of a refusal."""
     if answer.number:
         return f"8f{answer.number:02x}{answer.line:04x}\n"
     index = "".join(f"{end.lower:08x}{end.upper:08x}" for end in answer.ends)
-    shares = "".join(f"82{share.lower:08x}{share.upper:08x}\n" for share in answer.shares)
-    return f"81{answer.verdict:02x}{index}\n{shares}"
+    rows = "".join(row_line(*row) for row in zip(answer.shares, answer.survivals))
+    return f"81{answer.verdict:02x}{index}\n{rows}"
 
 
 def figures(answer):
@@ -23,6 +34,20 @@ def figures(answer):
     ends = [figure for end in answer.ends for figure in end]
     sheet = [figure for share in answer.shares for figure in share]
     return [answer.number, answer.line, answer.verdict, answer.rows] + ends + sheet
+
+
+def row_numbers(answer):
+    """The rows' survivals, nine numbers a row: bottom, top and mark byte at the deepest, the partial and the light draught; none at a refusal."""
+    return [number for three in answer.survivals for survival in three
+            for number in (survival.ends.lower, survival.ends.upper, mark_byte(survival.marks))]
+
+
+def rows_text(answer):
+    """The rows' survivals for reading, a row's nine numbers a line."""
+    if answer.number:
+        return f"refused {answer.number} at line {answer.line}\n"
+    told = row_numbers(answer)
+    return "".join(" ".join(map(str, told[at:at + 9])) + "\n" for at in range(0, len(told), 9))
 
 
 def exact_survival(row, draught):

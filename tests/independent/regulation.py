@@ -9,6 +9,17 @@ WHOLE_SURVIVAL = 10_000  # a survival of one
 KEPT = 8_192             # figures kept by the caches: more than the spans and layers of any one file
 
 
+class Marks(NamedTuple):
+    """What holds one result's survival down, yes or no: its lever, its range, its heel."""
+
+    lever: bool
+    reach: bool
+    heel: bool
+
+
+NO_MARKS = Marks(False, False, False)
+
+
 class Span(NamedTuple):
     """A stretch of the ship by its aft and forward place, in centimetres from the aft end."""
 
@@ -164,6 +175,11 @@ def s_fourth(lever, reach, heel):
     else:
         k = Fraction(3_000 - heel, 500) ** 2
     return Fraction(g, 120) * Fraction(t, 1_600) * k
+
+
+def survival_marks(lever, reach, heel):
+    """Why is this survival not one: lever below its cap, range below its cap, heel above 2,500."""
+    return Marks(lever < 120, reach < 1_600, heel > 2_500)
 
 
 def draughts(ds, dl):

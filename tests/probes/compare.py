@@ -14,27 +14,40 @@ sys.path.insert(0, str(HERE.parent))
 from generator.dice import Dice  # noqa: E402
 from generator.fresh import seeded_file  # noqa: E402
 from generator.shapes import seeded_hull, seeded_layers  # noqa: E402
-from independent import Row, judge, reading  # noqa: E402
+from independent import Result, Row, judge, reading  # noqa: E402
+from independent.answering import row_survival  # noqa: E402
 from independent.casefile import hull_of, row_is_within  # noqa: E402
-from independent.regulation import s_fourth, v  # noqa: E402
-from independent.rounding import share_ends, survival_ends  # noqa: E402
+from independent.printing import mark_byte  # noqa: E402
+from independent.regulation import v  # noqa: E402
+from independent.rounding import share_ends  # noqa: E402
 from linking import linked  # noqa: E402
 
 PLACES = 21  # of a hull record: 0, the inner bulkheads, Ls, and zeros after it
+MOST = 2**64 - 1
+LEVERS, RANGES = (0, 1, 60, 118, 119, 120, 121, 5000), (0, 1, 800, 1598, 1599, 1600, 1601, 9000)
+HEELS = (0, 1, 2499, 2500, 2501, 2750, 2999, 3000, 3001, 9000)
+
+
+def near(dice, edges, most):
+    """A number at an edge or a little off it, or any up to the most."""
+    return dice.randint(0, most) if dice.random() < 0.5 else max(dice.choice(edges) + dice.randint(-2, 2), 0)
 
 
 def survivals(dice, count):
-    """Results over their whole limits and at every cap and limit, and given survivals."""
-    levers, ranges = [0, 1, 119, 120, 121, 5000], [0, 1, 1599, 1600, 1601, 9000]
-    heels = [0, 2499, 2500, 2501, 2999, 3000, 3001, 9000]
-    for lever in levers:
-        for reach in ranges:
-            for heel in heels:
+    """Results at every cap and limit, near them and over their whole limits, and given survivals with whatever stands beside them."""
+    for lever in LEVERS:
+        for reach in RANGES:
+            for heel in HEELS:
                 yield 2, lever, reach, heel, 0
     for _ in range(count):
-        yield 2, dice.randint(0, dice.choice([130, 5000])), dice.randint(0, dice.choice([1700, 9000])), dice.randint(0, dice.choice([3100, 9000])), 0
-    for given in [0, 1, 9999, 10000] + [dice.randint(0, 10000) for _ in range(count // 10)]:
+        yield (2, near(dice, LEVERS, dice.choice((130, 5000))), near(dice, RANGES, dice.choice((1700, 9000))),
+               near(dice, HEELS, dice.choice((3100, 9000))), dice.choice((0, 10000)))
+    for kind in (0, 1, 2, 4, MOST):  # whatever is not kind 3 has lever, range and heel, as large as numbers are
+        for three in ((MOST, 1600, 2500), (120, MOST, 2500), (120, 1600, MOST), (MOST, MOST, MOST), (119, 1600, 2500), (0, 0, 2501)):
+            yield kind, *three, 10000
+    for given in [0, 1, 119, 1599, 2501, 9999, 10000] + [dice.randint(0, 10000) for _ in range(count // 10)]:
         yield 3, 0, 0, 0, given
+        yield 3, dice.choice(LEVERS), dice.choice(RANGES), dice.choice(HEELS), given
 
 
 def heights(dice, count):
@@ -109,7 +122,9 @@ def share_expected(numbers, asked):
 
 
 def survival_expected(kind, lever, reach, heel, given):
-    return (given, given) if kind == 3 else tuple(survival_ends(s_fourth(lever, reach, heel)))
+    row = Row(1, 1, 1, 1, None, (given,) * 3) if kind == 3 else Row(1, 1, 1, 1, (Result(lever, reach, heel),) * 3, None)
+    ends, marks = row_survival(row, 0)
+    return *ends, mark_byte(marks)
 
 
 def height_expected(below, above, draught):

@@ -1,7 +1,7 @@
 /* Answers questions about single figures of the proved crates, many in one process.
  *
  * A question is a letter and what `asking.h` says of its numbers and files:
- *   s kind lever range heel given   -> bottom top
+ *   s kind lever range heel given   -> bottom top marks
  *   v below height draught          -> v
  *   j file                          -> number line rows
  *   q hull (26 numbers) a n b' b    -> rows lower upper */
@@ -9,6 +9,7 @@
 
 uint64_t probe_bottom(uint64_t kind, uint64_t lever, uint64_t range, uint64_t heel, uint64_t given);
 uint64_t probe_top(uint64_t kind, uint64_t lever, uint64_t range, uint64_t heel, uint64_t given);
+uint64_t probe_marks(uint64_t kind, uint64_t lever, uint64_t range, uint64_t heel, uint64_t given);
 uint64_t probe_height(uint64_t below, uint64_t height, uint64_t draught);
 uint64_t probe_number(const uint8_t *input, size_t length);
 uint64_t probe_line(const uint8_t *input, size_t length);
@@ -19,6 +20,7 @@ static void survival(void) {
     uint64_t kind = ask(), lever = ask(), range = ask(), heel = ask(), given = ask();
     tell(probe_bottom(kind, lever, range, heel, given));
     tell(probe_top(kind, lever, range, heel, given));
+    tell(probe_marks(kind, lever, range, heel, given));
 }
 
 static void height(void) {

@@ -1,1 +1,1 @@
-"""The rules broken one by one: refusals, shares, and the figures made from them."""
+"""The rules broken one by one: refusals, shares, the figures made from them, and the marks."""

@@ -124,8 +124,8 @@ class PlainMean(Figures):
 @slip("the partial sums are held at one")
 class SumsHeld(Figures):
     def answer(self):
-        verdict, ends, shares = super().answer()
-        return verdict, [(low, min(high, BILLION)) for low, high in ends], shares
+        verdict, ends, *rows = super().answer()
+        return (verdict, [(low, min(high, BILLION)) for low, high in ends], *rows)
 
 
 def changed_required(words, required):

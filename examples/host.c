@@ -31,11 +31,38 @@ static const char *const refusals[] = {
     [DAMINDEX_SHEET_TOO_SHORT] = "the sheet is too short",
 };
 
+static const struct {
+    uint64_t mark;
+    const char *name;
+} marks[] = {{DAMINDEX_LOW_LEVER, "lever"}, {DAMINDEX_LOW_RANGE, "range"}, {DAMINDEX_HIGH_HEEL, "heel"}};
+
+/* In the order in which a row's numbers have them. */
+static const char *const draughts[] = {"deepest", "partial", "light"};
+
 /* How a program ends by verdict. */
 static const int statuses[] = {[DAMINDEX_MEETS] = 0, [DAMINDEX_FAILS] = 2, [DAMINDEX_UNSETTLED] = 3};
 
 static void tell_index(const char *name, const uint64_t ends[2]) {
     printf("%-2s %10" PRIu64 " to %10" PRIu64 " billionths\n", name, ends[0], ends[1]);
+}
+
+/* What holds a survival down. Of a given survival, and of one that is one already, there is nothing to tell. */
+static void tell_marks(uint64_t added_up) {
+    const char *before = ", held down by ";
+    for (size_t i = 0; i < sizeof marks / sizeof *marks; i++) {
+        if (!(added_up & marks[i].mark)) continue;
+        printf("%s%s", before, marks[i].name);
+        before = " and ";
+    }
+}
+
+/* A row's survival at each draught: bottom, top, and its marks. */
+static void tell_survivals(uint64_t row, const uint64_t numbers[DAMINDEX_ROW_NUMBERS]) {
+    for (size_t at = 0; at < DAMINDEX_ROW_NUMBERS; at += 3) {
+        printf("row %3" PRIu64 ": %-7s survival %5" PRIu64 " to %5" PRIu64 " ten-thousandths", row, draughts[at / 3], numbers[at], numbers[at + 1]);
+        tell_marks(numbers[at + 2]);
+        printf("\n");
+    }
 }
 
 /* Whether the library that runs is one that this program was compiled for: of the same major version, and not older. */
@@ -46,7 +73,7 @@ static int library_fits(void) {
 
 int main(void) {
     static uint8_t input[DAMINDEX_LONGEST_INPUT + 1];
-    static uint64_t sheet[DAMINDEX_LONGEST_SHEET];
+    static uint64_t sheet[DAMINDEX_LONGEST_SHEET], rows[DAMINDEX_LONGEST_ROWS];
     uint64_t figures[DAMINDEX_FIGURES];
 
     if (!library_fits()) {
@@ -67,7 +94,10 @@ int main(void) {
     tell_index("As", figures + DAMINDEX_AS_LOWER);
     tell_index("Ap", figures + DAMINDEX_AP_LOWER);
     tell_index("Al", figures + DAMINDEX_AL_LOWER);
-    for (uint64_t row = 0; row < figures[DAMINDEX_ROWS]; row++)
+    damindex_rows(input, length, rows, DAMINDEX_LONGEST_ROWS);
+    for (uint64_t row = 0; row < figures[DAMINDEX_ROWS]; row++) {
         printf("row %3" PRIu64 ": share %10" PRIu64 " to %10" PRIu64 " billionths\n", row + 1, sheet[2 * row], sheet[2 * row + 1]);
+        tell_survivals(row + 1, rows + DAMINDEX_ROW_NUMBERS * row);
+    }
     return statuses[figures[DAMINDEX_VERDICT]];
 }

@@ -13,10 +13,13 @@ import sys
 from pathlib import Path
 
 LIBRARY = Path(__file__).resolve().parent.parent / "target" / "library" / "lib" / "libdamindex.so"
-WRITTEN_FOR = 10000  # version 1.0.0; another one serves where the major number is the same and it is not older
+WRITTEN_FOR = 20000  # version 2.0.0; another one serves where the major number is the same and it is not older
 
 # as include/damindex.h has them
-LONGEST_INPUT, LONGEST_REPORT, LONGEST_SHEET, FIGURES = 32768, 9569, 1000, 12
+LONGEST_INPUT, LONGEST_REPORT, LONGEST_SHEET, FIGURES = 32768, 12569, 1000, 12
+ROW_NUMBERS, LONGEST_ROWS = 9, 4500
+MARKS = {1: "lever", 2: "range", 4: "heel"}
+DRAUGHTS = ("deepest", "partial", "light")
 
 VERDICTS = {
     1: "meets the required index",
@@ -45,17 +48,19 @@ CANNOT, REFUSED = 1, 4
 def load(path):
     """The library of a path, its functions declared. CDLL lets other threads of Python run during a call, and calls may run at the same time."""
     library = ctypes.CDLL(str(Path(path).resolve() if Path(path).exists() else path))  # a bare name is looked for by the loader
-    numbers = ctypes.POINTER(ctypes.c_uint64)
-    # bytes go as c_char_p with their length beside it, so that a zero byte among them is nothing special
     library.damindex_version.argtypes = []
     library.damindex_version.restype = ctypes.c_uint32
-    library.damindex_figures.argtypes = [ctypes.c_char_p, ctypes.c_size_t, numbers, ctypes.c_size_t, numbers, ctypes.c_size_t]
-    library.damindex_figures.restype = ctypes.c_size_t
-    library.damindex_report.argtypes = [ctypes.c_char_p, ctypes.c_size_t, ctypes.POINTER(ctypes.c_char), ctypes.c_size_t]
-    library.damindex_report.restype = ctypes.c_size_t
     version = library.damindex_version()
     if version // 10000 != WRITTEN_FOR // 10000 or version < WRITTEN_FOR:
         raise OSError("%s has the version number %d, and this program was written for %d" % (path, version, WRITTEN_FOR))
+    numbers = ctypes.POINTER(ctypes.c_uint64)
+    # bytes go as c_char_p with their length beside it, so that a zero byte among them is nothing special
+    library.damindex_figures.argtypes = [ctypes.c_char_p, ctypes.c_size_t, numbers, ctypes.c_size_t, numbers, ctypes.c_size_t]
+    library.damindex_figures.restype = ctypes.c_size_t
+    library.damindex_rows.argtypes = [ctypes.c_char_p, ctypes.c_size_t, numbers, ctypes.c_size_t]
+    library.damindex_rows.restype = ctypes.c_size_t
+    library.damindex_report.argtypes = [ctypes.c_char_p, ctypes.c_size_t, ctypes.POINTER(ctypes.c_char), ctypes.c_size_t]
+    library.damindex_report.restype = ctypes.c_size_t
     return library
 
 
@@ -67,6 +72,13 @@ def figures(library, data):
     return list(told), [(sheet[2 * row], sheet[2 * row + 1]) for row in range(rows)]
 
 
+def survivals(library, data):
+    """Each row's survival at the deepest, the partial and the light draught: bottom, top, marks; no row at all at a refusal."""
+    numbers = (ctypes.c_uint64 * LONGEST_ROWS)()
+    count = library.damindex_rows(data, len(data), numbers, len(numbers))
+    return [[numbers[at:at + 3] for at in range(row, row + ROW_NUMBERS, 3)] for row in range(0, count, ROW_NUMBERS)]
+
+
 def report(library, data):
     """The printed answer of any bytes, as the program damindex writes it."""
     out = ctypes.create_string_buffer(LONGEST_REPORT)
@@ -74,11 +86,18 @@ def report(library, data):
     return out.raw[:length].decode("ascii")
 
 
-def decimal(billionths):
-    return "%d.%09d" % divmod(billionths, 10 ** 9)
+def decimal(count, places=9):
+    """A count of billionths, or of the last of so many places."""
+    return "%d.%0*d" % (count // 10 ** places, places, count % 10 ** places)
 
 
-def tell(told, shares):
+def held_down(marks):
+    """What holds a survival down, in words. Of a given survival, and of one that is one already, there is nothing to tell."""
+    names = [name for mark, name in MARKS.items() if marks & mark]
+    return ", held down by " + " and ".join(names) if names else ""
+
+
+def tell(told, shares, rows):
     """The answer in words, and the status that the program ends with."""
     number, line, verdict, _, *ends = told
     if number:
@@ -87,8 +106,10 @@ def tell(told, shares):
     print(VERDICTS[verdict])
     for name, lower, upper in zip(("A", "As", "Ap", "Al"), ends[::2], ends[1::2]):
         print("%-2s %s to %s" % (name, decimal(lower), decimal(upper)))
-    for row, (lower, upper) in enumerate(shares, 1):
+    for row, ((lower, upper), three) in enumerate(zip(shares, rows), 1):
         print("row %3d: share %s to %s" % (row, decimal(lower), decimal(upper)))
+        for draught, (bottom, top, marks) in zip(DRAUGHTS, three):
+            print("row %3d: %-7s survival %s to %s%s" % (row, draught, decimal(bottom, 4), decimal(top, 4), held_down(marks)))
     return STATUSES[verdict]
 
 
@@ -114,7 +135,7 @@ def main():
         arguments.error(str(fault))
     told, shares = figures(library, data)
     if not chosen.report:
-        return tell(told, shares)
+        return tell(told, shares, survivals(library, data))
     sys.stdout.write(report(library, data))
     return REFUSED if told[0] else STATUSES[told[2]]
 

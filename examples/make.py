@@ -1,8 +1,9 @@
-"""Writes the example files, their answers and the table of README.md anew; --check says whether they are just what is made."""
+"""Writes the example files, their answers and the tables of README.md anew; --check says whether they are just what is made."""
 
 import argparse
 import subprocess
 import sys
+from collections import Counter
 from functools import lru_cache
 from pathlib import Path
 
@@ -27,6 +28,8 @@ PRINTED = (
 PRINTED_WHAT = "a ship of two zones, 99 m"
 PRINTED_SHOWS = "the case that the scope prints, byte for byte"
 HEAD = ("| file | ship | what it shows | rows | A | R | verdict |", "|---|---|---|---|---|---|---|")
+MARKS_HEAD = ("| file | rows of results | deepest | partial | light |", "|---|---|---|---|---|")
+MARKS = slice(-3, None)  # the last bytes of a row's line, at the deepest, the partial and the light draught
 
 found = lru_cache(maxsize=None)(answer)
 
@@ -67,11 +70,25 @@ def table_line(name, what, shows, data):
             f"| {millionths(round(required * 10**6))} | {verdict(data)} |")
 
 
-def with_table(text):
-    """README.md with the table of the examples as they are made now."""
-    before, _, rest = text.partition(HEAD[0] + "\n")
-    after = rest[rest.index("\n\n"):]
-    return before + "\n".join([*HEAD, *(table_line(*case) for case in cases())]) + after
+def marks_line(name, data):
+    """A line of the second table: how many rows of results have each byte of marks at a draught, as the example's answer prints them."""
+    path = HERE / f"{name}.answer"
+    lines = path.read_text(encoding="ascii").splitlines()[1:] if path.exists() else []
+    marks = [bytes.fromhex(line)[MARKS] for line, row in zip(lines, reading(data).rows) if row.given is None]
+    cells = [", ".join(f"`{byte:02x}` {count}" for byte, count in sorted(Counter(at).items())) for at in zip(*marks)]
+    return f"| {name} | {len(marks)} | {' | '.join(cells)} |"
+
+
+def with_table(text, head, lines):
+    """A page with other lines under the head of one of its tables."""
+    before, _, rest = text.partition(head[0] + "\n")
+    return before + "\n".join([*head, *lines]) + rest[rest.index("\n\n"):]
+
+
+def with_tables(text):
+    """README.md with both tables of the examples as they are made now."""
+    text = with_table(text, HEAD, [table_line(*case) for case in cases()])
+    return with_table(text, MARKS_HEAD, [marks_line(name, data) for name, _, _, data in cases()])
 
 
 def survivals(row):
@@ -126,10 +143,10 @@ def ship_faults():
 
 
 def page_faults():
-    """The table of README.md, and files that nothing makes."""
+    """The tables of README.md, and files that nothing makes."""
     page = HERE / "README.md"
     text = page.read_text(encoding="utf-8")
-    yield None if text == with_table(text) else "the table of README.md is not what is made"
+    yield None if text == with_tables(text) else "the tables of README.md are not what is made"
     names = {name for name, *_ in cases()}
     for path in sorted([*HERE.glob("*.case"), *HERE.glob("*.answer")]):
         yield None if path.stem in names else f"{path.name} is made by nothing"
@@ -154,7 +171,7 @@ def write():
         (HERE / f"{name}.case").write_bytes(data)
         (HERE / f"{name}.answer").write_bytes(run("damindex", data))
     page = HERE / "README.md"
-    page.write_text(with_table(page.read_text(encoding="utf-8")), encoding="utf-8")
+    page.write_text(with_tables(page.read_text(encoding="utf-8")), encoding="utf-8")
     return 0
 
 

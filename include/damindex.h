@@ -1,4 +1,4 @@
-/* The damage subdivision index for programs in C, and in every language that calls C: three functions of the library damindex.
+/* The damage subdivision index for programs in C, and in every language that calls C: four functions of the library damindex.
  *
  *     ./library                                               proves the library and makes its package in target/library (x86-64 Linux)
  *     cc program.c $(pkg-config --cflags --libs damindex)     links with the shared object
@@ -16,7 +16,7 @@
  * What the caller keeps, because no proof reaches into C:
  *   - no pointer is NULL, also where the length is 0; numbers of 64 bits are aligned as C aligns them;
  *   - each length is at most the number of elements that are there;
- *   - what is written (`out`, `sheet`, `figures`) overlaps nothing else that is lent in the same call;
+ *   - what is written (`out`, `sheet`, `figures`, `rows`) overlaps nothing else that is lent in the same call;
  *   - nobody else writes what is lent until the call returns, and nobody reads what is written until then.
  *
  * Threads. Calls may run at the same time, in as many threads as there are, with no lock: what a call writes is its own until it returns, and
@@ -34,19 +34,21 @@ extern "C" {
 
 /* The version of this header. The library tells its own by damindex_version. Major: something that a program relies on has changed. Minor:
  * something was added. Patch: neither. A program runs with a library of its own major version that is not older. */
-#define DAMINDEX_VERSION_MAJOR 1
+#define DAMINDEX_VERSION_MAJOR 2
 #define DAMINDEX_VERSION_MINOR 0
 #define DAMINDEX_VERSION_PATCH 0
 #define DAMINDEX_VERSION (10000 * DAMINDEX_VERSION_MAJOR + 100 * DAMINDEX_VERSION_MINOR + DAMINDEX_VERSION_PATCH)
-#define DAMINDEX_VERSION_STRING "1.0.0"
+#define DAMINDEX_VERSION_STRING "2.0.0"
 
 /* Sizes that serve every input (proved). A longer input than the longest is refused for its length, whatever it holds: to read one byte more
  * than that is enough to tell. */
 enum {
-    DAMINDEX_LONGEST_INPUT = 32768, /* bytes */
-    DAMINDEX_LONGEST_REPORT = 9569, /* bytes: 500 rows */
-    DAMINDEX_LONGEST_SHEET = 1000,  /* numbers: two a row */
-    DAMINDEX_FIGURES = 12           /* numbers */
+    DAMINDEX_LONGEST_INPUT = 32768,  /* bytes */
+    DAMINDEX_LONGEST_REPORT = 12569, /* bytes: 500 rows */
+    DAMINDEX_LONGEST_SHEET = 1000,   /* numbers: two a row */
+    DAMINDEX_FIGURES = 12,           /* numbers */
+    DAMINDEX_ROW_NUMBERS = 9,        /* numbers of a row's survivals */
+    DAMINDEX_LONGEST_ROWS = 4500     /* numbers: nine a row */
 };
 
 /* Where each of the twelve figures stands. Ends are in billionths: the exact index is not below the lower and not above the upper end. */
@@ -65,11 +67,19 @@ enum {
     DAMINDEX_AL_UPPER
 };
 
-/* Verdicts. */
+/* Verdicts. A mark here is R or R/2, which an index is held against; those of a survival are below. */
 enum {
     DAMINDEX_MEETS = 1,    /* every lower end reaches its mark: A the required index R, each partial index half of R */
     DAMINDEX_FAILS = 2,    /* some upper end is below its mark */
     DAMINDEX_UNSETTLED = 3 /* neither: some mark lies between the ends */
+};
+
+/* The marks of a survival, added up: what holds it down. A survival that was found from lever, range and heel is 1 just where it has no mark; a
+ * given survival never has a mark, whatever it is. */
+enum {
+    DAMINDEX_LOW_LEVER = 1, /* the lever is below its cap of 120 mm */
+    DAMINDEX_LOW_RANGE = 2, /* the range is below its cap of 16 degrees */
+    DAMINDEX_HIGH_HEEL = 4  /* the heel is above 25 degrees */
 };
 
 /* Refusals. A file is judged line by line, and the first line that breaks a rule gives number and line. */
@@ -93,8 +103,8 @@ uint32_t damindex_version(void);
 /* The printed answer, as the program damindex writes it.
  *
  * Takes a case file in `input`, and a buffer `out`. Writes the answer's text to the front of `out`, with no closing zero: the verdict and the
- * indices in a line and a line for each row, or the one line of a refusal. Returns how many bytes that is, at least 9 and at most
- * DAMINDEX_LONGEST_REPORT. Where `out` is shorter than the text it returns 0 and writes nothing. */
+ * indices in a line and a line for each row with its share and marks, or the one line of a refusal. Returns how many bytes that is, at least 9
+ * and at most DAMINDEX_LONGEST_REPORT. Where `out` is shorter than the text it returns 0 and writes nothing. */
 size_t damindex_report(const uint8_t *input, size_t input_length, uint8_t *out, size_t out_length);
 
 /* The figures of the answer, and each row's share.
@@ -107,6 +117,17 @@ size_t damindex_report(const uint8_t *input, size_t input_length, uint8_t *out, 
  * sheet stays as it was, also for refusal 11, which a sheet of DAMINDEX_LONGEST_SHEET numbers never gets. */
 size_t damindex_figures(const uint8_t *input, size_t input_length, uint64_t *sheet, size_t sheet_length, uint64_t *figures,
                         size_t figures_length);
+
+/* Each row's survival at the three draughts, and its marks there.
+ *
+ * Takes a case file in `input`, and room for nine numbers a row in `rows`. Where the file is accepted it writes them to the front of `rows`, in
+ * the order of the rows: at the deepest draught bottom, top and the marks added up, then the same three at the partial draught, then at the
+ * light draught. Bottom and top are ten-thousandths: the exact survival is not below the bottom and not above the top, and a given survival is
+ * both. Returns how many numbers that is: DAMINDEX_ROW_NUMBERS times the rows, at most DAMINDEX_LONGEST_ROWS, and 0 for a file with no rows.
+ *
+ * Where the file is refused, or `rows` is too short for all of its numbers, it returns 0 and writes nothing. No sheet is lent, so that refusal 11
+ * does not occur here. Which refusal it is, damindex_figures tells. */
+size_t damindex_rows(const uint8_t *input, size_t input_length, uint64_t *rows, size_t rows_length);
 
 #ifdef __cplusplus
 }

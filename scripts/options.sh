@@ -27,7 +27,7 @@ usage: ./damindex < FILE
        ./damindex --help
 
 Reads a case file from standard input and writes the answer to standard output: verdict, attained index, partial
-indices and each row's share, or the number and the line of a refusal.
+indices, each row's share and what holds its survival down, or the number and the line of a refusal.
 
   --build     proves what has changed, builds the program anew and says what was built; reads no input
   -h, --help  tells this

@@ -5,7 +5,7 @@ use Rattle.casefile.specs.Reading.{Reading, refused, accepted}
 use Rattle.printing.specs.Printed.{RowLine, printed}
 use Rattle.rows.specs.Standing.{nowhere}
 use Rattle.rows.specs.Work.{linesFrom}
-use Rattle.rows.specs.Survivals.{survivalsFrom}
+use Rattle.listing.specs.Survivals.{survivalsFrom}
 use Rattle.answers.specs.Answer.{answered}
 
 -- what the lines of an accepted case's rows are printed from

@@ -23,8 +23,8 @@ use Rattle.printing.proofs.Whole.{length-printed, rows-then-figures}
 use Rattle.printing.proofs.Written.{written-in, not-written}
 use Rattle.rows.specs.Standing.{nowhere}
 use Rattle.rows.specs.Work.{linesFrom}
-use Rattle.rows.specs.Survivals.{survivalsFrom}
-use Rattle.rows.proofs.AsNumbers.{length-survivals}
+use Rattle.listing.specs.Survivals.{survivalsFrom}
+use Rattle.listing.proofs.AsNumbers.{length-survivals}
 use Rattle.answers.specs.Answer.{figures, answer}
 use Rattle.answers.specs.Report.{linesIn, report, survivalsIn}
 use Rattle.answers.proofs.Prints.{length-lines, report-refused, report-accepted}

@@ -18,6 +18,6 @@ pub fn survivals(input: &[u8], out: &mut [u64]) -> usize
     if out.len() < n {
         return 0;
     }
-    rows::survivals::list(&kept, rows, out);
+    listing::list(&kept, rows, out);
     n
 }

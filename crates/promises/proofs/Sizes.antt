@@ -16,7 +16,7 @@ use Rattle.rows.specs.Standing.{nowhere}
 use Rattle.answers.specs.Answer.{figures, answer, refusal, answered}
 use Rattle.answers.specs.Report.{linesIn, report, survivalsIn}
 use Rattle.answers.proofs.Prints.{length-lines}
-use Rattle.rows.proofs.AsNumbers.{length-survivals}
+use Rattle.listing.proofs.AsNumbers.{length-survivals}
 use Rattle.promises.specs.Sizes.{shortestReport, longestReport, longestSheet, longestRows, ReportsFit, RowsFit, SheetsServe}
 
 -- a sheet that is long enough for a case's shares

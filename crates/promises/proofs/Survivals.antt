@@ -10,7 +10,7 @@ use borrow.Author.Tests.{le-leb}
 use Rattle.survival.specs.Survival.{nothing, survivalOf, survivalsOf}
 use Rattle.printing.specs.Written.{countIn, writtenIn}
 use Rattle.casefile.specs.Record.{Row}
-use Rattle.rows.specs.Survivals.{threeNumbers, survivalNumbers, survivalsFrom}
+use Rattle.listing.specs.Survivals.{threeNumbers, survivalNumbers, survivalsFrom}
 use Rattle.answers.specs.Report.{survivalsIn}
 use Rattle.promises.specs.Survivals.{RowAt, RowsTell, RefusedTellsNone}
 

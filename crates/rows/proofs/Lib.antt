@@ -4,5 +4,3 @@ pub mod Entering
 pub mod InTurn
 pub mod OnSheet
 pub mod InLines
-pub mod Values
-pub mod AsNumbers

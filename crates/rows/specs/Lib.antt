@@ -1,4 +1,3 @@
 pub mod Standing
 pub mod Work
 pub mod Running
-pub mod Survivals

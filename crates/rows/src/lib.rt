@@ -1,4 +1,4 @@
-// The rows of a file in turn: where each stands, its share on the sheet or its line in a report, its survivals, and the sums of what they add.
+// The rows of a file in turn: where each stands, its share on the sheet or its line in a report, and the sums of what they add.
 use chances::Sums;
 use records::Ends;
 use records::RowHead;
@@ -8,7 +8,6 @@ use records::Trio;
 pub mod lines; // the rows in turn: their lines in a report
 mod row; // a row after those before it
 pub mod sheet; // the rows in turn: their shares on the sheet
-pub mod survivals; // the rows in turn: their survivals, for a host
 
 // A row's head, the penetration of the layer before its own (0 in the group's first), and the height of the row below it (0 in
 // the layer's first).

@@ -12,7 +12,7 @@ use Rattle.survival.specs.Marks.{foundMarks, marksOf}
 use Rattle.survival.specs.Survival.{factorOf, scaledOf, roundedOf, survivalOf, survivalsOf}
 use Rattle.printing.specs.Marks.{markByte}
 use Rattle.casefile.specs.Record.{Row}
-use Rattle.rows.specs.Survivals.{threeNumbers, survivalNumbers, survivalsFrom}
+use Rattle.listing.specs.Survivals.{threeNumbers, survivalNumbers, survivalsFrom}
 
 abbrev found : ℕ → ℕ → ℕ → Finding
 found lever range heel = record { lever = lever; range = range; heel = heel; given = 0 }

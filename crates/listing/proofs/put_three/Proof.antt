@@ -1,4 +1,4 @@
--- `rows::survivals::put_three` meets its contract. Assumes nothing.
+-- `listing::put_three` meets its contract. Assumes nothing.
 use Prim.Native.Nat.{ℕ, suc, _+_}
 use native.Mathlib.Omega.{arith}
 use mathlib.Core.Path.{_≡_, refl}
@@ -6,8 +6,8 @@ use mathlib.Core.List.{List, [], _∷_}
 use lib.ListN.{set}
 use lib.Seq.{sets, lt-length-set}
 use borrow.Author.Needs.{needs}
-use Rattle.rows.proofs.survivals.put_three.Statement.{statement}
-use Rattle.rows.proofs.survivals.put_three.Tie as tie
+use Rattle.listing.proofs.put_three.Statement.{statement}
+use Rattle.listing.proofs.put_three.Tie as tie
 
 mul-out : tie.Need-mul-out
 mul-out c = search needs

@@ -5,7 +5,7 @@ ghost use Prim.Native.Nat.{_+_, _*_, _≤_};
 ghost use lib.ListN.{length, drop};
 ghost use lib.Seq.{sets};
 ghost use Rattle.casefile.specs.Kept.{keptRows};
-ghost use Rattle.rows.specs.Survivals.{threeNumbers, survivalNumbers, survivalsFrom};
+ghost use Rattle.listing.specs.Survivals.{threeNumbers, survivalNumbers, survivalsFrom};
 use printing::mark_byte;
 use records::Survival;
 use survival::finding::survivals;

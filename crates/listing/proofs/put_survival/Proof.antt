@@ -1,8 +1,8 @@
--- `rows::survivals::put_survival` meets its contract. Assumes nothing.
-use Rattle.rows.proofs.AsNumbers.{three-put}
+-- `listing::put_survival` meets its contract. Assumes nothing.
+use Rattle.listing.proofs.AsNumbers.{three-put}
 use borrow.Author.Needs.{needs}
-use Rattle.rows.proofs.survivals.put_survival.Statement.{statement}
-use Rattle.rows.proofs.survivals.put_survival.Tie as tie
+use Rattle.listing.proofs.put_survival.Statement.{statement}
+use Rattle.listing.proofs.put_survival.Tie as tie
 
 mark-byte-requires : tie.Need-mark-byte-requires
 mark-byte-requires c κs = search needs

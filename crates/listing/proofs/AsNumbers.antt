@@ -12,10 +12,10 @@ use Rattle.survival.specs.Survival.{noSurvival, survivalsOf}
 use Rattle.casefile.specs.Record.{Row}
 use Rattle.casefile.specs.Kept.{keptRow}
 use Rattle.casefile.proofs.Kept.{length-kept}
-use Rattle.rows.specs.Survivals.{threeNumbers, survivalNumbers, survivalsFrom}
+use Rattle.listing.specs.Survivals.{threeNumbers, survivalNumbers, survivalsFrom}
 -- checked first, so that a definition that tells other numbers is refused there
-use Rattle.rows.proofs.Values.{two-rows}
+use Rattle.listing.proofs.Values.{two-rows}
 use Rattle.rows.proofs.InTurn.{left, all, all-left, one-of-them, none-left}
 
 pub length-survival : (ss : List Survival) → length (survivalNumbers ss) ≡ 9
 unfolding survivalNumbers threeNumbers

@@ -1,8 +1,8 @@
--- `rows::survivals::put_survivals` meets its contract, draught by draught. Assumes nothing.
-use Rattle.rows.proofs.AsNumbers.{nine-put}
+-- `listing::put_survivals` meets its contract, draught by draught. Assumes nothing.
+use Rattle.listing.proofs.AsNumbers.{nine-put}
 use borrow.Author.Needs.{needs}
-use Rattle.rows.proofs.survivals.put_survivals.Statement.{statement}
-use Rattle.rows.proofs.survivals.put_survivals.Tie as tie
+use Rattle.listing.proofs.put_survivals.Statement.{statement}
+use Rattle.listing.proofs.put_survivals.Tie as tie
 
 array-copy-out-deepest : tie.Need-array-copy-out-deepest
 array-copy-out-deepest c = search needs

@@ -1,13 +1,13 @@
--- `rows::survivals::list` meets its contract: the numbers of the rows done, with those of the rows left, are those of all. Assumes nothing.
+-- `listing::list` meets its contract: the numbers of the rows done, with those of the rows left, are those of all. Assumes nothing.
 use Prim.Native.Nat.{_-_}
 use borrow.Author.Needs.{needs}
 use native.Mathlib.Omega.{arith}
 use mathlib.Core.Path.{_∙_, ap₂}
 use Rattle.survival.specs.Survival.{survivalsOf}
 use Rattle.records.specs.declared.RowHead.{RowHead}
-use Rattle.rows.proofs.AsNumbers.{AsNumbers, no-number, nine-more, all-numbers}
-use Rattle.rows.proofs.survivals.list.Statement.{statement}
-use Rattle.rows.proofs.survivals.list.Tie as tie
+use Rattle.listing.proofs.AsNumbers.{AsNumbers, no-number, nine-more, all-numbers}
+use Rattle.listing.proofs.list.Statement.{statement}
+use Rattle.listing.proofs.list.Tie as tie
 
 abbrev Inv-loop : tie.InvT-loop
 Inv-loop kept rows out₀ i₀ out i = AsNumbers kept rows out₀ out i

@@ -1,12 +1,9 @@
 -- What is written into a lent buffer is the printed answer, or the rows' survivals, of any file by its judgement. Assumes nothing.
 use Prim.Native.Nat.{ℕ, _+_, _*_, _≤_, _<_}
 use mathlib.Core.Path.{_≡_, refl, sym, _∙_, ap}
-use mathlib.Core.Bool.{true}
 use mathlib.Core.List.{List, _++_}
 use native.Mathlib.Omega.{arith}
-use lib.Dec.{leb}
 use lib.ListN.{length, drop}
-use borrow.Author.Tests.{le-leb}
 use Rattle.hexadecimal.specs.Hex.{lineOf}
 use Rattle.digits.specs.Splice.{splice}
 use Rattle.records.specs.declared.Answer.{Answer}
@@ -20,7 +17,7 @@ use Rattle.casefile.proofs.Kept.{length-kept}
 use Rattle.printing.specs.Printed.{refusalFrame, figuresFrame, rowLines, printed, printedLength}
 use Rattle.printing.specs.Written.{countIn, writtenIn}
 use Rattle.printing.proofs.Whole.{length-printed, rows-then-figures}
-use Rattle.printing.proofs.Written.{written-in, not-written}
+use Rattle.printing.proofs.Written.{too-little, enough, in-front}
 use Rattle.rows.specs.Standing.{nowhere}
 use Rattle.rows.specs.Work.{linesFrom}
 use Rattle.listing.specs.Survivals.{survivalsFrom}
@@ -30,20 +27,6 @@ use Rattle.answers.specs.Report.{linesIn, report, survivalsIn}
 use Rattle.answers.proofs.Prints.{length-lines, report-refused, report-accepted}
 use Rattle.index.specs.Kept.{keptCase}
 use Rattle.index.proofs.Accepted.{known-case, few-rows}
-
--- a text of that length, written in front of a buffer or not at all
-module _ {A : Type 0} (text buffer : List A) {n : ℕ} (long : length text ≡ n) where
-  too-little : length buffer < n → (0 ≡ countIn text buffer) × (buffer ≡ writtenIn text buffer)
-  too-little l = not-written text buffer (omega (arith, long))
-
-  enough : n ≤ length buffer → {after : List A} → after ≡ splice 0 text buffer → (n ≡ countIn text buffer) × (after ≡ writtenIn text buffer)
-  enough l e = written-in text buffer (omega (arith, long)) (sym long) e
-
-  in-front : n ≤ length buffer → {after : List A} → after ≡ text ++ drop n buffer → (n ≡ countIn text buffer) × (after ≡ writtenIn text buffer)
-  unfolding countIn writtenIn
-  in-front l e =
-      let t : leb (length text) (length buffer) ≡ true = le-leb (length text) (length buffer) (omega (arith, long)) in
-      (rw t (sym long), rw (t, long) e)
 
 -- ---- a case as it is kept: the rows' lines are put first, then that of the figures in front
 

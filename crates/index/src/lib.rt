@@ -14,8 +14,8 @@ use records::Hull;
 use records::Trio;
 use rows::sheet::fill;
 
-pub mod rowwise; // the rows' survivals, for a host
 pub mod printed; // the printed answer
+pub mod rowwise; // the rows' survivals, for a host
 
 // A refusal's number and line, and zeros.
 fn refuse(number: u64, line: u64) -> Answer

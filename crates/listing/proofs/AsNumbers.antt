@@ -3,9 +3,11 @@ use Prim.Native.Nat.{ℕ, suc, _+_, _*_, _≤_, _<_}
 use mathlib.Core.Path.{_≡_, refl, _∙_, ap, subst}
 use mathlib.Core.List.{List, [], _∷_, _++_}
 use native.Mathlib.Omega.{arith}
-use lib.ListN.{length, getD, drop, length-append}
+use lib.ListN.{length, getD, set, drop, length-append}
 use lib.Seq.{sets}
 use Rattle.laws.proofs.Pieces.{Put, put-none, put-more, put-all, put-in-front}
+use Rattle.records.specs.declared.Finding.{Finding}
+use Rattle.records.specs.declared.RowHead.{RowHead}
 use Rattle.records.specs.declared.Survival.{Survival}
 use Rattle.printing.specs.Marks.{markByte}
 use Rattle.survival.specs.Survival.{noSurvival, survivalsOf}
@@ -25,6 +27,12 @@ pub length-survivals : (rs : List Row) → length (survivalsFrom rs) ≡ 9 * len
 unfolding survivalsFrom
 length-survivals [] = refl
 length-survivals (r ∷ rs) = rw length-append (omega (arith, length-survival (survivalsOf (r .head .kind) (r .results)), length-survivals rs))
+
+pub three-stores : (a b d at : ℕ) (xs : List ℕ) → set (set (set xs at a) (at + 1) b) (at + 2) d ≡ sets xs at (a ∷ b ∷ d ∷ [])
+three-stores a b d at xs =
+    let one : at + 1 ≡ suc at = omega arith in
+    let two : at + 2 ≡ suc (suc at) = omega arith in
+    rw (one, two) refl
 
 pub three-put : (s : Survival) (at : ℕ) (xs : List ℕ) {n : ℕ} {ys : List ℕ} → n ≡ markByte (s .marks) → ys ≡ sets xs at (s .bottom ∷ s .top ∷ n ∷ []) → ys ≡ sets xs at (threeNumbers s)
 unfolding threeNumbers
@@ -50,16 +58,16 @@ module _ (kept : List ℕ) (rows : ℕ) (first : List ℕ) where
   pub no-number : AsNumbers first 0
   no-number = rw (all-left kept rows) (put-none 9 0 first whole)
 
-  pub nine-more : (i : ℕ) {out next : List ℕ} {ss : List Survival} → AsNumbers out i → i < rows →
-      ss ≡ survivalsOf (keptRow kept i .head .kind) (keptRow kept i .results) → next ≡ sets out (9 * i) (survivalNumbers ss) → AsNumbers next (i + 1)
+  pub nine-more : (i : ℕ) {out next : List ℕ} {head : RowHead} {results : List Finding} {ss : List Survival} → AsNumbers out i → i < rows →
+      head ≡ keptRow kept i .head → results ≡ keptRow kept i .results → ss ≡ survivalsOf (head .kind) results → next ≡ sets out (9 * i) (survivalNumbers ss) → AsNumbers next (i + 1)
   unfolding survivalsFrom
-  nine-more i {out} p more found put =
+  nine-more i {out} p more e f q put =
       let row = keptRow kept i in
       let ss = survivalsOf (row .head .kind) (row .results) in
       let place : 0 + 9 * i ≡ 9 * i = omega arith in
       put-more 9 0 first whole (survivalNumbers ss)
       (subst (λ rs. Put 9 0 first whole out (survivalsFrom rs) i) (one-of-them kept rows i more) p)
-      (length-survival ss) (put ∙ rw (found, place) refl)
+      (length-survival ss) (put ∙ rw (q, e, f, place) refl)
 
   pub all-numbers : (i : ℕ) {out : List ℕ} → AsNumbers out i → rows ≤ i → 9 * rows ≤ length first → out ≡ whole ++ drop (9 * rows) first
   unfolding survivalsFrom

@@ -1,19 +1,16 @@
 -- Document 02, ticket 2: the marks of a survival result as a byte, and those of a row at its three draughts. Assumes nothing.
 use Prim.Native.Nat.{ℕ, _+_}
-use mathlib.Core.Bool.{false, cond}
+use mathlib.Core.Bool.{cond}
 use mathlib.Core.List.{List, _++_}
 use lib.ListN.{getD}
 use Rattle.laws.specs.Bytes.{bytes}
 use Rattle.records.specs.declared.Marks.{Marks}
 use Rattle.records.specs.declared.Survival.{Survival}
+use Rattle.survival.specs.Survival.{noSurvival}
 
 -- 1 for lever, 2 for range, 4 for heel, added up
 unfoldable pub markByte : Marks → ℕ
 markByte m = cond (m .lever) 1 0 + cond (m .range) 2 0 + cond (m .heel) 4 0
-
--- what a draught past the third has
-abbrev pub noSurvival : Survival
-noSurvival = record { bottom = 0; top = 0; marks = record { lever = false; range = false; heel = false } }
 
 -- the marks at draught j: 0 deepest, 1 partial, 2 light
 unfoldable pub marksAt : List Survival → ℕ → Marks

@@ -115,7 +115,7 @@ pub fn begin() -> Running
         range: false,
         heel: false,
     };
-    let noSurvival = Survival {
+    let none = Survival {
         bottom: 0,
         top: 0,
         marks,
@@ -127,7 +127,7 @@ pub fn begin() -> Running
     Running {
         standing,
         part,
-        survivals: [noSurvival, noSurvival, noSurvival],
+        survivals: [none, none, none],
         sums,
     }
 }

@@ -2,9 +2,6 @@
 use Prim.Native.Nat.{_-_}
 use borrow.Author.Needs.{needs}
 use native.Mathlib.Omega.{arith}
-use mathlib.Core.Path.{_∙_, ap₂}
-use Rattle.survival.specs.Survival.{survivalsOf}
-use Rattle.records.specs.declared.RowHead.{RowHead}
 use Rattle.listing.proofs.AsNumbers.{AsNumbers, no-number, nine-more, all-numbers}
 use Rattle.listing.proofs.list.Statement.{statement}
 use Rattle.listing.proofs.list.Tie as tie
@@ -58,7 +55,7 @@ loop-again c =
     let here = survivals .before .before .head-at .ensures in
     let found = survivals .before .results-at .ensures in
     nine-more (r .args .kept .now) (r .args .rows) (r .args .out .now) (l .loop .i) (l .loop .inv) (t .loop-test .taken)
-    (survivals .survivals .ensures ∙ ap₂ (λ (h : RowHead) fs. survivalsOf (h .kind) fs) here found) (put .put-survivals .ensures)
+    here found (survivals .survivals .ensures) (put .put-survivals .ensures)
 
 same-length : tie.Need-same-length Inv-loop μ-loop
 same-length c = c .before .loop .inv .long

@@ -1,11 +1,10 @@
 -- `listing::put_three` meets its contract. Assumes nothing.
-use Prim.Native.Nat.{ℕ, suc, _+_}
+use Prim.Native.Nat.{_+_}
 use native.Mathlib.Omega.{arith}
-use mathlib.Core.Path.{_≡_, refl}
-use mathlib.Core.List.{List, [], _∷_}
 use lib.ListN.{set}
-use lib.Seq.{sets, lt-length-set}
+use lib.Seq.{lt-length-set}
 use borrow.Author.Needs.{needs}
+use Rattle.listing.proofs.AsNumbers.{three-stores}
 use Rattle.listing.proofs.put_three.Statement.{statement}
 use Rattle.listing.proofs.put_three.Tie as tie
 
@@ -38,14 +37,8 @@ slice-write-out-3 c =
 same-length : tie.Need-same-length
 same-length c = search needs
 
-one-by-one : (a b d at : ℕ) (xs : List ℕ) → set (set (set xs at a) (at + 1) b) (at + 2) d ≡ sets xs at (a ∷ b ∷ d ∷ [])
-one-by-one a b d at xs =
-    let one : at + 1 ≡ suc at = omega arith in
-    let two : at + 2 ≡ suc (suc at) = omega arith in
-    rw (one, two) refl
-
 returns : tie.Need-returns
-returns c = one-by-one (c .args .first) (c .args .second) (c .args .third) (c .args .at) (c .args .out .now)
+returns c = three-stores (c .args .first) (c .args .second) (c .args .third) (c .args .at) (c .args .out .now)
 
 pub put-three-spec : {M : Type 1} → statement M
 put-three-spec =

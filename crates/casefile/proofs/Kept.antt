@@ -18,7 +18,7 @@ use Rattle.hexadecimal.proofs.Pairs.{proper-parts}
 use Rattle.hexadecimal.proofs.Decode.{bytes-pairs}
 use Rattle.casefile.specs.declared.Progress.{Progress}
 use Rattle.casefile.specs.Layout.{kindOf, isRow, frameLength, headOf, findingOf, resultsOf, rowOf}
-use Rattle.casefile.specs.Kept.{keptRow, keptRows}
+use Rattle.casefile.specs.Kept.{placeWidth, keptRow, keptRows}
 use Rattle.casefile.proofs.Checks.{LinePasses}
 use Rattle.casefile.proofs.Passing.{well-written, fits, of-row-kind}
 
@@ -30,14 +30,14 @@ length-kept (suc k) kept i = ap suc (length-kept k kept (i + 1))
 -- ---- two buffers with the same first n bytes keep the same rows there
 
 module _ (kept was : List ℕ) (n : ℕ) (same : take n kept ≡ take n was) where
-  same-row : (i : ℕ) → 25 * i + 25 ≤ n → keptRow kept i ≡ keptRow was i
+  same-row : (i : ℕ) → placeWidth * i + placeWidth ≤ n → keptRow kept i ≡ keptRow was i
   unfolding keptRow
-  same-row i l = ap rowOf (sym (front kept) ∙ ap (λ s. take 25 (drop (25 * i) s)) same ∙ front was)
+  same-row i l = ap rowOf (sym (front kept) ∙ ap (λ s. take placeWidth (drop (placeWidth * i) s)) same ∙ front was)
     where
-      front : (s : List ℕ) → take 25 (drop (25 * i) (take n s)) ≡ take 25 (drop (25 * i) s)
-      front s = part-of-part (25 * i) 25 0 n s l ∙ rw (zero-add (25 * i)) refl
+      front : (s : List ℕ) → take placeWidth (drop (placeWidth * i) (take n s)) ≡ take placeWidth (drop (placeWidth * i) s)
+      front s = part-of-part (placeWidth * i) placeWidth 0 n s l ∙ rw (zero-add (placeWidth * i)) refl
 
-  pub same-rows : (k i : ℕ) → 25 * (i + k) ≤ n → keptRows k kept i ≡ keptRows k was i
+  pub same-rows : (k i : ℕ) → placeWidth * (i + k) ≤ n → keptRows k kept i ≡ keptRows k was i
   unfolding keptRows
   same-rows zero i l = refl
   same-rows (suc k) i l = rw (same-row i (omega arith), same-rows k (i + 1) (omega arith)) refl
@@ -73,11 +73,11 @@ row-in-front bs rest k n = by (of-row-kind (kindOf bs) k)
     by (inl e) = rw (as-table 25 (rw e at n)) at (found-in-front (λ i. getD bs i 0) rest e)
     by (inr e) = rw (as-table 13 (rw e at n)) at (given-in-front (λ i. getD bs i 0) rest e)
 
-pub longest-frame : (k : ℕ) → frameLength k ≤ 25
+pub longest-frame : (k : ℕ) → frameLength k ≤ placeWidth
 unfolding frameLength
 longest-frame k = by (eqb k 2) (eqb k 3)
   where
-    by : (t u : Bool) → cond t 25 (cond u 13 3) ≤ 25
+    by : (t u : Bool) → cond t 25 (cond u 13 3) ≤ placeWidth
     by true u = omega arith
     by false true = omega arith
     by false false = omega arith
@@ -86,17 +86,17 @@ longest-frame k = by (eqb k 2) (eqb k 3)
 
 pub record Placed (kept was : List ℕ) (i : ℕ) (text : List ℕ) : Type 0 where
   pub long : length kept ≡ length was
-  pub before : take (25 * i) kept ≡ take (25 * i) was
-  pub here : take 25 (drop (25 * i) kept) ≡ sets (take 25 (drop (25 * i) was)) 0 (bytesOf text)
+  pub before : take (placeWidth * i) kept ≡ take (placeWidth * i) was
+  pub here : take placeWidth (drop (placeWidth * i) kept) ≡ sets (take placeWidth (drop (placeWidth * i) was)) 0 (bytesOf text)
 
-pub row-placed : (kept was : List ℕ) (i : ℕ) (p : Progress) (l : Line) → Placed kept was i (l .text) → 25 * i + 25 ≤ length was → LinePasses p l → isRow (kindOf (pairs (l .text))) ≡ true →
+pub row-placed : (kept was : List ℕ) (i : ℕ) (p : Progress) (l : Line) → Placed kept was i (l .text) → placeWidth * i + placeWidth ≤ length was → LinePasses p l → isRow (kindOf (pairs (l .text))) ≡ true →
     keptRow kept i ≡ rowOf (pairs (l .text))
 unfolding keptRow
 row-placed kept was i p l w room q k =
-    let place : List ℕ = take 25 (drop (25 * i) was) in
+    let place : List ℕ = take placeWidth (drop (placeWidth * i) was) in
     let bs : List ℕ = pairs (l .text) in
     let good : proper (l .text) ≡ true = well-written l (q .written) .0 in
     let n : length bs ≡ frameLength (kindOf bs) = fits l (q .written) (q .frame) .1 in
-    let wide : length place ≡ 25 = length-part (25 * i) 25 was room in
-    let e : take 25 (drop (25 * i) kept) ≡ bs ++ drop (0 + length bs) place = w .here ∙ ap (sets place 0) (bytes-pairs (l .text) (proper-parts (l .text) good .2)) ∙ sets-eq bs place 0 (omega (arith, wide, n, longest-frame (kindOf bs))) in
+    let wide : length place ≡ placeWidth = length-part (placeWidth * i) placeWidth was room in
+    let e : take placeWidth (drop (placeWidth * i) kept) ≡ bs ++ drop (0 + length bs) place = w .here ∙ ap (sets place 0) (bytes-pairs (l .text) (proper-parts (l .text) good .2)) ∙ sets-eq bs place 0 (omega (arith, wide, n, longest-frame (kindOf bs))) in
     ap rowOf e ∙ row-in-front bs (drop (0 + length bs) place) k n

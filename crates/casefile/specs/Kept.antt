@@ -1,4 +1,4 @@
--- The rows that a reading keeps: each row's frame in the front of 25 bytes of its own, one after the other. Assumes nothing.
+-- The rows that a reading keeps: each row's frame in the front of a place of its own, one after the other. Assumes nothing.
 use Prim.Native.Nat.{ℕ, zero, suc, _+_, _*_}
 use mathlib.Core.Path.{_≡_}
 use mathlib.Core.List.{List, [], _∷_}
@@ -7,9 +7,13 @@ use Rattle.casefile.specs.Record.{Row}
 use Rattle.casefile.specs.Layout.{rowOf}
 use Rattle.casefile.specs.Reading.{Reading, refused, accepted}
 
+-- the bytes of a place: as many as the longest row has
+abbrev pub placeWidth : ℕ
+placeWidth = 25
+
 -- the row at place i
 unfoldable pub keptRow : List ℕ → ℕ → Row
-keptRow kept i = rowOf (take 25 (drop (25 * i) kept))
+keptRow kept i = rowOf (take placeWidth (drop (placeWidth * i) kept))
 
 -- k rows, the first of which is at place i
 unfoldable pub keptRows : ℕ → List ℕ → ℕ → List Row

@@ -2,6 +2,11 @@
 use records::Hull;
 use records::RowHead;
 
+// A row is kept in a place of its own, as wide as the longest row; there is room for 500 rows and a line more.
+pub const PLACE_WIDTH: usize = 25;
+
+pub const KEPT: usize = 501 * PLACE_WIDTH;
+
 // What a line is: a hull, a row by its head, the end with its count, or a refusal's number. A hull's places and a row's results are arrays, and stand
 // beside it.
 pub enum Frame {

@@ -25,7 +25,7 @@ use Rattle.casefile.specs.Limits.{sizesFit}
 use Rattle.casefile.specs.Reading.{Reading, refused, accepted, reading}
 use Rattle.casefile.specs.Answer.{judgementOf}
 use Rattle.casefile.specs.Valid.{Valid}
-use Rattle.casefile.specs.Kept.{keptRows, Keeps}
+use Rattle.casefile.specs.Kept.{placeWidth, keptRows, Keeps}
 use Rattle.casefile.proofs.Limits.{Sizes, sizes-are}
 use Rattle.casefile.proofs.Refusal.{zero-accepts}
 use Rattle.casefile.proofs.Soundness.{sound}
@@ -63,8 +63,8 @@ module _ (kept : List ℕ) (h : Hull) (rows : ℕ) (valid : Valid (keptCase kept
   not-long = omega (arith, sizes .short)
 
   -- what is asked before its rows are worked through, whatever room they need
-  pub rows-asked : {Room : Type 0} {t : List ℕ} → t ≡ tableOf h → 25 * rows ≤ length kept → Room →
-      Ready h t × ((h .deepest < 2 ^ 32) × (h .light < 2 ^ 32)) × (rows ≤ 500) × (25 * rows ≤ length kept) × Room × Follow h nowhere (keptRows rows kept 0)
+  pub rows-asked : {Room : Type 0} {t : List ℕ} → t ≡ tableOf h → placeWidth * rows ≤ length kept → Room →
+      Ready h t × ((h .deepest < 2 ^ 32) × (h .light < 2 ^ 32)) × (rows ≤ 500) × (placeWidth * rows ≤ length kept) × Room × Follow h nowhere (keptRows rows kept 0)
   rows-asked t k l =
       let few : rows ≤ 500 = omega (arith, valid .few, length-kept rows kept 0) in
       (ready hull-is t, (omega (arith, sizes .shallow), omega (arith, sizes .shallow, sizes .lighter)), few, k, l, rows-follow (keptCase kept h rows) valid)

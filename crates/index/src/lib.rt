@@ -4,10 +4,12 @@ ghost use mathlib.Core.List.{_++_};
 ghost use Prim.Native.Nat.{_*_, _^_, _≤_};
 ghost use lib.ListN.{length, drop};
 ghost use Rattle.indices.specs.Index.{Within};
+ghost use Rattle.casefile.specs.Kept.{placeWidth};
 ghost use Rattle.casefile.specs.Reading.{reading};
 ghost use Rattle.casefile.specs.Valid.{Valid};
 ghost use Rattle.answers.specs.Answer.{figures, answer, shares, refusal, answered, sheetAfter};
 ghost use Rattle.index.specs.Kept.{keptCase};
+use casefile::KEPT;
 use records::Answer;
 use records::Ends;
 use records::Hull;
@@ -57,7 +59,7 @@ fn conclude(size: u64, rows: u64, partials: Trio) -> Answer
 
 // A valid case, by its hull and its rows as they are kept, with room for its shares.
 fn complete(kept: &[u8], h: Hull, rows: u64, sheet: &mut [u64]) -> Answer
-    requires { ⌜ Valid (keptCase (now kept) h rows) × (25 * rows ≤ length (now kept)) × (2 * rows ≤ length (now sheet)) ⌝ }
+    requires { ⌜ Valid (keptCase (now kept) h rows) × (placeWidth * rows ≤ length (now kept)) × (2 * rows ≤ length (now sheet)) ⌝ }
     ensures { λ r. ⌜ (r ≡ answer (keptCase (now (kept .entry)) h rows)) × (now (sheet .exit) ≡ shares (keptCase (now (kept .entry)) h rows) ++ drop (2 * rows) (now (sheet .entry))) ⌝ }
 {
     let t = spans::span_table(h);
@@ -66,11 +68,11 @@ fn complete(kept: &[u8], h: Hull, rows: u64, sheet: &mut [u64]) -> Answer
 }
 
 // Any bytes whatever: a refusal, which leaves the sheet as it is, or the answer, with each row's share on the sheet. There is room to
-// keep 500 rows, and a line more, in 25 bytes each.
+// keep 500 rows, and a line more.
 pub fn answer(input: &[u8], sheet: &mut [u64]) -> Answer
     ensures { λ r. ⌜ (r ≡ answered (reading (now (input .entry))) (length (now (sheet .entry)))) × (now (sheet .exit) ≡ sheetAfter (reading (now (input .entry))) (now (sheet .entry))) ⌝ }
 {
-    let mut kept = [0u8; 12_525];
+    let mut kept = [0u8; KEPT];
     let judged = reader::judge(input, &mut kept);
     if judged.number != 0 {
         return refuse(judged.number, judged.line);

@@ -22,6 +22,7 @@ use Rattle.casefile.specs.Record.{Row}
 use Rattle.casefile.specs.Layout.{kindOf, isRow, frameLength, headOf, resultsOf, rowOf, countOf}
 use Rattle.casefile.specs.Limits.{rowFits}
 use Rattle.casefile.specs.Order.{outOfOrder, leavesOpen, endsOpen}
+use Rattle.casefile.specs.Kept.{placeWidth}
 use Rattle.casefile.specs.Table.{_when_, firstHolds, wrongFrame, rowChecks, endChecks, lineChecks}
 use Rattle.casefile.specs.Answer.{unlessWrong, frameOf, judged}
 use Rattle.casefile.specs.Judging.{rowJudged, endJudged, frameJudged}
@@ -146,7 +147,7 @@ module _ (h : Hull) (p : Progress) (text : List ℕ) (going : p .ended ≡ false
     unfolding badlyWritten
     well = rw (well-written text n w .0) refl
 
-    pub line-too-long : 25 < n → Frame.Wrong 3 ≡ judged h p (record { text = text; closed = true })
+    pub line-too-long : placeWidth < n → Frame.Wrong 3 ≡ judged h p (record { text = text; closed = true })
     line-too-long l =
         frame-wrong h p (pairs text) (frame-too-long (pairs text) (omega (arith, well-written text n w .1)))
         ∙ line-by-frame h p (record { text = text; closed = true }) going well

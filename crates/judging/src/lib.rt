@@ -6,7 +6,9 @@ ghost use lib.Seq.{sets};
 ghost use Rattle.hexadecimal.specs.Hex.{bytesOf};
 ghost use Rattle.casefile.specs.Answer.{judged};
 ghost use Rattle.casefile.specs.Judging.{frameJudged};
+ghost use Rattle.casefile.specs.Kept.{placeWidth};
 use casefile::Frame;
+use casefile::PLACE_WIDTH;
 use casefile::Progress;
 use frames::Written;
 use records::Hull;
@@ -33,7 +35,7 @@ fn judge_frame(frame: &[u8], h: Hull, p: Progress) -> Frame
 
 // A line after the hull h and what the lines before it left. What it writes goes to the front of the place that is lent, as many bytes as go in.
 pub fn judge_line(text: &[u8], closed: bool, h: Hull, p: Progress, place: &mut [u8]) -> Frame
-    requires { ⌜ 25 ≤ length (now place) ⌝ }
+    requires { ⌜ placeWidth ≤ length (now place) ⌝ }
     ensures frame { λ r. ⌜ r ≡ judged h p (record { text = now (text .entry); closed = closed }) ⌝ }
     ensures kept { λ r. ⌜ now (place .exit) ≡ sets (now (place .entry)) 0 (bytesOf (now (text .entry))) ⌝ }
 {
@@ -47,7 +49,7 @@ pub fn judge_line(text: &[u8], closed: bool, h: Hull, p: Progress, place: &mut [
     let Written::Bytes(n) = written else {
         return Frame::Wrong(2);
     };
-    if 25 < n {
+    if PLACE_WIDTH < n {
         return Frame::Wrong(3);
     }
     judge_frame(&place[..n], h, p)

@@ -1,6 +1,7 @@
 // Single figures of the other crates, for a host in C that tests and times them: a survival and its marks, a height, how an input is judged, rows'
 // shares.
 use casefile::Judgement;
+use casefile::KEPT;
 use records::Finding;
 ghost use mathlib.Core.Path.{_≡_};
 ghost use Rattle.solas.specs.Height.{rowV};
@@ -66,7 +67,7 @@ pub extern "C" fn probe_height(below: u64, height: u64, draught: u64) -> u64
 fn judged(input: &[u8]) -> Judgement
     ensures { λ r. ⌜ r ≡ judgementOf (reading (now (input .entry))) ⌝ }
 {
-    let mut kept = [0u8; 12_525];
+    let mut kept = [0u8; KEPT];
     reader::judge(input, &mut kept)
 }
 

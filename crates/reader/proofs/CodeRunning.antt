@@ -25,7 +25,7 @@ use Rattle.casefile.specs.declared.Judgement.{Judgement}
 use Rattle.casefile.specs.declared.Step.{Step}
 use Rattle.casefile.specs.Record.{Row}
 use Rattle.casefile.specs.Layout.{rowOf}
-use Rattle.casefile.specs.Kept.{keptRow, keptRows, Keeps}
+use Rattle.casefile.specs.Kept.{placeWidth, keptRow, keptRows, Keeps}
 use Rattle.casefile.specs.Limits.{longestInput, mostRows}
 use Rattle.casefile.specs.Table.{firstHolds, hullChecks}
 use Rattle.casefile.specs.Reading.{Reading, refused, begin, inside, start, withEnd, readFrom, reading}
@@ -42,7 +42,7 @@ Said r h s kept = (judgementAt h s ≡ judgementOf r) × Keeps r kept
 
 -- ---- one line
 
-module _ (h : Hull) (p : Progress) (l : Line) (n : ℕ) (ls : List Line) (few : p .rows ≤ mostRows) (kept was : List ℕ) (room : 25 * mostRows + 25 ≤ length was)
+module _ (h : Hull) (p : Progress) (l : Line) (n : ℕ) (ls : List Line) (few : p .rows ≤ mostRows) (kept was : List ℕ) (room : placeWidth * mostRows + placeWidth ≤ length was)
     (w : Placed kept was (p .rows) (l .text)) where
   -- what is said of the line and those after it is the refusal, or what is said of those after it in the next state
   abbrev Taken : Step → Type 0
@@ -52,7 +52,7 @@ module _ (h : Hull) (p : Progress) (l : Line) (n : ℕ) (ls : List Line) (few : 
 
   -- the rows before are kept as they were
   stay : keptRows (p .rows) was 0 ≡ keptRows (p .rows) kept 0
-  stay = sym (same-rows kept was (25 * p .rows) (w .before) (p .rows) 0 (omega arith))
+  stay = sym (same-rows kept was (placeWidth * p .rows) (w .before) (p .rows) 0 (omega arith))
 
   by-frame : (f : Frame) → judged h p l ≡ f → Taken (stepped f p n)
   by-frame Frame.Hull e = absurd (judged-no-hull h p l e)
@@ -76,22 +76,22 @@ module _ (h : Hull) (p : Progress) (l : Line) (n : ℕ) (ls : List Line) (few : 
 pub record Running (input : List ℕ) (h : Hull) (from m size : ℕ) (kept : List ℕ) (p : Progress) (at n : ℕ) : Type 0 where
   pub few : p .rows ≤ mostRows
   pub long : length kept ≡ size
-  pub room : 25 * mostRows + 25 ≤ size
+  pub room : placeWidth * mostRows + placeWidth ≤ size
   pub lines-passed : n ≤ m + at
   pub same : readFrom (inside h start) m (lines (drop from input)) ≡ after (keptRows (p .rows) kept 0) (readFrom (inside h p) n (lines (drop at input)))
 
-pub none-run : (input : List ℕ) (h : Hull) (from m : ℕ) (kept : List ℕ) (p : Progress) → 25 * mostRows + 25 ≤ length kept → p ≡ start → Running input h from m (length kept) kept p from m
+pub none-run : (input : List ℕ) (h : Hull) (from m : ℕ) (kept : List ℕ) (p : Progress) → placeWidth * mostRows + placeWidth ≤ length kept → p ≡ start → Running input h from m (length kept) kept p from m
 unfolding keptRows
 none-run input h from m kept p r e = rw e (record { few = omega arith; long = refl; room = r; lines-passed = omega arith; same = after-none (readFrom (inside h start) m (lines (drop from input))) })
 
 module _ (input : List ℕ) (h : Hull) (from m size : ℕ) (was : List ℕ) (p : Progress) (at n : ℕ) (i : Running input h from m size was p at n) where
-  wide : 25 * mostRows + 25 ≤ length was
+  wide : placeWidth * mostRows + placeWidth ≤ length was
   wide = omega (arith, i .long, i .room)
 
   -- a line's bytes written to the place after the rows that are kept
-  pub place-written : (text part : List ℕ) → part ≡ sets (midOf (p .rows * 25) (p .rows * 25 + 25 - p .rows * 25) was) 0 (bytesOf text) →
-      Placed (putMid (p .rows * 25) (p .rows * 25 + 25 - p .rows * 25) was part) was (p .rows) text
-  place-written text part w = placed was (p .rows) text part (p .rows * 25) (p .rows * 25 + 25 - p .rows * 25) (omega arith) (omega arith) (omega (arith, i .few, wide)) w
+  pub place-written : (text part : List ℕ) → part ≡ sets (midOf (p .rows * placeWidth) (p .rows * placeWidth + placeWidth - p .rows * placeWidth) was) 0 (bytesOf text) →
+      Placed (putMid (p .rows * placeWidth) (p .rows * placeWidth + placeWidth - p .rows * placeWidth) was part) was (p .rows) text
+  place-written text part w = placed was (p .rows) text part (p .rows * placeWidth) (p .rows * placeWidth + placeWidth - p .rows * placeWidth) (omega arith) (omega arith) (omega (arith, i .few, wide)) w
 
   module _ (end : ℕ) (e : end ≡ at + lineLength (drop at input)) (b : at < length input) where
     abbrev line : Line

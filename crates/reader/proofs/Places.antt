@@ -8,14 +8,15 @@ use lib.Seq.{sets, length-sets, length-take-le, take-at, drop-at}
 use borrow.Rule.Slice.PartMut.{midOf, postOf, putMid, same-len-mid, take-put}
 use Rattle.laws.proofs.Lists.{length-part}
 use Rattle.hexadecimal.specs.Hex.{bytesOf}
+use Rattle.casefile.specs.Kept.{placeWidth}
 use Rattle.casefile.proofs.Kept.{Placed}
 
-module _ (was : List ℕ) (i : ℕ) (text part : List ℕ) (a n : ℕ) (e : a ≡ 25 * i) (k : n ≡ 25) (room : 25 * i + 25 ≤ length was) (w : part ≡ sets (midOf a n was) 0 (bytesOf text)) where
+module _ (was : List ℕ) (i : ℕ) (text part : List ℕ) (a n : ℕ) (e : a ≡ placeWidth * i) (k : n ≡ placeWidth) (room : placeWidth * i + placeWidth ≤ length was) (w : part ≡ sets (midOf a n was) 0 (bytesOf text)) where
   as-long : length part ≡ length (midOf a n was)
   as-long = ap length w ∙ length-sets (midOf a n was) 0 (bytesOf text)
 
-  wide : length part ≡ 25
-  wide = as-long ∙ rw (e, k) (length-part (25 * i) 25 was room)
+  wide : length part ≡ placeWidth
+  wide = as-long ∙ rw (e, k) (length-part (placeWidth * i) placeWidth was room)
 
   pub placed : Placed (putMid a n was part) was i text
   placed =
@@ -24,5 +25,5 @@ module _ (was : List ℕ) (i : ℕ) (text part : List ℕ) (a n : ℕ) (e : a �
         before = rw (← e) (take-put a n was part (omega arith));
         here =
             let front : length (take a was) ≡ a = length-take-le a was (omega arith) in
-            rw (← e, drop-at (take a was) _ a front, take-at part (postOf a n was) 25 wide) (w ∙ rw k refl);
+            rw (← e, drop-at (take a was) _ a front, take-at part (postOf a n was) placeWidth wide) (w ∙ rw k refl);
       }

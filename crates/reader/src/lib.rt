@@ -7,9 +7,10 @@ ghost use Rattle.casefile.specs.Limits.{mostRows};
 ghost use Rattle.casefile.specs.Reading.{refused, inside, start, readFrom, reading};
 ghost use Rattle.casefile.specs.Answer.{numberOf, judgementOf};
 ghost use Rattle.casefile.specs.Judging.{stepped, judgementAt};
-ghost use Rattle.casefile.specs.Kept.{Keeps};
+ghost use Rattle.casefile.specs.Kept.{placeWidth, Keeps};
 use casefile::Frame;
 use casefile::Judgement;
+use casefile::PLACE_WIDTH;
 use casefile::Progress;
 use casefile::Step;
 use records::Hull;
@@ -83,7 +84,7 @@ fn at_start() -> Progress
 
 // The lines from a place on, the first of which has the number that is given: the last step, or the first refusal. Each row is kept.
 fn run(input: &[u8], h: Hull, from: usize, first: u64, kept: &mut [u8]) -> Step
-    requires { ⌜ (first ≤ 4294967296) × (25 * mostRows + 25 ≤ length (now kept)) ⌝ }
+    requires { ⌜ (first ≤ 4294967296) × (placeWidth * mostRows + placeWidth ≤ length (now kept)) ⌝ }
     ensures step { λ r. ⌜ judgementAt h r ≡ judgementOf (readFrom (inside h start) first (lines (drop from (now (input .entry))))) ⌝ }
     ensures rows { λ r. ⌜ Keeps (readFrom (inside h start) first (lines (drop from (now (input .entry))))) (now (kept .exit)) ⌝ }
 {
@@ -93,8 +94,8 @@ fn run(input: &[u8], h: Hull, from: usize, first: u64, kept: &mut [u8]) -> Step
     while at < input.len() {
         let end = lines::line_end(input, at);
         let closed = end < input.len();
-        let place = p.rows as usize * 25;
-        let after = place + 25;
+        let place = p.rows as usize * PLACE_WIDTH;
+        let after = place + PLACE_WIDTH;
         let frame = judging::judge_line(&input[at..end], closed, h, p, &mut kept[place..after]);
         let stepped = step(frame, p, line);
         let Step::Next(next) = stepped else {
@@ -112,7 +113,7 @@ fn run(input: &[u8], h: Hull, from: usize, first: u64, kept: &mut [u8]) -> Step
 
 // The rows and the end of a file whose hull is known, from a place on.
 pub fn judge_rows(input: &[u8], h: Hull, from: usize, first: u64, kept: &mut [u8]) -> Judgement
-    requires { ⌜ (first ≤ 4294967296) × (25 * mostRows + 25 ≤ length (now kept)) ⌝ }
+    requires { ⌜ (first ≤ 4294967296) × (placeWidth * mostRows + placeWidth ≤ length (now kept)) ⌝ }
     ensures judgement { λ r. ⌜ r ≡ judgementOf (readFrom (inside h start) first (lines (drop from (now (input .entry))))) ⌝ }
     ensures rows { λ r. ⌜ Keeps (readFrom (inside h start) first (lines (drop from (now (input .entry))))) (now (kept .exit)) ⌝ }
 {
@@ -129,7 +130,7 @@ pub fn judge_rows(input: &[u8], h: Hull, from: usize, first: u64, kept: &mut [u8
 
 // Any bytes whatever: a refusal's number and line, or the row count and the hull, with the rows kept in the buffer that is lent.
 pub fn judge(input: &[u8], kept: &mut [u8]) -> Judgement
-    requires { ⌜ 25 * mostRows + 25 ≤ length (now kept) ⌝ }
+    requires { ⌜ placeWidth * mostRows + placeWidth ≤ length (now kept) ⌝ }
     ensures judgement { λ r. ⌜ r ≡ judgementOf (reading (now (input .entry))) ⌝ }
     ensures rows { λ r. ⌜ Keeps (reading (now (input .entry))) (now (kept .exit)) ⌝ }
 {

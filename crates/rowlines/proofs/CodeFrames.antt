@@ -10,6 +10,7 @@ use borrow.Author.Tests.{eq-eqb, ne-eqb, eqb-false}
 use Rattle.laws.proofs.Lists.{rest-of}
 use Rattle.casefile.specs.Layout.{kindOf, isRow, isEnd, frameLength, setLength}
 use Rattle.casefile.specs.Table.{wrongFrame}
+use Rattle.casefile.specs.Kept.{placeWidth}
 use Rattle.casefile.proofs.Kept.{longest-frame}
 
 pub row-kind : (k : ℕ) → 2 ≤ k → k ≤ 3 → isRow k ≡ true
@@ -55,5 +56,5 @@ module _ (bs : List ℕ) (k : ℕ) (e : k ≡ kindOf bs) where
             let three : eqb k 3 ≡ true = eq-eqb k 3 (omega arith) in
             omega (arith, rw three at m)
 
-pub frame-too-long : (bs : List ℕ) → 25 < length bs → wrongFrame bs ≡ true
+pub frame-too-long : (bs : List ℕ) → placeWidth < length bs → wrongFrame bs ≡ true
 frame-too-long bs l = wrong-length bs (kindOf bs) refl (λ f. omega (arith, longest-frame (kindOf bs)))

@@ -4,7 +4,7 @@ ghost use mathlib.Core.List.{_++_};
 ghost use Prim.Native.Nat.{_*_, _^_, _≤_, _<_};
 ghost use lib.ListN.{length, drop};
 ghost use Rattle.indices.specs.Index.{partials, Within};
-ghost use Rattle.casefile.specs.Kept.{keptRows};
+ghost use Rattle.casefile.specs.Kept.{placeWidth, keptRows};
 ghost use Rattle.rows.specs.Standing.{nowhere};
 ghost use Rattle.rows.specs.Work.{sharesFrom, addsFrom, numbers};
 ghost use Rattle.rows.specs.Running.{Follow, Ready};
@@ -15,7 +15,7 @@ use records::Trio;
 
 // So many rows, as they are kept: two numbers a row on the sheet.
 pub fn fill(kept: &[u8], rows: usize, h: Hull, t: &[u64], sheet: &mut [u64]) -> Trio
-    requires { ⌜ Ready h (now t) × ((h .deepest < 2 ^ 32) × (h .light < 2 ^ 32)) × (rows ≤ 500) × (25 * rows ≤ length (now kept)) × (2 * rows ≤ length (now sheet)) × Follow h nowhere (keptRows rows (now kept) 0) ⌝ }
+    requires { ⌜ Ready h (now t) × ((h .deepest < 2 ^ 32) × (h .light < 2 ^ 32)) × (rows ≤ 500) × (placeWidth * rows ≤ length (now kept)) × (2 * rows ≤ length (now sheet)) × Follow h nowhere (keptRows rows (now kept) 0) ⌝ }
     ensures { λ r. ⌜ (r ≡ partials (addsFrom h nowhere (keptRows rows (now (kept .entry)) 0))) × Within (500 * 10 ^ 9) r × (now (sheet .exit) ≡ numbers (sharesFrom h nowhere (keptRows rows (now (kept .entry)) 0)) ++ drop (2 * rows) (now (sheet .entry))) ⌝ }
 {
     let at = heights::three_draughts(h.deepest, h.light);

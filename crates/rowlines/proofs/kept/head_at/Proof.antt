@@ -1,6 +1,7 @@
 -- `head_at` meets its contract. Assumes nothing.
 use Prim.Native.Nat.{_*_}
 use denote.Ref.{now}
+use Rattle.casefile.specs.Kept.{placeWidth}
 use Rattle.rowlines.proofs.CodeKept.{head-kept}
 use borrow.Author.Needs.{needs}
 use native.Mathlib.Omega.{arith}
@@ -20,7 +21,7 @@ shared-slice-read-kind : tie.Need-shared-slice-read-kind
 shared-slice-read-kind c = search needs
 
 cast-kind : tie.Need-cast-kind
-cast-kind c = omega (arith, c .shared-slice-known2 .given (25 * c .before .before .args .i))
+cast-kind c = omega (arith, c .shared-slice-known2 .given (placeWidth * c .before .before .args .i))
 
 sub-head : tie.Need-sub-head
 sub-head c = search needs

@@ -2,6 +2,7 @@
 use Prim.Native.Nat.{_*_}
 use denote.Ref.{now}
 use Rattle.fields.specs.Fields.{byteAt}
+use Rattle.casefile.specs.Kept.{placeWidth}
 use Rattle.rowlines.proofs.CodeKept.{longest-fields, results-kept}
 use borrow.Author.Needs.{needs}
 use native.Mathlib.Omega.{arith}
@@ -21,7 +22,7 @@ shared-slice-read-kind : tie.Need-shared-slice-read-kind
 shared-slice-read-kind c = search needs
 
 cast-kind : tie.Need-cast-kind
-cast-kind c = omega (arith, c .shared-slice-known2 .given (25 * c .before .before .args .i))
+cast-kind c = omega (arith, c .shared-slice-known2 .given (placeWidth * c .before .before .args .i))
 
 sub-results : tie.Need-sub-results
 sub-results c = search needs
@@ -33,7 +34,7 @@ part-results-end : tie.Need-part-results-end
 part-results-end c = search needs
 
 results-requires : tie.Need-results-requires
-results-requires c κs = omega (arith, longest-fields (byteAt (now (c .before .before .before .args .kept)) (25 * c .before .before .before .args .i)))
+results-requires c κs = omega (arith, longest-fields (byteAt (now (c .before .before .before .args .kept)) (placeWidth * c .before .before .before .args .i)))
 
 returns : tie.Need-returns
 returns c = results-kept (now (c .before .before .before .before .args .kept)) (c .before .before .before .before .args .i) _ (c .results .ensures)

@@ -1,8 +1,21 @@
--- A field worked out, at which a low byte first is refused. Assumes nothing.
+-- Fields worked out, at which a low byte first is refused, and a sign that is dropped or changes elsewhere. Assumes nothing.
 use mathlib.Core.Path.{_≡_, refl}
 use mathlib.Core.List.{[], _∷_}
-use Rattle.fields.specs.Fields.{wordAt}
+use lib.IntN.{pos, negsuc}
+use Rattle.fields.specs.Fields.{wordAt, signed, unsigned, signedAt}
 
 pub count-high-first : wordAt (15 ∷ 1 ∷ 3 ∷ []) 1 ≡ 259
 unfolding wordAt
 count-high-first = refl
+
+-- 65,535 is -1, 32,768 the least and 32,767 the greatest; and back
+pub either-sign :
+    (signedAt (255 ∷ 255 ∷ []) 0 ≡ negsuc 0)
+    × (signedAt (0 ∷ 0 ∷ []) 0 ≡ pos 0)
+    × (signedAt (128 ∷ 0 ∷ []) 0 ≡ negsuc 32767)
+    × (signedAt (127 ∷ 255 ∷ []) 0 ≡ pos 32767)
+    × (signedAt (138 ∷ 208 ∷ []) 0 ≡ negsuc 29999)
+    × (unsigned (negsuc 29999) ≡ 35536)
+    × (unsigned (pos 30000) ≡ 30000)
+unfolding wordAt signed unsigned
+either-sign = (refl, refl, refl, refl, refl, refl, refl)

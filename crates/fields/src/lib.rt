@@ -1,8 +1,8 @@
-// Fields of a frame: numbers of one and of two bytes, the high byte first, at a place of a part of its bytes.
+// Fields of a frame: numbers of one and of two bytes, the high byte first, and of two bytes with a sign, at a place of a part of its bytes.
 ghost use mathlib.Core.Path.{_≡_};
 ghost use Prim.Native.Nat.{_+_, _≤_, _<_};
 ghost use lib.ListN.{length};
-ghost use Rattle.fields.specs.Fields.{byteAt, wordAt};
+ghost use Rattle.fields.specs.Fields.{byteAt, wordAt, signed, signedAt};
 
 // A byte of a part of a line, 0 past its end.
 pub fn byte_at(f: &[u8], at: usize) -> u64
@@ -42,4 +42,23 @@ pub fn word_in(f: &[u8], at: usize) -> u64
     ensures small { λ r. ⌜ r < 65536 ⌝ }
 {
     f[at] as u64 * 256 + f[at + 1] as u64
+}
+
+// The number with a sign that two bytes have in two's complement.
+fn with_sign(n: u64) -> i64
+    requires { ⌜ n < 65536 ⌝ }
+    ensures { λ r. ⌜ r ≡ signed n ⌝ }
+{
+    if n < 32768 {
+        return n as i64;
+    }
+    n as i64 - 65536
+}
+
+// Two bytes of a part of a line that has both, the high one first, in two's complement.
+pub fn signed_in(f: &[u8], at: usize) -> i64
+    requires { ⌜ at + 2 ≤ length (now f) ⌝ }
+    ensures { λ r. ⌜ r ≡ signedAt (now (f .entry)) at ⌝ }
+{
+    with_sign(word_in(f, at))
 }

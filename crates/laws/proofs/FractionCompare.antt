@@ -1,4 +1,5 @@
--- Fractions compared across any two denominators; multiples, squares, products that keep the order, tests of equal fractions. Assumes nothing.
+-- Fractions compared across any two denominators; multiples, squares, products that keep the order, tests of equal fractions, what a difference tells.
+-- Assumes nothing.
 use Prim.Native.Nat.{ℕ, _+_, _-_, _*_, _^_, _≤_, _<_}
 use mathlib.Core.List.{[]}
 use mathlib.Core.Path.{_≡_, refl, sym, _∙_}
@@ -6,9 +7,9 @@ use mathlib.Core.Bool.{Bool, true, false, cond}
 use native.Mathlib.Nat.{mul-pos, mul-comm, mul-le-mul-right, mul-lt-mul-of-pos-right, lt-of-mul-lt-mul-right}
 use native.Mathlib.Omega.{arith}
 use lib.Dec.{lit<}
-use Rattle.laws.specs.Fraction.{Fraction, den, _less_over_, _over_, whole, Is, _≈_, _≼_, _≺_, _≼?_, _⊛_}
+use Rattle.laws.specs.Fraction.{Fraction, den, _less_over_, _over_, whole, Is, _≈_, _≼_, _≺_, _≼?_, _⊝_, _⊛_}
 use Rattle.laws.proofs.Choice.{split}
-use Rattle.laws.proofs.Fraction.{positive, is-over, is-whole, is-nothing, is-self, is-shifted, is-⊛, is-widened, is-written, same, numerators-below, numerators-strictly-below, ≈-refl, ≈-sym, ⊛-≈, ≼-of-≈, ≼-trans, below-across}
+use Rattle.laws.proofs.Fraction.{positive, is-over, is-whole, is-nothing, is-self, is-shifted, is-⊝, is-⊛, is-widened, is-written, over-left, over-right, same, below, strictly-below, numerators-below, numerators-strictly-below, ≈-refl, ≈-sym, ⊛-≈, ≼-of-≈, ≼-trans, below-across}
 use Rattle.laws.proofs.FractionRing.{⊛-comm}
 use Rattle.laws.proofs.FractionOrder.{test-passes, test-fails}
 use Rattle.laws.proofs.Polynomial.{_:*_, _:^_, _:=_, _⊢_, poly1}
@@ -91,3 +92,17 @@ test-same {f} {f′} {g} {g′} p q =
 pub cond-≈ : (t : Bool) {f f′ g g′ : Fraction} → f ≈ f′ → g ≈ g′ → cond t f g ≈ cond t f′ g′
 cond-≈ true p q = p
 cond-≈ false p q = q
+
+-- ---- what a difference tells of the two
+is-difference : (f g : Fraction) → Is (f ⊝ g) (den g * f .up + g .down * den f) (den g * f .down + g .up * den f) (den g * den f)
+is-difference f g = is-⊝ (over-left f g) (over-right f g)
+
+pub difference-not-below : (f g : Fraction) {h : Fraction} → f ⊝ g ≈ h → whole 0 ≼ h → g ≼ f
+difference-not-below f g e l =
+    let d = mul-pos (positive g) (positive f) in
+    below d (over-right f g) (over-left f g) (omega (arith, numerators-below (≼-trans l (≼-of-≈ (≈-sym e))) (is-nothing d) (is-difference f g)))
+
+pub difference-below : (f g : Fraction) {h : Fraction} → f ⊝ g ≈ h → h ≺ whole 0 → f ≺ g
+difference-below f g e l =
+    let d = mul-pos (positive g) (positive f) in
+    strictly-below (over-left f g) (over-right f g) (omega (arith, numerators-strictly-below d (below-then-strictly (≼-of-≈ e) l) (is-difference f g) (is-nothing d)))

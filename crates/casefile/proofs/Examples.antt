@@ -3,15 +3,16 @@ use Prim.Native.Nat.{ℕ}
 use mathlib.Core.Path.{_≡_, refl}
 use mathlib.Core.Bool.{false}
 use mathlib.Core.List.{List, [], _∷_, _++_, replicate}
+use lib.IntN.{pos, negsuc}
 use Rattle.laws.specs.Lists.{tabulate}
 use Rattle.laws.specs.Bytes.{bytes}
 use Rattle.records.specs.declared.Hull.{Hull}
 use Rattle.lines.specs.Lines.{lines}
 use Rattle.hexadecimal.specs.Hex.{digitOf, pairOf, pairs, digitsOnly, proper, badlyWritten, digit, hex, lineOf}
-use Rattle.fields.specs.Fields.{wordAt}
+use Rattle.fields.specs.Fields.{wordAt, signed, unsigned}
 use Rattle.casefile.specs.Record.{Row, Case}
 use Rattle.casefile.specs.Layout.{frameLength, placeOf, hullOf, headOf, findingOf, resultsOf, hullBytes, findingBytes, rowBytes, endBytes}
-use Rattle.casefile.specs.Limits.{between, sizesFit, risingTo, zonesFit, headFits, findingFits, findingsFit, rowFits}
+use Rattle.casefile.specs.Limits.{between, sizesFit, risingTo, zonesFit, headFits, openingFits, findingFits, findingsFit, rowFits}
 use Rattle.casefile.specs.Order.{atTop, closesGroup, sameGroup, sameLayer, earlierGroup, outOfOrder, leavesOpen, endsOpen}
 use Rattle.casefile.specs.Table.{firstHolds, wrongHullFrame, wrongFrame, wrongZones, hullChecks, rowChecks, endChecks, lineChecks}
 use Rattle.casefile.specs.Kept.{keptRow, keptRows}
@@ -26,9 +27,9 @@ use Rattle.casefile.proofs.LimitExamples.{found, survival, row}
 abbrev hullLine : List ℕ
 hullLine = 48 ∷ 49 ∷ 50 ∷ 54 ∷ 97 ∷ 99 ∷ 48 ∷ 54 ∷ 52 ∷ 48 ∷ 49 ∷ 55 ∷ 55 ∷ 48 ∷ 48 ∷ 102 ∷ 97 ∷ 48 ∷ 48 ∷ 50 ∷ 48 ∷ 53 ∷ 100 ∷ 99 ∷ 10 ∷ []
 
--- 02010103204844001e01900000001e01900000001e01900000
+-- 02010103204844001e019000000000001e019000000000001e019000000000
 abbrev firstRow : List ℕ
-firstRow = 48 ∷ 50 ∷ 48 ∷ 49 ∷ 48 ∷ 49 ∷ 48 ∷ 51 ∷ 50 ∷ 48 ∷ 52 ∷ 56 ∷ 52 ∷ 52 ∷ 48 ∷ 48 ∷ 49 ∷ 101 ∷ 48 ∷ 49 ∷ 57 ∷ 48 ∷ 48 ∷ 48 ∷ 48 ∷ 48 ∷ 48 ∷ 48 ∷ 49 ∷ 101 ∷ 48 ∷ 49 ∷ 57 ∷ 48 ∷ 48 ∷ 48 ∷ 48 ∷ 48 ∷ 48 ∷ 48 ∷ 49 ∷ 101 ∷ 48 ∷ 49 ∷ 57 ∷ 48 ∷ 48 ∷ 48 ∷ 48 ∷ 48 ∷ 10 ∷ []
+firstRow = 48 ∷ 50 ∷ 48 ∷ 49 ∷ 48 ∷ 49 ∷ 48 ∷ 51 ∷ 50 ∷ 48 ∷ 52 ∷ 56 ∷ 52 ∷ 52 ∷ 48 ∷ 48 ∷ 49 ∷ 101 ∷ 48 ∷ 49 ∷ 57 ∷ 48 ∷ 48 ∷ 48 ∷ 48 ∷ 48 ∷ 48 ∷ 48 ∷ 48 ∷ 48 ∷ 48 ∷ 48 ∷ 49 ∷ 101 ∷ 48 ∷ 49 ∷ 57 ∷ 48 ∷ 48 ∷ 48 ∷ 48 ∷ 48 ∷ 48 ∷ 48 ∷ 48 ∷ 48 ∷ 48 ∷ 48 ∷ 49 ∷ 101 ∷ 48 ∷ 49 ∷ 57 ∷ 48 ∷ 48 ∷ 48 ∷ 48 ∷ 48 ∷ 48 ∷ 48 ∷ 48 ∷ 48 ∷ 10 ∷ []
 
 -- 03010203204844000000000000
 abbrev secondRow : List ℕ
@@ -47,7 +48,7 @@ printed = hullLine ++ firstRow ++ secondRow ++ thirdRow ++ endLine
 
 -- the definitions, open to computation
 read : List ℕ → Reading
-unfolding reading readFrom lines firstHolds hullChecks rowChecks endChecks lineChecks wrongHullFrame wrongFrame wrongZones between sizesFit risingTo zonesFit headFits findingFits findingsFit rowFits atTop closesGroup sameGroup sameLayer earlierGroup outOfOrder leavesOpen endsOpen frameLength placeOf hullOf headOf findingOf resultsOf digitOf pairOf pairs digitsOnly proper badlyWritten wordAt tabulate bytes hullBytes findingBytes rowBytes endBytes digit hex lineOf rowLines encode
+unfolding reading readFrom lines firstHolds hullChecks rowChecks endChecks lineChecks wrongHullFrame wrongFrame wrongZones between sizesFit risingTo zonesFit headFits openingFits findingFits findingsFit rowFits atTop closesGroup sameGroup sameLayer earlierGroup outOfOrder leavesOpen endsOpen frameLength placeOf hullOf headOf findingOf resultsOf digitOf pairOf pairs digitsOnly proper badlyWritten wordAt signed unsigned tabulate bytes hullBytes findingBytes rowBytes endBytes digit hex lineOf rowLines encode
 read f = reading f
 
 -- 16 m broad, two zones
@@ -69,14 +70,14 @@ abbrev printedHull : Hull
 printedHull = hull 9900 6000 4000 1500
 
 abbrev printedRows : List Row
-printedRows = row 2 1 1 800 18500 (found 30 400 0) ∷ row 3 1 2 800 18500 (survival 0) ∷ row 3 2 1 800 18500 (survival 10000) ∷ []
+printedRows = row 2 1 1 800 18500 (found 30 400 0 (pos 0)) ∷ row 3 1 2 800 18500 (survival 0) ∷ row 3 2 1 800 18500 (survival 10000) ∷ []
 
 pub printed-accepted : reading printed ≡ accepted (case printedHull printedRows)
 unfolding read
 printed-accepted = refl
 
 -- what its lines are judged to be, in document 01's numbers
-printed-values : valuesFrom begin (lines printed) ≡ (1 ∷ 9900 ∷ 1600 ∷ 6000 ∷ 4000 ∷ 2 ∷ 1500 ∷ []) ∷ (2 ∷ 1 ∷ 1 ∷ 800 ∷ 18500 ∷ 30 ∷ 400 ∷ 0 ∷ 30 ∷ 400 ∷ 0 ∷ 30 ∷ 400 ∷ 0 ∷ []) ∷ (3 ∷ 1 ∷ 2 ∷ 800 ∷ 18500 ∷ 0 ∷ 0 ∷ 0 ∷ []) ∷ (3 ∷ 2 ∷ 1 ∷ 800 ∷ 18500 ∷ 10000 ∷ 10000 ∷ 10000 ∷ []) ∷ (15 ∷ 3 ∷ []) ∷ []
+printed-values : valuesFrom begin (lines printed) ≡ (1 ∷ 9900 ∷ 1600 ∷ 6000 ∷ 4000 ∷ 2 ∷ 1500 ∷ []) ∷ (2 ∷ 1 ∷ 1 ∷ 800 ∷ 18500 ∷ 30 ∷ 400 ∷ 0 ∷ 0 ∷ 30 ∷ 400 ∷ 0 ∷ 0 ∷ 30 ∷ 400 ∷ 0 ∷ 0 ∷ []) ∷ (3 ∷ 1 ∷ 2 ∷ 800 ∷ 18500 ∷ 0 ∷ 0 ∷ 0 ∷ []) ∷ (3 ∷ 2 ∷ 1 ∷ 800 ∷ 18500 ∷ 10000 ∷ 10000 ∷ 10000 ∷ []) ∷ (15 ∷ 3 ∷ []) ∷ []
 unfolding read firstJudged frameOf judged valuesFrom
 printed-values = refl
 
@@ -88,27 +89,27 @@ printed-encoded : encode (case printedHull printedRows) ≡ printed
 unfolding read
 printed-encoded = refl
 
--- ---- the three draughts' results, each its own: deepest, partial, light
+-- ---- the three draughts' results, each its own: deepest, partial, light; openings of either sign
 
--- 02010103204844000100020003000400050006000700080009
+-- 02010103204844000100020003ffff00040005000675300007000800098ad0
 abbrev unlikeRow : List ℕ
-unlikeRow = 48 ∷ 50 ∷ 48 ∷ 49 ∷ 48 ∷ 49 ∷ 48 ∷ 51 ∷ 50 ∷ 48 ∷ 52 ∷ 56 ∷ 52 ∷ 52 ∷ 48 ∷ 48 ∷ 48 ∷ 49 ∷ 48 ∷ 48 ∷ 48 ∷ 50 ∷ 48 ∷ 48 ∷ 48 ∷ 51 ∷ 48 ∷ 48 ∷ 48 ∷ 52 ∷ 48 ∷ 48 ∷ 48 ∷ 53 ∷ 48 ∷ 48 ∷ 48 ∷ 54 ∷ 48 ∷ 48 ∷ 48 ∷ 55 ∷ 48 ∷ 48 ∷ 48 ∷ 56 ∷ 48 ∷ 48 ∷ 48 ∷ 57 ∷ 10 ∷ []
+unlikeRow = 48 ∷ 50 ∷ 48 ∷ 49 ∷ 48 ∷ 49 ∷ 48 ∷ 51 ∷ 50 ∷ 48 ∷ 52 ∷ 56 ∷ 52 ∷ 52 ∷ 48 ∷ 48 ∷ 48 ∷ 49 ∷ 48 ∷ 48 ∷ 48 ∷ 50 ∷ 48 ∷ 48 ∷ 48 ∷ 51 ∷ 102 ∷ 102 ∷ 102 ∷ 102 ∷ 48 ∷ 48 ∷ 48 ∷ 52 ∷ 48 ∷ 48 ∷ 48 ∷ 53 ∷ 48 ∷ 48 ∷ 48 ∷ 54 ∷ 55 ∷ 53 ∷ 51 ∷ 48 ∷ 48 ∷ 48 ∷ 48 ∷ 55 ∷ 48 ∷ 48 ∷ 48 ∷ 56 ∷ 48 ∷ 48 ∷ 48 ∷ 57 ∷ 56 ∷ 97 ∷ 100 ∷ 48 ∷ 10 ∷ []
 
 -- 0f0001
 abbrev endOfOne : List ℕ
 endOfOne = 48 ∷ 102 ∷ 48 ∷ 48 ∷ 48 ∷ 49 ∷ 10 ∷ []
 
 abbrev unlikeResults : Row
-unlikeResults = record { head = record { kind = 2; first = 1; count = 1; depth = 800; height = 18500 }; results = found 1 2 3 ∷ found 4 5 6 ∷ found 7 8 9 ∷ [] }
+unlikeResults = record { head = record { kind = 2; first = 1; count = 1; depth = 800; height = 18500 }; results = found 1 2 3 (negsuc 0) ∷ found 4 5 6 (pos 30000) ∷ found 7 8 9 (negsuc 29999) ∷ [] }
 
 deepest-partial-light : reading (hullLine ++ unlikeRow ++ endOfOne) ≡ accepted (case printedHull (unlikeResults ∷ []))
 unfolding read
 deepest-partial-light = refl
 
--- ---- rows as they are kept: 25 bytes each, whatever stands after a shorter frame
+-- ---- rows as they are kept: 31 bytes each, whatever stands after a shorter frame
 
 abbrev keptFrames : List ℕ
-keptFrames = rowBytes unlikeResults ++ rowBytes (row 3 1 2 800 18500 (survival 0)) ++ replicate 12 9
+keptFrames = rowBytes unlikeResults ++ rowBytes (row 3 1 2 800 18500 (survival 0)) ++ replicate 18 9
 
 two-kept : keptRows 2 keptFrames 0 ≡ unlikeResults ∷ row 3 1 2 800 18500 (survival 0) ∷ []
 unfolding read keptRows keptRow
@@ -165,6 +166,14 @@ hull-again-numbers : (numberAt (lines (hullLine ++ hullLine)) 1 ≡ 0) × (numbe
 unfolding read firstJudged frameOf judged after numberAt
 hull-again-numbers = (refl, refl)
 
+-- 02 with no openings, 25 bytes
+abbrev oldRow : List ℕ
+oldRow = 48 ∷ 50 ∷ 48 ∷ 49 ∷ 48 ∷ 49 ∷ 48 ∷ 51 ∷ 50 ∷ 48 ∷ 52 ∷ 56 ∷ 52 ∷ 52 ∷ 48 ∷ 48 ∷ 49 ∷ 101 ∷ 48 ∷ 49 ∷ 57 ∷ 48 ∷ 48 ∷ 48 ∷ 48 ∷ 48 ∷ 48 ∷ 48 ∷ 49 ∷ 101 ∷ 48 ∷ 49 ∷ 57 ∷ 48 ∷ 48 ∷ 48 ∷ 48 ∷ 48 ∷ 48 ∷ 48 ∷ 49 ∷ 101 ∷ 48 ∷ 49 ∷ 57 ∷ 48 ∷ 48 ∷ 48 ∷ 48 ∷ 48 ∷ 10 ∷ []
+
+old-length : reading (hullLine ++ oldRow ++ endOfOne) ≡ refused 3 2
+unfolding read
+old-length = refl
+
 end-too-long : reading (hullLine ++ 48 ∷ 48 ∷ endLine) ≡ refused 3 2
 unfolding read
 end-too-long = refl
@@ -192,7 +201,7 @@ wrong-count : reading (hullLine ++ firstRow ++ endLine) ≡ refused 6 3
 unfolding read
 wrong-count = refl
 
-row-501 : firstHolds (rowChecks printedHull (record { rows = 500; last = start .last; ended = false }) (row 2 0 0 0 0 (found 0 0 0))) ≡ 6
+row-501 : firstHolds (rowChecks printedHull (record { rows = 500; last = start .last; ended = false }) (row 2 0 0 0 0 (found 0 0 0 (pos 0)))) ≡ 6
 unfolding read
 row-501 = refl
 
@@ -200,9 +209,13 @@ no-wrap : rowsOf (row 3 255 2 800 18500 (survival 0) ∷ []) ≡ refused 7 2
 unfolding read
 no-wrap = refl
 
-range-too-great : rowsOf (row 2 1 1 800 18500 (found 30 9001 0) ∷ []) ≡ refused 7 2
+range-too-great : rowsOf (row 2 1 1 800 18500 (found 30 9001 0 (pos 0)) ∷ []) ≡ refused 7 2
 unfolding read
 range-too-great = refl
+
+opening-too-low : rowsOf (row 2 1 1 800 18500 (found 30 400 0 (negsuc 30000)) ∷ []) ≡ refused 7 2
+unfolding read
+opening-too-low = refl
 
 earlier-group : rowsOf (row 3 2 1 800 18500 (survival 0) ∷ row 3 1 2 800 18500 (survival 0) ∷ []) ≡ refused 8 3
 unfolding read

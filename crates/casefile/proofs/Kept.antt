@@ -54,7 +54,7 @@ kept-next (suc k) kept i =
 -- ---- a row's frame at the front of its place: what stands after it does not count
 
 module _ (x : ℕ → ℕ) (rest : List ℕ) where
-  found-in-front : x 0 ≡ 2 → rowOf (tabulate x 25 ++ rest) ≡ rowOf (tabulate x 25)
+  found-in-front : x 0 ≡ 2 → rowOf (tabulate x 31 ++ rest) ≡ rowOf (tabulate x 31)
   unfolding tabulate headOf resultsOf findingOf wordAt
   found-in-front e = rw e refl
 
@@ -70,14 +70,14 @@ row-in-front bs rest k n = by (of-row-kind (kindOf bs) k)
     as-table m e = rw (← e) (tabulate-places 0 bs)
 
     by : (kindOf bs ≡ 2) ⊎ (kindOf bs ≡ 3) → rowOf (bs ++ rest) ≡ rowOf bs
-    by (inl e) = rw (as-table 25 (rw e at n)) at (found-in-front (λ i. getD bs i 0) rest e)
+    by (inl e) = rw (as-table 31 (rw e at n)) at (found-in-front (λ i. getD bs i 0) rest e)
     by (inr e) = rw (as-table 13 (rw e at n)) at (given-in-front (λ i. getD bs i 0) rest e)
 
 pub longest-frame : (k : ℕ) → frameLength k ≤ placeWidth
 unfolding frameLength
 longest-frame k = by (eqb k 2) (eqb k 3)
   where
-    by : (t u : Bool) → cond t 25 (cond u 13 3) ≤ placeWidth
+    by : (t u : Bool) → cond t 31 (cond u 13 3) ≤ placeWidth
     by true u = omega arith
     by false true = omega arith
     by false false = omega arith

@@ -1,8 +1,9 @@
--- Document 01, "Limits", with its numbers: what stands on each limit passes, and what stands past it does not. Assumes nothing.
+-- Document 01, "Limits", with its numbers, and document 02's of an opening: what stands on each limit passes, and what stands past it does not. Assumes nothing.
 use Prim.Native.Nat.{ℕ, _+_, _-_, _*_}
 use mathlib.Core.Path.{_≡_, refl}
 use mathlib.Core.Bool.{Bool, true, false}
 use mathlib.Core.List.{List, [], _∷_}
+use lib.IntN.{ℤ, pos, negsuc}
 use lib.ListN.{length}
 use Rattle.laws.specs.Lists.{tabulate}
 use Rattle.records.specs.declared.Finding.{Finding}
@@ -10,7 +11,7 @@ use Rattle.records.specs.declared.Hull.{Hull}
 use Rattle.lines.specs.Lines.{lines}
 use Rattle.casefile.specs.declared.Progress.{Progress}
 use Rattle.casefile.specs.Record.{Row}
-use Rattle.casefile.specs.Limits.{between, sizesFit, risingTo, zonesFit, headFits, findingFits, findingsFit, rowFits}
+use Rattle.casefile.specs.Limits.{between, sizesFit, risingTo, zonesFit, headFits, openingFits, findingFits, findingsFit, rowFits}
 use Rattle.casefile.specs.Order.{outOfOrder, leavesOpen, endsOpen}
 use Rattle.casefile.specs.Table.{firstHolds, rowChecks, endChecks}
 use Rattle.casefile.specs.Reading.{refused, begin, start, readFrom, reading}
@@ -63,11 +64,11 @@ hulls = record {
 
 -- ---- a row, of a ship of two zones and 16 m breadth
 
-abbrev pub found : ℕ → ℕ → ℕ → Finding
-found g t e = record { lever = g; range = t; heel = e; given = 0 }
+abbrev pub found : ℕ → ℕ → ℕ → ℤ → Finding
+found g t e o = record { lever = g; range = t; heel = e; opening = o; given = 0 }
 
 abbrev pub survival : ℕ → Finding
-survival s = record { lever = 0; range = 0; heel = 0; given = s }
+survival s = record { lever = 0; range = 0; heel = 0; opening = pos 0; given = s }
 
 abbrev pub row : ℕ → ℕ → ℕ → ℕ → ℕ → Finding → Row
 row kind a n b H r = record { head = record { kind = kind; first = a; count = n; depth = b; height = H }; results = r ∷ r ∷ r ∷ [] }
@@ -76,7 +77,7 @@ abbrev twoZones : Hull
 twoZones = hull 9900 1600 6000 4000 2 (0 ∷ 1500 ∷ 9900 ∷ [])
 
 abbrev placed : ℕ → ℕ → ℕ → ℕ → Bool
-placed a n b H = rowFits twoZones (row 2 a n b H (found 0 0 0))
+placed a n b H = rowFits twoZones (row 2 a n b H (found 0 0 0 (pos 0)))
 
 abbrev resulting : Finding → Bool
 resulting r = rowFits twoZones (row 2 1 1 800 18500 r)
@@ -87,13 +88,15 @@ pub record Rows : Type 0 where
   pub group : placed 2 2 800 18500 ≡ false
   pub depth : Between 1 (λ b. placed 1 1 b 18500) 1 800
   pub height : Between 1 (λ H. placed 1 1 800 H) 1 60000
-  pub lever : UpTo (λ g. resulting (found g 0 0)) 5000
-  pub range : UpTo (λ t. resulting (found 0 t 0)) 9000
-  pub heel : UpTo (λ e. resulting (found 0 0 e)) 9000
+  pub lever : UpTo (λ g. resulting (found g 0 0 (pos 0))) 5000
+  pub range : UpTo (λ t. resulting (found 0 t 0 (pos 0))) 9000
+  pub heel : UpTo (λ e. resulting (found 0 0 e (pos 0))) 9000
+  pub opening-above : UpTo (λ o. resulting (found 0 0 0 (pos o))) 30000
+  pub opening-below : (resulting (found 0 0 0 (negsuc 0)) ≡ true) × (resulting (found 0 0 0 (negsuc 29999)) ≡ true) × (resulting (found 0 0 0 (negsuc 30000)) ≡ false)
   pub given : UpTo (λ s. resulting (survival s)) 10000
 
 pub rows : Rows
-unfolding between headFits findingFits findingsFit rowFits
+unfolding between headFits openingFits findingFits findingsFit rowFits
 rows = record {
   first = (refl, refl, refl, refl);
   count = (refl, refl, refl, refl);
@@ -103,6 +106,8 @@ rows = record {
   lever = (refl, refl, refl);
   range = (refl, refl, refl);
   heel = (refl, refl, refl);
+  opening-above = (refl, refl, refl);
+  opening-below = (refl, refl, refl);
   given = (refl, refl, refl);
 }
 
@@ -112,7 +117,7 @@ abbrev after : ℕ → Progress
 after rows = record { rows = rows; last = start .last; ended = false }
 
 abbrev atRow : ℕ → ℕ
-atRow rows = firstHolds (rowChecks twoZones (after rows) (row 2 1 1 800 18500 (found 0 0 0)))
+atRow rows = firstHolds (rowChecks twoZones (after rows) (row 2 1 1 800 18500 (found 0 0 0 (pos 0))))
 
 abbrev atEnd : ℕ → ℕ
 atEnd count = firstHolds (endChecks twoZones (after 3) count)
@@ -124,5 +129,5 @@ pub record Files : Type 0 where
   pub counted : (atEnd 2 ≡ 6) × (atEnd 3 ≡ 0) × (atEnd 4 ≡ 6)
 
 pub files : Files
-unfolding reading firstHolds rowChecks endChecks between headFits findingFits findingsFit rowFits outOfOrder leavesOpen endsOpen
+unfolding reading firstHolds rowChecks endChecks between headFits openingFits findingFits findingsFit rowFits outOfOrder leavesOpen endsOpen
 files = record { bytes = λ f e. rw e refl; byte-more = λ f e. rw e refl; rows = (refl, refl); counted = (refl, refl, refl) }

@@ -8,6 +8,8 @@ use native.Mathlib.Nat.{le-of-suc-le-suc, eq-or-lt-of-le}
 use native.Mathlib.Numerals.{add-one}
 use native.Mathlib.Omega.{arith}
 use lib.Dec.{leb, ltb, eqb}
+use lib.IntN.{ℤ, pos, negsuc, negℤ}
+use lib.Signed.{mag, leZ}
 use lib.ListN.{getD}
 use borrow.Author.Tests.{leb-true, eqb-true, ltb-true}
 use Rattle.laws.specs.Lists.{Every}
@@ -17,7 +19,7 @@ use Rattle.records.specs.declared.Hull.{Hull}
 use Rattle.records.specs.declared.Finding.{Finding}
 use Rattle.records.specs.declared.RowHead.{RowHead}
 use Rattle.casefile.specs.Record.{Row}
-use Rattle.casefile.specs.Limits.{between, sizesFit, risingTo, zonesFit, headFits, findingFits, findingsFit, rowFits}
+use Rattle.casefile.specs.Limits.{between, sizesFit, risingTo, zonesFit, headFits, openingFits, findingFits, findingsFit, rowFits}
 -- checked first, so that a definition that reads a worked file otherwise is refused there
 use Rattle.casefile.proofs.Examples.{printed-accepted}
 
@@ -122,19 +124,33 @@ head-is h r e =
       highest = between-is 1 60000 (r .height) up .1;
     }
 
+-- far from either end of two bytes with a sign
+opening-is : (o : ℤ) → openingFits o ≡ true → mag o ≤ 30000
+unfolding openingFits
+opening-is (pos n) e = leb-true n 30000 (both (leZ (negℤ (pos 30000)) (pos n)) (leb n 30000) e .1)
+opening-is (negsuc n) e = omega (arith, leb-true n 29999 (both (leb n 29999) (leZ (negsuc n) (pos 30000)) e .0))
+
 pub record Found (r : Finding) : Type 0 where
   pub lever : r .lever ≤ 5000
   pub range : r .range ≤ 9000
   pub heel : r .heel ≤ 9000
+  pub opening : mag (r .opening) ≤ 30000
   pub given : r .given ≤ 10000
 
 pub finding-is : (r : Finding) → findingFits r ≡ true → Found r
 unfolding findingFits
 finding-is r e =
     let (e1, s) = both _ (leb (r .given) 10000) e in
-    let (e2, k) = both _ (leb (r .heel) 9000) e1 in
-    let (g, t) = both (leb (r .lever) 5000) (leb (r .range) 9000) e2 in
-    record { lever = leb-true (r .lever) 5000 g; range = leb-true (r .range) 9000 t; heel = leb-true (r .heel) 9000 k; given = leb-true (r .given) 10000 s }
+    let (e2, o) = both _ (openingFits (r .opening)) e1 in
+    let (e3, k) = both _ (leb (r .heel) 9000) e2 in
+    let (g, t) = both (leb (r .lever) 5000) (leb (r .range) 9000) e3 in
+    record {
+      lever = leb-true (r .lever) 5000 g;
+      range = leb-true (r .range) 9000 t;
+      heel = leb-true (r .heel) 9000 k;
+      opening = opening-is (r .opening) o;
+      given = leb-true (r .given) 10000 s;
+    }
 
 pub findings-are : (rs : List Finding) → findingsFit rs ≡ true → Every Found rs
 unfolding findingsFit

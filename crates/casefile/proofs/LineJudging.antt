@@ -4,14 +4,18 @@ use mathlib.Core.Path.{_≡_, refl, sym, _∙_, ap}
 use mathlib.Core.Bool.{Bool, true, false, cond}
 use mathlib.Core.List.{List, [], _∷_}
 use lib.Dec.{eqb}
+use lib.ListN.{drop}
 use borrow.Author.Tests.{eqb-true}
+use Rattle.laws.specs.Bytes.{Octets}
 use Rattle.laws.specs.Lists.{tabulate}
 use Rattle.laws.proofs.Tests.{picked}
 use Rattle.records.specs.declared.Hull.{Hull}
 use Rattle.lines.specs.Lines.{Line}
 use Rattle.hexadecimal.specs.Hex.{pairs}
-use Rattle.fields.specs.Fields.{byteAt, wordAt}
-use Rattle.fields.proofs.Fields.{word-drop}
+use Rattle.hexadecimal.proofs.Pairs.{pairs-octets}
+use Rattle.fields.specs.Fields.{byteAt, wordAt, signedAt, unsigned}
+use Rattle.fields.proofs.Fields.{octets-drop, word-below, word-drop}
+use Rattle.fields.proofs.Signed.{unsigned-signed}
 use Rattle.casefile.specs.declared.Frame.{Frame}
 use Rattle.casefile.specs.declared.Progress.{Progress}
 use Rattle.casefile.specs.Layout.{kindOf, fieldsOf, isRow, hullOf, headOf, findingOf, resultsOf, rowOf, countOf, resultNumbers}
@@ -79,12 +83,33 @@ module _ (h : Hull) (p : Progress) (l : Line) where
 -- ---- what the answer says
 
 -- the results' numbers are those that stand after a, n, b and H
-results-read : (kind : ℕ) (f : List ℕ) → resultNumbers kind (resultsOf kind f) ≡ tabulate (λ i. wordAt f (6 + 2 * i)) (cond (eqb kind 2) 9 3)
+results-read : (kind : ℕ) (f : List ℕ) → Octets f → resultNumbers kind (resultsOf kind f) ≡ tabulate (λ i. wordAt f (6 + 2 * i)) (cond (eqb kind 2) 12 3)
 unfolding resultsOf findingOf tabulate
-results-read kind f = by (eqb kind 2) refl
+results-read kind f o = by (eqb kind 2) refl
   where
-    by : (t : Bool) → eqb kind 2 ≡ t → resultNumbers kind (resultsOf kind f) ≡ tabulate (λ i. wordAt f (6 + 2 * i)) (cond (eqb kind 2) 9 3)
-    by true t = rw (t, word-drop 6 0 f, word-drop 6 2 f, word-drop 6 4 f, word-drop 12 0 f, word-drop 12 2 f, word-drop 12 4 f, word-drop 18 0 f, word-drop 18 2 f, word-drop 18 4 f) refl
+    again : (k : ℕ) → unsigned (signedAt (drop k f) 6) ≡ wordAt (drop k f) 6
+    again k = unsigned-signed (wordAt (drop k f) 6) (word-below (drop k f) 6 (octets-drop k f o))
+
+    by : (t : Bool) → eqb kind 2 ≡ t → resultNumbers kind (resultsOf kind f) ≡ tabulate (λ i. wordAt f (6 + 2 * i)) (cond (eqb kind 2) 12 3)
+    by true t =
+        rw (
+          t,
+          again 6,
+          again 14,
+          again 22,
+          word-drop 6 0 f,
+          word-drop 6 2 f,
+          word-drop 6 4 f,
+          word-drop 6 6 f,
+          word-drop 14 0 f,
+          word-drop 14 2 f,
+          word-drop 14 4 f,
+          word-drop 14 6 f,
+          word-drop 22 0 f,
+          word-drop 22 2 f,
+          word-drop 22 4 f,
+          word-drop 22 6 f,
+        ) refl
     by false t = rw (t, word-drop 6 0 f, word-drop 8 0 f, word-drop 10 0 f) refl
 
 number-case : (k : ℕ) (f : Frame) (t : Bool) → eqb k 0 ≡ t → numberOf f ≡ 0 → numberOf (cond t f (Frame.Wrong k)) ≡ k
@@ -110,7 +135,7 @@ says-the-line = record {
   row = λ h p l e k.
       let kind : ℕ = kindOf (pairs (l .text)) in
       let f : List ℕ = fieldsOf (pairs (l .text)) in
-      ap (valuesOf h (resultsOf kind f)) (row-judged h p l e k) ∙ ap (λ ns. kind ∷ byteAt f 0 ∷ byteAt f 1 ∷ wordAt f 2 ∷ wordAt f 4 ∷ ns) (results-read kind f);
+      ap (valuesOf h (resultsOf kind f)) (row-judged h p l e k) ∙ ap (λ ns. kind ∷ byteAt f 0 ∷ byteAt f 1 ∷ wordAt f 2 ∷ wordAt f 4 ∷ ns) (results-read kind f (octets-drop 1 (pairs (l .text)) (pairs-octets (l .text))));
   end = λ h p l e k. ap (valuesOf h []) (end-judged h p l e k) ∙ ap (_∷ wordAt (fieldsOf (pairs (l .text))) 0 ∷ []) (end-kind h p l e k);
 }
 

@@ -96,7 +96,7 @@ module _ (l : Line) (w : badlyWritten l ≡ false) where
 finding-formed : (kind : ℕ) (f : List ℕ) → (kind ≡ 2) ⊎ (kind ≡ 3) → Formed kind (findingOf kind f)
 unfolding findingOf
 finding-formed kind f (inl k) = found k (rw k refl)
-finding-formed kind f (inr k) = given k (rw k refl) (rw k refl) (rw k refl)
+finding-formed kind f (inr k) = given k (rw k refl) (rw k refl) (rw k refl) (rw k refl)
 
 pub of-row-kind : (kind : ℕ) → isRow kind ≡ true → (kind ≡ 2) ⊎ (kind ≡ 3)
 of-row-kind kind e = ⊎-elim (λ t. inl (eqb-true kind 2 t)) (λ t. inr (eqb-true kind 3 t)) (one-holds (eqb kind 2) (eqb kind 3) e)

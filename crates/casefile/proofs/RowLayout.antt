@@ -1,11 +1,12 @@
 -- A row's frame and an end's: from bytes to the record and back, and the other way round. Assumes nothing.
 use Prim.Native.Nat.{ℕ, _+_, _*_, _/_, _%_, _<_}
-use mathlib.Core.Path.{_≡_, refl, sym, _∙_, ap₂}
+use mathlib.Core.Path.{_≡_, refl, sym, _∙_, ap, ap₂}
 use mathlib.Core.Bool.{Bool, true, false, cond, _||_, false≢true}
 use mathlib.Core.List.{List, [], _∷_, _++_}
 use mathlib.Core.Logic.{_⊎_, inl, inr}
 use native.Mathlib.Omega.{arith}
 use lib.Dec.{eqb, lit<}
+use lib.IntN.{ℤ, pos}
 use lib.ListN.{length, getD}
 use borrow.Author.Tests.{eqb-true}
 use Rattle.laws.specs.Lists.{Every, tabulate}
@@ -16,7 +17,8 @@ use Rattle.laws.proofs.Tests.{holds, picked}
 use Rattle.records.specs.declared.Finding.{Finding}
 use Rattle.records.specs.declared.RowHead.{RowHead}
 use Rattle.records.specs.declared.Hull.{Hull}
-use Rattle.fields.specs.Fields.{wordAt}
+use Rattle.fields.specs.Fields.{wordAt, signed, unsigned}
+use Rattle.fields.proofs.Signed.{unsigned-signed, signed-unsigned, unsigned-below}
 use Rattle.casefile.specs.Record.{Row}
 use Rattle.casefile.specs.Limits.{rowFits}
 use Rattle.casefile.specs.Valid.{Formed, found, given, ValidRow}
@@ -33,9 +35,13 @@ module _ (x : ℕ → ℕ) (o : (i : ℕ) → x i < 256) where
   at : (i : ℕ) → bytes 2 (x i * 256 + x (i + 1)) ≡ x i ∷ x (i + 1) ∷ []
   at i = two-again (x i) (x (i + 1)) (o i) (o (i + 1))
 
-  found-row : x 0 ≡ 2 → rowBytes (rowOf (tabulate x 25)) ≡ tabulate x 25
+  -- and a number with a sign the bytes that it was read from
+  signs : (i : ℕ) → unsigned (signed (x i * 256 + x (i + 1))) ≡ x i * 256 + x (i + 1)
+  signs i = unsigned-signed (x i * 256 + x (i + 1)) (omega (arith, o i, o (i + 1)))
+
+  found-row : x 0 ≡ 2 → rowBytes (rowOf (tabulate x 31)) ≡ tabulate x 31
   unfolding tabulate rowBytes headOf resultsOf findingOf findingBytes wordAt
-  found-row e = rw (e, at 3, at 5, at 7, at 9, at 11, at 13, at 15, at 17, at 19, at 21, at 23) refl
+  found-row e = rw (e, signs 13, signs 21, signs 29, at 3, at 5, at 7, at 9, at 11, at 13, at 15, at 17, at 19, at 21, at 23, at 25, at 27, at 29) refl
 
   given-row : x 0 ≡ 3 → rowBytes (rowOf (tabulate x 13)) ≡ tabulate x 13
   unfolding tabulate rowBytes headOf resultsOf findingOf findingBytes wordAt
@@ -53,8 +59,8 @@ module _ (bs : List ℕ) (o : Octets bs) where
   as-table : (n : ℕ) → length bs ≡ n → tabulate place n ≡ bs
   as-table n e = rw (← e) (tabulate-places 0 bs)
 
-  row-by-kind : (t u : Bool) → eqb (kindOf bs) 2 ≡ t → eqb (kindOf bs) 3 ≡ u → (t || u) ≡ true → length bs ≡ cond t 25 (cond u 13 3) → rowBytes (rowOf bs) ≡ bs
-  row-by-kind true u p q k e = rw (as-table 25 e) at (found-row place o (eqb-true (kindOf bs) 2 p))
+  row-by-kind : (t u : Bool) → eqb (kindOf bs) 2 ≡ t → eqb (kindOf bs) 3 ≡ u → (t || u) ≡ true → length bs ≡ cond t 31 (cond u 13 3) → rowBytes (rowOf bs) ≡ bs
+  row-by-kind true u p q k e = rw (as-table 31 e) at (found-row place o (eqb-true (kindOf bs) 2 p))
   row-by-kind false true p q k e = rw (as-table 13 e) at (given-row place o (eqb-true (kindOf bs) 3 q))
   row-by-kind false false p q k e = absurd (false≢true k)
 
@@ -75,18 +81,25 @@ halves : (n : ℕ) → n / 256 * 256 + n % 256 ≡ n
 halves n = omega arith
 
 -- a record by its fields
-finding-by : (r : Finding) (g t e s : ℕ) → r .lever ≡ g → r .range ≡ t → r .heel ≡ e → r .given ≡ s → record { lever = g; range = t; heel = e; given = s } ≡ r
-finding-by r g t e s hg ht he hs = rw (← hg, ← ht, ← he, ← hs) refl
+finding-by : (r : Finding) (g t e : ℕ) (o : ℤ) (s : ℕ) → r .lever ≡ g → r .range ≡ t → r .heel ≡ e → r .opening ≡ o → r .given ≡ s → record { lever = g; range = t; heel = e; opening = o; given = s } ≡ r
+finding-by r g t e o s hg ht he ho hs = rw (← hg, ← ht, ← he, ← ho, ← hs) refl
 
 -- one draught's result, from there on
 finding-again : (kind : ℕ) (r : Finding) (rest : List ℕ) → Found r → Formed kind r → findingOf kind (findingBytes kind r ++ rest) ≡ r
 unfolding findingOf findingBytes wordAt
 finding-again kind r rest f (found k s) =
-    rw (k, two-bytes (r .lever) (omega (arith, f .lever)), two-bytes (r .range) (omega (arith, f .range)), two-bytes (r .heel) (omega (arith, f .heel)))
-    (finding-by r _ _ _ 0 (sym (halves (r .lever))) (sym (halves (r .range))) (sym (halves (r .heel))) s)
-finding-again kind r rest f (given k g t e) =
+    rw (
+      k,
+      two-bytes (r .lever) (omega (arith, f .lever)),
+      two-bytes (r .range) (omega (arith, f .range)),
+      two-bytes (r .heel) (omega (arith, f .heel)),
+      two-bytes (unsigned (r .opening)) (unsigned-below (r .opening) (omega (arith, f .opening))),
+    )
+    (finding-by r _ _ _ _ 0 (sym (halves (r .lever))) (sym (halves (r .range))) (sym (halves (r .heel)))
+    (sym (ap signed (halves (unsigned (r .opening))) ∙ signed-unsigned (r .opening) (omega (arith, f .opening)))) s)
+finding-again kind r rest f (given k g t e o) =
     rw (k, two-bytes (r .given) (omega (arith, f .given)))
-    (finding-by r 0 0 0 _ g t e (sym (halves (r .given))))
+    (finding-by r 0 0 0 (pos 0) _ g t e o (sym (halves (r .given))))
 
 head-again : (r : Row) → r .head .depth < 65536 → r .head .height < 65536 → headOf (r .head .kind) (fieldsOf (rowBytes r)) ≡ r .head
 unfolding rowBytes headOf wordAt
@@ -114,8 +127,8 @@ three-of (x ∷ y ∷ z ∷ w ∷ rs) e = absurd (omega arith)
 finding-octets : (kind : ℕ) (r : Finding) → Octets (findingBytes kind r)
 unfolding findingBytes
 finding-octets kind r =
-    picked Octets (eqb kind 2) (words (r .lever ∷ r .range ∷ r .heel ∷ [])) (bytes 2 (r .given))
-    (λ e. words-octets (r .lever ∷ r .range ∷ r .heel ∷ []))
+    picked Octets (eqb kind 2) (words (r .lever ∷ r .range ∷ r .heel ∷ unsigned (r .opening) ∷ [])) (bytes 2 (r .given))
+    (λ e. words-octets (r .lever ∷ r .range ∷ r .heel ∷ unsigned (r .opening) ∷ []))
     (λ e. bytes-octets 2 (r .given))
 
 results-octets : (kind : ℕ) (rs : List Finding) → Octets (resultsBytes kind rs)
@@ -138,7 +151,7 @@ module _ (h : Hull) (r : Row) (s : Sizes h) (z : Zones h) (v : ValidRow h r) whe
   either : (rs : List Finding) → 0 < length rs → Every (Formed kind) rs → (kind ≡ 2) ⊎ (kind ≡ 3)
   either [] l f = absurd (omega arith)
   either (x ∷ rs) l (found k g, f) = inl k
-  either (x ∷ rs) l (given k a b c, f) = inr k
+  either (x ∷ rs) l (given k a b c d, f) = inr k
 
   of-kind : (kind ≡ 2) ⊎ (kind ≡ 3)
   of-kind = either (r .results) (omega (arith, v .three)) (v .formed)

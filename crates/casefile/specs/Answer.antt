@@ -76,7 +76,7 @@ pub record SaysTheLine : Type 0 where
   pub number : (h : Hull) (p : Progress) (l : Line) → numberOf (judged h p l) ≡ firstHolds (lineChecks h p l)
   pub row : (h : Hull) (p : Progress) (l : Line) → firstHolds (lineChecks h p l) ≡ 0 → isRow (kindOf (pairs (l .text))) ≡ true →
       let kind = kindOf (pairs (l .text)) in let f = fieldsOf (pairs (l .text)) in
-      valuesOf h (resultsOf kind f) (judged h p l) ≡ kind ∷ byteAt f 0 ∷ byteAt f 1 ∷ wordAt f 2 ∷ wordAt f 4 ∷ tabulate (λ i. wordAt f (6 + 2 * i)) (cond (eqb kind 2) 9 3)
+      valuesOf h (resultsOf kind f) (judged h p l) ≡ kind ∷ byteAt f 0 ∷ byteAt f 1 ∷ wordAt f 2 ∷ wordAt f 4 ∷ tabulate (λ i. wordAt f (6 + 2 * i)) (cond (eqb kind 2) 12 3)
   pub end : (h : Hull) (p : Progress) (l : Line) → firstHolds (lineChecks h p l) ≡ 0 → isRow (kindOf (pairs (l .text))) ≡ false →
       let f = fieldsOf (pairs (l .text)) in valuesOf h [] (judged h p l) ≡ kindOf (pairs (l .text)) ∷ wordAt f 0 ∷ []
 

@@ -1,7 +1,8 @@
--- Document 01, "The case file": the frames' kinds, lengths and fields, from decoded bytes and back to them. Assumes nothing.
+-- Document 01, "The case file", with document 02's openings: the frames' kinds, lengths and fields, from decoded bytes and back to them. Assumes nothing.
 use Prim.Native.Nat.{ℕ, _+_, _-_, _*_}
 use mathlib.Core.Bool.{Bool, cond, _||_}
 use mathlib.Core.List.{List, [], _∷_, _++_}
+use lib.IntN.{pos}
 use lib.ListN.{take, drop}
 use lib.Dec.{ltb, eqb}
 use Rattle.laws.specs.Lists.{tabulate}
@@ -9,7 +10,7 @@ use Rattle.laws.specs.Bytes.{bytes}
 use Rattle.records.specs.declared.Hull.{Hull}
 use Rattle.records.specs.declared.Finding.{Finding}
 use Rattle.records.specs.declared.RowHead.{RowHead}
-use Rattle.fields.specs.Fields.{byteAt, wordAt}
+use Rattle.fields.specs.Fields.{byteAt, wordAt, signedAt, unsigned}
 use Rattle.casefile.specs.Record.{Row}
 
 -- ---- kinds and lengths
@@ -31,9 +32,9 @@ isRow kind = eqb kind 2 || eqb kind 3
 abbrev pub isEnd : ℕ → Bool
 isEnd kind = eqb kind 15
 
--- the bytes of a frame after the hull: 25 of kind 02, 13 of kind 03, 3 of kind 0f
+-- the bytes of a frame after the hull: 31 of kind 02, 13 of kind 03, 3 of kind 0f
 unfoldable pub frameLength : ℕ → ℕ
-frameLength kind = cond (eqb kind 2) 25 (cond (eqb kind 3) 13 3)
+frameLength kind = cond (eqb kind 2) 31 (cond (eqb kind 3) 13 3)
 
 -- the bytes of a hull of m zones: 8 + 2m
 abbrev pub hullLength : ℕ → ℕ
@@ -43,9 +44,9 @@ hullLength m = 8 + 2 * m
 abbrev pub shortestHull : ℕ
 shortestHull = 10
 
--- the bytes of one draught's result: lever, range and heel, or a given survival
+-- the bytes of one draught's result: lever, range, heel and opening, or a given survival
 abbrev pub setLength : ℕ → ℕ
-setLength kind = cond (eqb kind 2) 6 2
+setLength kind = cond (eqb kind 2) 8 2
 
 -- ---- from the fields
 
@@ -71,21 +72,21 @@ hullOf f = record {
 unfoldable pub headOf : ℕ → List ℕ → RowHead
 headOf kind f = record { kind = kind; first = byteAt f 0; count = byteAt f 1; depth = wordAt f 2; height = wordAt f 4 }
 
--- one draught's result, read from there on: lever, range, heel (two each) of kind 02, a given survival of kind 03
+-- one draught's result, read from there on: lever, range, heel (two each) and the opening (two, with a sign) of kind 02, a given survival of kind 03
 unfoldable pub findingOf : ℕ → List ℕ → Finding
 findingOf kind f =
     cond (eqb kind 2)
-    (record { lever = wordAt f 0; range = wordAt f 2; heel = wordAt f 4; given = 0 })
-    (record { lever = 0; range = 0; heel = 0; given = wordAt f 0 })
+    (record { lever = wordAt f 0; range = wordAt f 2; heel = wordAt f 4; opening = signedAt f 6; given = 0 })
+    (record { lever = 0; range = 0; heel = 0; opening = pos 0; given = wordAt f 0 })
 
 -- the three draughts' results, after a, n, b and H
 unfoldable pub resultsOf : ℕ → List ℕ → List Finding
 resultsOf kind f =
     findingOf kind (drop 6 f) ∷ findingOf kind (drop (6 + setLength kind) f) ∷ findingOf kind (drop (6 + 2 * setLength kind) f) ∷ []
 
--- a result's numbers, those of its kind; and those of a row's results
+-- a result's numbers, those of its kind, the opening as its two bytes have it; and those of a row's results
 abbrev pub findingNumbers : ℕ → Finding → List ℕ
-findingNumbers kind r = cond (eqb kind 2) (r .lever ∷ r .range ∷ r .heel ∷ []) (r .given ∷ [])
+findingNumbers kind r = cond (eqb kind 2) (r .lever ∷ r .range ∷ r .heel ∷ unsigned (r .opening) ∷ []) (r .given ∷ [])
 
 abbrev pub resultNumbers : ℕ → List Finding → List ℕ
 resultNumbers kind [] = []
@@ -113,7 +114,7 @@ unfoldable pub hullBytes : Hull → List ℕ
 hullBytes h = 1 ∷ words (h .length ∷ h .breadth ∷ h .deepest ∷ h .light ∷ []) ++ h .zones ∷ words (innerOf h)
 
 unfoldable pub findingBytes : ℕ → Finding → List ℕ
-findingBytes kind r = cond (eqb kind 2) (words (r .lever ∷ r .range ∷ r .heel ∷ [])) (bytes 2 (r .given))
+findingBytes kind r = cond (eqb kind 2) (words (r .lever ∷ r .range ∷ r .heel ∷ unsigned (r .opening) ∷ [])) (bytes 2 (r .given))
 
 abbrev pub resultsBytes : ℕ → List Finding → List ℕ
 resultsBytes kind [] = []

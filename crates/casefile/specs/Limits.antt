@@ -1,9 +1,12 @@
--- Document 01, "The case file", "Limits", each once: of the input, of a hull (refusals 4 and 5) and of a row (refusal 7). Assumes nothing.
+-- Document 01, "The case file", "Limits", and document 02's of an opening, each once: of the input, of a hull (refusals 4 and 5) and of a row (refusal 7).
+-- Assumes nothing.
 use Prim.Native.Nat.{ℕ, zero, suc, _+_, _-_, _/_, _%_}
 use mathlib.Core.Bool.{Bool, true, _&&_}
 use mathlib.Core.List.{List, [], _∷_}
 use lib.ListN.{getD}
 use lib.Dec.{leb, ltb, eqb}
+use lib.IntN.{ℤ, pos, negℤ}
+use lib.Signed.{leZ}
 use Rattle.records.specs.declared.Hull.{Hull}
 use Rattle.records.specs.declared.Finding.{Finding}
 use Rattle.records.specs.declared.RowHead.{RowHead}
@@ -46,9 +49,13 @@ headFits h r =
     && between 1 (h .breadth / 2) (r .depth)
     && between 1 60000 (r .height)
 
--- lever 0 to 5,000; range and heel 0 to 9,000; given survival 0 to 10,000
+-- an opening -30,000 to 30,000
+unfoldable pub openingFits : ℤ → Bool
+openingFits o = leZ (negℤ (pos 30000)) o && leZ o (pos 30000)
+
+-- lever 0 to 5,000; range and heel 0 to 9,000; the opening; given survival 0 to 10,000
 unfoldable pub findingFits : Finding → Bool
-findingFits r = leb (r .lever) 5000 && leb (r .range) 9000 && leb (r .heel) 9000 && leb (r .given) 10000
+findingFits r = leb (r .lever) 5000 && leb (r .range) 9000 && leb (r .heel) 9000 && openingFits (r .opening) && leb (r .given) 10000
 
 unfoldable pub findingsFit : List Finding → Bool
 findingsFit [] = true

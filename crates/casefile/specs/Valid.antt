@@ -3,6 +3,7 @@ use Prim.Native.Nat.{ℕ, _/_, _≤_, _<_}
 use mathlib.Core.Path.{_≡_}
 use mathlib.Core.Logic.{_⊎_}
 use mathlib.Core.List.{List, [], _∷_}
+use lib.IntN.{pos}
 use lib.ListN.{length, getD}
 use lib.Dec.{T}
 use Rattle.laws.specs.Lists.{Every, last, Linked}
@@ -27,10 +28,10 @@ pub record ValidHull (h : Hull) : Type 0 where
 
 -- ---- a row
 
--- kind 02 has lever, range and heel, kind 03 a given survival; what a kind does not have is 0
+-- kind 02 has lever, range, heel and opening, kind 03 a given survival; what a kind does not have is 0
 pub data Formed (kind : ℕ) (r : Finding) : Type 0 where
   found : kind ≡ 2 → r .given ≡ 0 → Formed kind r
-  given : kind ≡ 3 → r .lever ≡ 0 → r .range ≡ 0 → r .heel ≡ 0 → Formed kind r
+  given : kind ≡ 3 → r .lever ≡ 0 → r .range ≡ 0 → r .heel ≡ 0 → r .opening ≡ pos 0 → Formed kind r
 
 pub record ValidRow (h : Hull) (r : Row) : Type 0 where
   pub limits : T (rowFits h r)

@@ -3,6 +3,7 @@
 use Prim.Native.Nat.{ℕ}
 use mathlib.Core.List.{List, [], _∷_}
 use mathlib.Core.Path.{_≡_, refl}
+use lib.IntN.{ℤ, pos}
 use Rattle.laws.specs.Fraction.{_less_over_, _⊛_}
 use Rattle.laws.specs.Rounding.{ceil}
 use Rattle.roots.specs.Root.{withDigits, rootDown, rootUp}
@@ -12,18 +13,18 @@ use Rattle.records.specs.declared.Survival.{Survival}
 use Rattle.records.specs.declared.Trio.{Trio}
 use Rattle.solas.specs.Height.{v, vAt, rowV}
 use Rattle.solas.specs.Index.{dp, draughts}
-use Rattle.solas.specs.Survival.{k, s⁴}
+use Rattle.solas.specs.Survival.{k, s⁴, unlessImmersed}
 use Rattle.numbers.specs.Ratio.{ratioOf}
 use Rattle.heights.specs.Height.{rowVs}
 use Rattle.survival.specs.Marks.{unmarked}
 use Rattle.survival.specs.Survival.{factorOf, scaledOf, roundedOf, survivalOf, survivalsOf}
 use Rattle.indices.specs.Index.{addsOf, trio, rowAdds, partials, attainedOf}
 
-abbrev found : ℕ → ℕ → ℕ → Finding
-found lever range heel = record { lever = lever; range = range; heel = heel; given = 0 }
+abbrev found : ℕ → ℕ → ℕ → ℤ → Finding
+found lever range heel opening = record { lever = lever; range = range; heel = heel; opening = opening; given = 0 }
 
 abbrev given : ℕ → Finding
-given s = record { lever = 0; range = 0; heel = 0; given = s }
+given s = record { lever = 0; range = 0; heel = 0; opening = pos 0; given = s }
 
 abbrev survived : ℕ → ℕ → Survival
 survived bottom top = record { bottom = bottom; top = top; marks = unmarked }
@@ -38,7 +39,7 @@ vs = rowVs 0 18500 (draughts 6000 4000)
 abbrev file : Trio
 file =
     partials
-    (rowAdds (ends 0x072648b6 0x072648b7) vs (survivalsOf 2 (found 30 400 0 ∷ found 30 400 0 ∷ found 30 400 0 ∷ []))
+    (rowAdds (ends 0x072648b6 0x072648b7) vs (survivalsOf 2 (found 30 400 0 (pos 0) ∷ found 30 400 0 (pos 0) ∷ found 30 400 0 (pos 0) ∷ []))
     ∷ rowAdds (ends 0x03e36aea 0x03e36aec) vs (survivalsOf 3 (given 0 ∷ given 0 ∷ given 0 ∷ []))
     ∷ rowAdds (ends 0x3091165e 0x3091165f) vs (survivalsOf 3 (given 10000 ∷ given 10000 ∷ given 10000 ∷ []))
     ∷ [])
@@ -47,7 +48,7 @@ abbrev printed : Ends
 printed = ends 0x34243ab9 0x34243abb
 
 pub one-file : (file ≡ trio printed printed printed) × (attainedOf file ≡ printed)
-unfolding rowVs rowV vAt v dp survivalsOf survivalOf factorOf s⁴ k ratioOf scaledOf roundedOf rootDown rootUp withDigits ceil _⊛_ _less_over_ addsOf rowAdds partials attainedOf
+unfolding rowVs rowV vAt v dp survivalsOf survivalOf factorOf unlessImmersed s⁴ k ratioOf scaledOf roundedOf rootDown rootUp withDigits ceil _⊛_ _less_over_ addsOf rowAdds partials attainedOf
 one-file = (refl, refl)
 
 -- a row whose share and survival have two ends, and which adds something else at each draught

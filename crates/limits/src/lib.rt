@@ -1,9 +1,9 @@
-// Document 01's limits on records: of a hull (refusals 4 and 5) and of a row (refusal 7).
+// Document 01's limits on records, and document 02's of an opening: of a hull (refusals 4 and 5) and of a row (refusal 7).
 ghost use mathlib.Core.Path.{_≡_};
 ghost use mathlib.Core.Bool.{_&&_};
 ghost use Prim.Native.Nat.{_+_, _-_, _%_, _≤_};
 ghost use lib.Dec.{leb, eqb};
-ghost use Rattle.casefile.specs.Limits.{between, sizesFit, risingTo, zonesFit, headFits, findingFits, rowFits};
+ghost use Rattle.casefile.specs.Limits.{between, sizesFit, risingTo, zonesFit, headFits, openingFits, findingFits, rowFits};
 use records::Finding;
 use records::Hull;
 use records::RowHead;
@@ -87,10 +87,20 @@ fn head_fits(h: Hull, r: RowHead) -> bool
         & is_between(1, 60000, r.height)
 }
 
+fn opening_fits(o: i64) -> bool
+    ensures { λ b. ⌜ b ≡ openingFits o ⌝ }
+{
+    (-30000 <= o) & (o <= 30000)
+}
+
 fn finding_fits(r: Finding) -> bool
     ensures { λ b. ⌜ b ≡ findingFits r ⌝ }
 {
-    (r.lever <= 5000) & (r.range <= 9000) & (r.heel <= 9000) & (r.given <= 10000)
+    (r.lever <= 5000)
+        & (r.range <= 9000)
+        & (r.heel <= 9000)
+        & opening_fits(r.opening)
+        & (r.given <= 10000)
 }
 
 // Refusal 7 is given where this does not hold.

@@ -16,7 +16,7 @@ use Rattle.casefile.specs.Kept.{keptRow}
 use Rattle.casefile.proofs.Kept.{length-kept}
 use Rattle.listing.specs.Survivals.{threeNumbers, survivalNumbers, survivalsFrom}
 -- checked first, so that a definition that tells other numbers is refused there
-use Rattle.listing.proofs.Values.{two-rows}
+use Rattle.listing.proofs.Values.{three-rows}
 use Rattle.rows.proofs.InTurn.{left, all, all-left, one-of-them, none-left}
 
 pub length-survival : (ss : List Survival) → length (survivalNumbers ss) ≡ 9

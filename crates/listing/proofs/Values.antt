@@ -1,12 +1,13 @@
 -- Two rows' survivals as a host gets them: one of three different results, one given. Assumes nothing.
 use Prim.Native.Nat.{ℕ}
 use mathlib.Core.Path.{_≡_, refl}
+use lib.IntN.{ℤ, pos, negsuc}
 use mathlib.Core.List.{[], _∷_}
 use Rattle.laws.specs.Fraction.{_less_over_, _⊛_}
 use Rattle.laws.specs.Rounding.{ceil}
 use Rattle.roots.specs.Root.{withDigits, rootDown, rootUp}
 use Rattle.records.specs.declared.Finding.{Finding}
-use Rattle.solas.specs.Survival.{k, s⁴}
+use Rattle.solas.specs.Survival.{k, s⁴, unlessImmersed}
 use Rattle.numbers.specs.Ratio.{ratioOf}
 use Rattle.survival.specs.Marks.{foundMarks, marksOf}
 use Rattle.survival.specs.Survival.{factorOf, scaledOf, roundedOf, survivalOf, survivalsOf}
@@ -14,21 +15,24 @@ use Rattle.printing.specs.Marks.{markByte}
 use Rattle.casefile.specs.Record.{Row}
 use Rattle.listing.specs.Survivals.{threeNumbers, survivalNumbers, survivalsFrom}
 
-abbrev found : ℕ → ℕ → ℕ → Finding
-found lever range heel = record { lever = lever; range = range; heel = heel; given = 0 }
+abbrev found : ℕ → ℕ → ℕ → ℤ → Finding
+found lever range heel opening = record { lever = lever; range = range; heel = heel; opening = opening; given = 0 }
 
 abbrev given : ℕ → Finding
-given s = record { lever = 0; range = 0; heel = 0; given = s }
+given s = record { lever = 0; range = 0; heel = 0; opening = pos 0; given = s }
 
--- 60 mm and 8 degrees; a range a hundredth short; a heel of 29.95 degrees
+-- 60 mm and 8 degrees; a range a hundredth short; a heel of 29.95 degrees; and the same with openings a millimetre under the water at two draughts
 abbrev first : Row
-first = record { head = record { kind = 2; first = 1; count = 1; depth = 800; height = 18500 }; results = found 60 800 0 ∷ found 120 1599 2500 ∷ found 120 1600 2995 ∷ [] }
+first = record { head = record { kind = 2; first = 1; count = 1; depth = 800; height = 18500 }; results = found 60 800 0 (pos 0) ∷ found 120 1599 2500 (pos 1) ∷ found 120 1600 2995 (pos 30000) ∷ [] }
+
+abbrev flooded : Row
+flooded = record { head = record { kind = 2; first = 1; count = 2; depth = 800; height = 18500 }; results = found 60 800 0 (negsuc 0) ∷ found 120 1599 2500 (pos 0) ∷ found 120 1600 2500 (negsuc 0) ∷ [] }
 
 abbrev second : Row
 second = record { head = record { kind = 3; first = 2; count = 1; depth = 800; height = 18500 }; results = given 0 ∷ given 7071 ∷ given 10000 ∷ [] }
 
-pub two-rows :
-    survivalsFrom (first ∷ second ∷ [])
-    ≡ 7071 ∷ 7072 ∷ 3 ∷ 9998 ∷ 9999 ∷ 2 ∷ 1000 ∷ 1000 ∷ 4 ∷ 0 ∷ 0 ∷ 0 ∷ 7071 ∷ 7071 ∷ 0 ∷ 10000 ∷ 10000 ∷ 0 ∷ []
-unfolding survivalsFrom survivalNumbers threeNumbers markByte survivalsOf survivalOf factorOf marksOf foundMarks s⁴ k ratioOf scaledOf roundedOf rootDown rootUp withDigits ceil _⊛_ _less_over_
-two-rows = refl
+pub three-rows :
+    survivalsFrom (first ∷ flooded ∷ second ∷ [])
+    ≡ 7071 ∷ 7072 ∷ 3 ∷ 9998 ∷ 9999 ∷ 2 ∷ 1000 ∷ 1000 ∷ 4 ∷ 0 ∷ 0 ∷ 11 ∷ 9998 ∷ 9999 ∷ 2 ∷ 0 ∷ 0 ∷ 8 ∷ 0 ∷ 0 ∷ 0 ∷ 7071 ∷ 7071 ∷ 0 ∷ 10000 ∷ 10000 ∷ 0 ∷ []
+unfolding survivalsFrom survivalNumbers threeNumbers markByte survivalsOf survivalOf factorOf marksOf foundMarks unlessImmersed s⁴ k ratioOf scaledOf roundedOf rootDown rootUp withDigits ceil _⊛_ _less_over_
+three-rows = refl

@@ -19,9 +19,9 @@ text : Answer → List RowLine → List ℕ
 unfolding printed lineOf figuresFrame refusalFrame rowFrame rowLines endsField partialField partialsField markByte marksAt marksField bytes digit hex
 text a rs = printed a rs
 
--- a survival with the marks of its lever, range and heel, and a row with the same at every draught
-abbrev marked : Bool → Bool → Bool → Survival
-marked lever range heel = record { bottom = 8400; top = 8401; marks = record { lever = lever; range = range; heel = heel } }
+-- a survival with the marks of its lever, range, heel and opening, and a row with the same at every draught
+abbrev marked : Bool → Bool → Bool → Bool → Survival
+marked lever range heel opening = record { bottom = 8400; top = 8401; marks = record { lever = lever; range = range; heel = heel; opening = opening } }
 
 abbrev row : ℕ → ℕ → Survival → RowLine
 row lower upper s = record { share = record { lower = lower; upper = upper }; survivals = s ∷ s ∷ s ∷ [] }
@@ -41,9 +41,9 @@ figures = record {
 -- the first row's lever and range are below their caps, and nothing holds the others down
 abbrev rows : List RowLine
 rows =
-    row 119949494 119949495 (marked true true false)
-    ∷ row 65235690 65235692 (marked false false false)
-    ∷ row 814814814 814814815 (marked false false false) ∷ []
+    row 119949494 119949495 (marked true true false false)
+    ∷ row 65235690 65235692 (marked false false false false)
+    ∷ row 814814814 814814815 (marked false false false false) ∷ []
 
 -- 810134243ab934243abb34243ab934243abb34243ab934243abb34243ab934243abb
 abbrev figuresLine : List ℕ
@@ -95,17 +95,17 @@ ends-in-order = refl
 
 abbrev uneven : List RowLine
 uneven =
-    record { share = record { lower = 1; upper = 2 }; survivals = marked true false false ∷ marked false true false ∷ marked false false true ∷ [] }
-    ∷ record { share = record { lower = 3; upper = 4 }; survivals = marked true true true ∷ marked false true true ∷ marked true false true ∷ [] } ∷ []
+    record { share = record { lower = 1; upper = 2 }; survivals = marked true false false false ∷ marked false true false false ∷ marked false false true false ∷ [] }
+    ∷ record { share = record { lower = 3; upper = 4 }; survivals = marked true true true true ∷ marked false false false true ∷ marked true false true false ∷ [] } ∷ []
 
-marks-in-order : text distinct uneven ≡ text distinct [] ++ lineOf (130 ∷ 0 ∷ 0 ∷ 0 ∷ 1 ∷ 0 ∷ 0 ∷ 0 ∷ 2 ∷ 1 ∷ 2 ∷ 4 ∷ []) ++ lineOf (130 ∷ 0 ∷ 0 ∷ 0 ∷ 3 ∷ 0 ∷ 0 ∷ 0 ∷ 4 ∷ 7 ∷ 6 ∷ 5 ∷ [])
+marks-in-order : text distinct uneven ≡ text distinct [] ++ lineOf (130 ∷ 0 ∷ 0 ∷ 0 ∷ 1 ∷ 0 ∷ 0 ∷ 0 ∷ 2 ∷ 1 ∷ 2 ∷ 4 ∷ []) ++ lineOf (130 ∷ 0 ∷ 0 ∷ 0 ∷ 3 ∷ 0 ∷ 0 ∷ 0 ∷ 4 ∷ 15 ∷ 8 ∷ 5 ∷ [])
 unfolding text lineOf
 marks-in-order = refl
 
--- 6 is range and heel
-six-by-name : marksBy 6 ≡ record { lever = false; range = true; heel = true }
+-- 10 is range and opening
+ten-by-name : marksBy 10 ≡ record { lever = false; range = true; heel = false; opening = true }
 unfolding marksBy
-six-by-name = refl
+ten-by-name = refl
 
 -- ---- a refusal: number 9 at line 500
 

@@ -20,32 +20,40 @@ use Rattle.printing.proofs.Examples.{refusal-length}
 
 -- ---- one byte
 
-pub added-up : (m : Marks) {l r h : ℕ} → l ≡ cond (m .lever) 1 0 → r ≡ cond (m .range) 2 0 → h ≡ cond (m .heel) 4 0 → l + r + h ≡ markByte m
+pub added-up : (m : Marks) {l r h o : ℕ} → l ≡ cond (m .lever) 1 0 → r ≡ cond (m .range) 2 0 → h ≡ cond (m .heel) 4 0 → o ≡ cond (m .opening) 8 0 → l + r + h + o ≡ markByte m
 unfolding markByte
-added-up m p q s = rw (p, q, s) refl
+added-up m p q s t = rw (p, q, s, t) refl
 
-by-name : (lever range heel : Bool) →
-    let m : Marks = record { lever = lever; range = range; heel = heel } in (markByte m < 16) × (marksBy (markByte m) ≡ m)
+by-name : (lever range heel opening : Bool) →
+    let m : Marks = record { lever = lever; range = range; heel = heel; opening = opening } in (markByte m < 16) × (marksBy (markByte m) ≡ m)
 unfolding markByte marksBy
-by-name true true true = (lit< tt, refl)
-by-name true true false = (lit< tt, refl)
-by-name true false true = (lit< tt, refl)
-by-name true false false = (lit< tt, refl)
-by-name false true true = (lit< tt, refl)
-by-name false true false = (lit< tt, refl)
-by-name false false true = (lit< tt, refl)
-by-name false false false = (lit< tt, refl)
+by-name true true true true = (lit< tt, refl)
+by-name true true true false = (lit< tt, refl)
+by-name true true false true = (lit< tt, refl)
+by-name true true false false = (lit< tt, refl)
+by-name true false true true = (lit< tt, refl)
+by-name true false true false = (lit< tt, refl)
+by-name true false false true = (lit< tt, refl)
+by-name true false false false = (lit< tt, refl)
+by-name false true true true = (lit< tt, refl)
+by-name false true true false = (lit< tt, refl)
+by-name false true false true = (lit< tt, refl)
+by-name false true false false = (lit< tt, refl)
+by-name false false true true = (lit< tt, refl)
+by-name false false true false = (lit< tt, refl)
+by-name false false false true = (lit< tt, refl)
+by-name false false false false = (lit< tt, refl)
 
 -- one digit holds it
 one-digit : (m : Marks) → markByte m < 16
-one-digit m = by-name (m .lever) (m .range) (m .heel) .0
+one-digit m = by-name (m .lever) (m .range) (m .heel) (m .opening) .0
 
 pub below-16 : (m : Marks) {n : ℕ} → n ≡ markByte m → n < 16
 below-16 m e = rw e (one-digit m)
 
 -- from the byte each mark by its name
 pub marks-by-byte : (m : Marks) → marksBy (markByte m) ≡ m
-marks-by-byte m = by-name (m .lever) (m .range) (m .heel) .1
+marks-by-byte m = by-name (m .lever) (m .range) (m .heel) (m .opening) .1
 
 -- ---- three
 

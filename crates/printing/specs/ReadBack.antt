@@ -51,9 +51,9 @@ fours (suc n) bs = number (take 4 bs) ∷ fours n (drop 4 bs)
 abbrev pub odd : ℕ → Bool
 odd n = eqb (n % 2) 1
 
--- the marks that a byte adds up: lever by ones, range by twos, heel by fours
+-- the marks that a byte adds up: lever by ones, range by twos, heel by fours, the opening by eights
 unfoldable pub marksBy : ℕ → Marks
-marksBy b = record { lever = odd b; range = odd (b / 2); heel = odd (b / 4) }
+marksBy b = record { lever = odd b; range = odd (b / 2); heel = odd (b / 4); opening = odd (b / 8) }
 
 -- a frame's first byte
 abbrev pub kindOf : List ℕ → ℕ

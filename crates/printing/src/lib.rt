@@ -64,7 +64,7 @@ fn weight(marked: bool, n: u64) -> u64
 pub fn mark_byte(m: Marks) -> u64
     ensures { λ r. ⌜ r ≡ markByte m ⌝ }
 {
-    weight(m.lever, 1) + weight(m.range, 2) + weight(m.heel, 4)
+    weight(m.lever, 1) + weight(m.range, 2) + weight(m.heel, 4) + weight(m.opening, 8)
 }
 
 // The marks at the three draughts.

@@ -14,13 +14,21 @@ pub mod shares; // rows' shares by the one span table
 
 // The bottom of a result's survival.
 #[no_mangle]
-pub extern "C" fn probe_bottom(kind: u64, lever: u64, range: u64, heel: u64, given: u64) -> u64
-    ensures { λ r. ⌜ r ≡ survivalOf kind (record { lever = lever; range = range; heel = heel; given = given }) .bottom ⌝ }
+pub extern "C" fn probe_bottom(
+    kind: u64,
+    lever: u64,
+    range: u64,
+    heel: u64,
+    opening: i64,
+    given: u64,
+) -> u64
+    ensures { λ r. ⌜ r ≡ survivalOf kind (record { lever = lever; range = range; heel = heel; opening = opening; given = given }) .bottom ⌝ }
 {
     let f = Finding {
         lever,
         range,
         heel,
+        opening,
         given,
     };
     survival::finding::survival(kind, f).bottom
@@ -28,13 +36,21 @@ pub extern "C" fn probe_bottom(kind: u64, lever: u64, range: u64, heel: u64, giv
 
 // Its top.
 #[no_mangle]
-pub extern "C" fn probe_top(kind: u64, lever: u64, range: u64, heel: u64, given: u64) -> u64
-    ensures { λ r. ⌜ r ≡ survivalOf kind (record { lever = lever; range = range; heel = heel; given = given }) .top ⌝ }
+pub extern "C" fn probe_top(
+    kind: u64,
+    lever: u64,
+    range: u64,
+    heel: u64,
+    opening: i64,
+    given: u64,
+) -> u64
+    ensures { λ r. ⌜ r ≡ survivalOf kind (record { lever = lever; range = range; heel = heel; opening = opening; given = given }) .top ⌝ }
 {
     let f = Finding {
         lever,
         range,
         heel,
+        opening,
         given,
     };
     survival::finding::survival(kind, f).top
@@ -42,13 +58,21 @@ pub extern "C" fn probe_top(kind: u64, lever: u64, range: u64, heel: u64, given:
 
 // The byte of its marks.
 #[no_mangle]
-pub extern "C" fn probe_marks(kind: u64, lever: u64, range: u64, heel: u64, given: u64) -> u64
-    ensures { λ r. ⌜ r ≡ markByte (survivalOf kind (record { lever = lever; range = range; heel = heel; given = given }) .marks) ⌝ }
+pub extern "C" fn probe_marks(
+    kind: u64,
+    lever: u64,
+    range: u64,
+    heel: u64,
+    opening: i64,
+    given: u64,
+) -> u64
+    ensures { λ r. ⌜ r ≡ markByte (survivalOf kind (record { lever = lever; range = range; heel = heel; opening = opening; given = given }) .marks) ⌝ }
 {
     let f = Finding {
         lever,
         range,
         heel,
+        opening,
         given,
     };
     let s = survival::finding::survival(kind, f);

@@ -71,6 +71,7 @@ fn row_fits(h: Hull, a: u64, n: u64, b1: u64, b2: u64) -> bool
         lever: 0,
         range: 0,
         heel: 0,
+        opening: 0,
         given: 0,
     };
     limits::row_fits(h, head, [none, none, none]) & (b1 <= b2)

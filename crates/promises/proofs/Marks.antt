@@ -1,13 +1,15 @@
 -- What a report tells of an accepted file: the shares of the sheet, and the marks of each row's results. Assumes nothing.
 use Prim.Native.Nat.{ℕ, _*_}
 use mathlib.Core.Path.{_≡_, refl, _∙_, ap}
-use mathlib.Core.Bool.{true, false}
+use mathlib.Core.Bool.{Bool, true, false}
+use lib.IntN.{ℤ, pos, negsuc}
 use mathlib.Core.List.{List, [], _∷_}
 use native.Mathlib.Omega.{arith}
 use lib.Dec.{ltb}
 use lib.ListN.{length, getD}
 use borrow.Author.Tests.{le-ltb}
 use Rattle.records.specs.declared.Finding.{Finding}
+use Rattle.records.specs.declared.Marks.{Marks}
 use Rattle.records.specs.declared.Hull.{Hull}
 use Rattle.records.specs.declared.RowHead.{RowHead}
 use Rattle.survival.specs.Marks.{foundMarks, marksOf}
@@ -25,15 +27,22 @@ use Rattle.answers.specs.Report.{linesIn}
 use Rattle.promises.specs.Printing.{resultMarks, marksOfRows, ReportTellsMarks}
 use Rattle.promises.proofs.Fits.{same-shares, printed-reads-back}
 
--- a row whose results have the marks of lever, range and heel in turn
-abbrev found : ℕ → ℕ → ℕ → Finding
-found lever range heel = record { lever = lever; range = range; heel = heel; given = 0 }
+-- rows whose results have the marks of lever, range and heel in turn, and at one draught that of the opening
+abbrev found : ℕ → ℕ → ℕ → ℤ → Finding
+found lever range heel opening = record { lever = lever; range = range; heel = heel; opening = opening; given = 0 }
 
 abbrev turned : Row
-turned = record { head = record { kind = 2; first = 1; count = 1; depth = 1; height = 1 }; results = found 119 1600 0 ∷ found 120 1599 0 ∷ found 120 1600 2501 ∷ [] }
+turned = record { head = record { kind = 2; first = 1; count = 1; depth = 1; height = 1 }; results = found 119 1600 0 (pos 0) ∷ found 120 1599 0 (pos 0) ∷ found 120 1600 2501 (pos 0) ∷ [] }
 
-in-turn : marksOfRows (turned ∷ [])
-    ≡ record { lever = true; range = false; heel = false } ∷ record { lever = false; range = true; heel = false } ∷ record { lever = false; range = false; heel = true } ∷ []
+abbrev immersed : Row
+immersed = record { head = record { kind = 2; first = 1; count = 1; depth = 1; height = 2 }; results = found 120 1600 0 (pos 0) ∷ found 120 1600 0 (negsuc 0) ∷ found 120 1600 0 (pos 1) ∷ [] }
+
+abbrev marks : Bool → Bool → Bool → Bool → Marks
+marks lever range heel opening = record { lever = lever; range = range; heel = heel; opening = opening }
+
+in-turn : marksOfRows (turned ∷ immersed ∷ [])
+    ≡ marks true false false false ∷ marks false true false false ∷ marks false false true false
+    ∷ marks false false false false ∷ marks false false false true ∷ marks false false false false ∷ []
 unfolding marksOfRows marksOf foundMarks
 in-turn = refl
 

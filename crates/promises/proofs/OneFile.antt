@@ -10,7 +10,7 @@ use Rattle.solas.specs.Span.{touch, p, P}
 use Rattle.solas.specs.Penetration.{c, d, G1, G3}
 use Rattle.solas.specs.Count.{added, taken}
 use Rattle.solas.specs.Height.{v, vAt, rowV}
-use Rattle.solas.specs.Survival.{k, s⁴}
+use Rattle.solas.specs.Survival.{k, s⁴, unlessImmersed}
 use Rattle.solas.specs.Index.{dp, R, partialMark}
 use Rattle.spans.specs.Rounded as rounded
 use Rattle.spans.specs.Span.{pEnds, PEnds}
@@ -26,9 +26,9 @@ use Rattle.indices.specs.Index.{addsOf, rowAdds, partials, attainedOf}
 use Rattle.verdicts.specs.Verdict.{reaches, allReach, verdictOf}
 use Rattle.lines.specs.Lines.{lines}
 use Rattle.hexadecimal.specs.Hex.{digitOf, pairOf, pairs, digitsOnly, proper, badlyWritten, digit, hex, lineOf}
-use Rattle.fields.specs.Fields.{wordAt}
+use Rattle.fields.specs.Fields.{wordAt, signed}
 use Rattle.casefile.specs.Layout.{frameLength, placeOf, hullOf, headOf, findingOf, resultsOf}
-use Rattle.casefile.specs.Limits.{between, sizesFit, risingTo, zonesFit, headFits, findingFits, findingsFit, rowFits}
+use Rattle.casefile.specs.Limits.{between, sizesFit, risingTo, zonesFit, headFits, openingFits, findingFits, findingsFit, rowFits}
 use Rattle.casefile.specs.Order.{atTop, closesGroup, sameGroup, sameLayer, earlierGroup, outOfOrder, leavesOpen, endsOpen}
 use Rattle.casefile.specs.Table.{firstHolds, wrongHullFrame, wrongFrame, wrongZones, hullChecks, rowChecks, endChecks, lineChecks}
 use Rattle.casefile.specs.Reading.{accepted, readFrom, reading}
@@ -42,14 +42,14 @@ use Rattle.answers.specs.Report.{linesIn, report}
 use Rattle.promises.specs.OneFile.{printedCase, text, OneFileIsRead, OneFileInFull}
 
 pub file-read : OneFileIsRead
-unfolding reading readFrom lines firstHolds hullChecks rowChecks endChecks lineChecks wrongHullFrame wrongFrame wrongZones between sizesFit risingTo zonesFit headFits findingFits findingsFit rowFits
-    atTop closesGroup sameGroup sameLayer earlierGroup outOfOrder leavesOpen endsOpen frameLength placeOf hullOf headOf findingOf resultsOf digitOf pairOf pairs digitsOnly proper badlyWritten wordAt tabulate
+unfolding reading readFrom lines firstHolds hullChecks rowChecks endChecks lineChecks wrongHullFrame wrongFrame wrongZones between sizesFit risingTo zonesFit headFits openingFits findingFits findingsFit rowFits
+    atTop closesGroup sameGroup sameLayer earlierGroup outOfOrder leavesOpen endsOpen frameLength placeOf hullOf headOf findingOf resultsOf digitOf pairOf pairs digitsOnly proper badlyWritten wordAt signed tabulate
 file-read = refl
 
 case-printed : report (accepted printedCase) ≡ text
 unfolding report answered answer figures partialsOf linesIn linesFrom addsFrom addsAt shareAt stands sameGroup sameLayer
     rowEnds rowOf lowest highest sumsOf withinEnds added taken QEnds mixed c d PEnds GEnds pEnds partEnds G1Ends G3Ends minus plus rounded.endsOf billionthsOf portionOf halvesOf ceil touch P p G1 G3 _⊹_ _⊛_ _less_over_
-    rowVs rowV vAt v dp survivalsOf survivalOf factorOf marksOf foundMarks s⁴ k ratioOf scaledOf roundedOf rootDown rootUp withDigits addsOf rowAdds partials attainedOf R partialMark reaches allReach verdictOf
+    rowVs rowV vAt v dp survivalsOf survivalOf factorOf unlessImmersed marksOf foundMarks s⁴ k ratioOf scaledOf roundedOf rootDown rootUp withDigits addsOf rowAdds partials attainedOf R partialMark reaches allReach verdictOf
     printed lineOf figuresFrame refusalFrame rowFrame rowLines markByte marksAt marksField endsField partialField partialsField bytes digit hex
 case-printed = refl
 

@@ -10,7 +10,7 @@ use Rattle.roots.specs.Root.{withDigits, rootDown, rootUp}
 use Rattle.solas.specs.Span.{touch, p, P}
 use Rattle.solas.specs.Penetration.{C, G1, G3, G, Q}
 use Rattle.solas.specs.Share.{within, share, rowShare}
-use Rattle.solas.specs.Survival.{k, s⁴}
+use Rattle.solas.specs.Survival.{k, s⁴, unlessImmersed}
 use Rattle.solas.proofs.Values as values
 use Rattle.solas.proofs.Survival.{is-s⁴, s⁴-not-negative, s⁴-at-most-one}
 use Rattle.numbers.specs.Ratio.{ratioOf}
@@ -23,13 +23,13 @@ none : (g t : ℕ) → s⁴ g t 3000 ≈ whole 0
 none g t = same (lit< tt) (is-shifted 0 0 (omega arith) (is-s⁴ g t 3000)) (is-nothing (lit< tt))
 
 heeled : (g t : ℕ) → gives g t 3000 0 0
-unfolding survivalOf factorOf scaledOf roundedOf ratioOf rootDown rootUp withDigits ceil _less_over_
+unfolding survivalOf factorOf unlessImmersed scaledOf roundedOf ratioOf rootDown rootUp withDigits ceil _less_over_
 heeled g t =
     let same = ends-same (none g t) (s⁴-not-negative g t 3000, s⁴-at-most-one g t 3000) in
     (ap (λ r. r .bottom) same, ap (λ r. r .top) same)
 
 pub proved-values : ProvedValues
-unfolding p P Q G touch C G1 G3 within share rowShare survivalOf factorOf s⁴ k ratioOf scaledOf roundedOf rootDown rootUp withDigits ceil _⊹_ _⊝_ _⊛_ _less_over_
+unfolding p P Q G touch C G1 G3 within share rowShare survivalOf factorOf unlessImmersed s⁴ k ratioOf scaledOf roundedOf rootDown rootUp withDigits ceil _⊹_ _⊝_ _⊛_ _less_over_
 proved-values = record {
   p-1500 = record { cross = refl };
   p-3000 = record { cross = refl };
@@ -47,4 +47,5 @@ proved-values = record {
   s-60-800-0 = (refl, refl);
   s-120-1600-2995 = (refl, refl);
   s-at-3000 = heeled;
+  s-immersed = λ n g t e. (refl, refl);
 }

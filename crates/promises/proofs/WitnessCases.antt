@@ -1,6 +1,7 @@
 -- Small cases to hold the promises against, and the answer of each, worked out: a ship of one zone, of two and of three. Assumes nothing.
 use Prim.Native.Nat.{ℕ}
 use mathlib.Core.Path.{_≡_, refl}
+use lib.IntN.{pos}
 use mathlib.Core.List.{List, [], _∷_}
 use Rattle.laws.specs.Fraction.{_less_over_, _⊹_, _⊛_}
 use Rattle.laws.specs.Rounding.{ceil}
@@ -14,7 +15,7 @@ use Rattle.solas.specs.Span.{touch, p, P}
 use Rattle.solas.specs.Penetration.{c, d, G1, G3}
 use Rattle.solas.specs.Count.{added, taken}
 use Rattle.solas.specs.Height.{v, vAt, rowV}
-use Rattle.solas.specs.Survival.{k, s⁴}
+use Rattle.solas.specs.Survival.{k, s⁴, unlessImmersed}
 use Rattle.solas.specs.Index.{dp, R, partialMark}
 use Rattle.spans.specs.Rounded as rounded
 use Rattle.spans.specs.Span.{pEnds, PEnds}
@@ -51,7 +52,7 @@ row kind a n b H results = record { head = record { kind = kind; first = a; coun
 -- survivals that are given, at the three draughts
 abbrev given : ℕ → ℕ → ℕ → List Finding
 given s p l =
-    let at : ℕ → Finding = λ n. record { lever = 0; range = 0; heel = 0; given = n } in
+    let at : ℕ → Finding = λ n. record { lever = 0; range = 0; heel = 0; opening = pos 0; given = n } in
     at s ∷ at p ∷ at l ∷ []
 
 -- the figures of an answer: those of A, As, Ap, Al
@@ -115,7 +116,7 @@ failingAnswer = figured 2 1 (ends 840000000 840000000) (ends 1000000000 10000000
 -- unsettled: R lies between bottom and top of the survival
 abbrev pub unsettled : Case
 unsettled =
-    let found : Finding = record { lever = 33; range = 341; heel = 0; given = 0 } in
+    let found : Finding = record { lever = 33; range = 341; heel = 0; opening = pos 0; given = 0 } in
     oneZone (row 2 1 1 800 18500 (found ∷ found ∷ found ∷ []) ∷ [])
 
 abbrev pub unsettledAnswer : Answer
@@ -132,7 +133,7 @@ pub record Answers : Type 0 where
 pub answers : Answers
 unfolding answer figures partialsOf addsFrom addsAt shareAt stands sameGroup sameLayer
     rowEnds rowOf lowest highest sumsOf withinEnds added taken QEnds mixed c d PEnds GEnds pEnds partEnds G1Ends G3Ends minus plus rounded.endsOf billionthsOf portionOf halvesOf ceil touch P p G1 G3 _⊹_ _⊛_ _less_over_
-    rowVs rowV vAt v dp survivalsOf survivalOf factorOf s⁴ k ratioOf scaledOf roundedOf rootDown rootUp withDigits addsOf rowAdds partials attainedOf R partialMark reaches allReach verdictOf
+    rowVs rowV vAt v dp survivalsOf survivalOf factorOf unlessImmersed s⁴ k ratioOf scaledOf roundedOf rootDown rootUp withDigits addsOf rowAdds partials attainedOf R partialMark reaches allReach verdictOf
 answers = record { of-decked = refl; of-meeting = refl; of-failing = refl; of-unsettled = refl; rising-meets = refl; raised-fails = refl }
 
 -- ---- two zones, whose pair is not listed, and three, of which nothing is listed and the middle one is longer than any damage

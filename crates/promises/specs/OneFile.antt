@@ -1,10 +1,11 @@
--- Document 01, "One file in full", with document 02's marks: what `damindex` reads and what it writes, character by character, and the case that it is. Assumes
+-- Document 01, "One file in full", with document 02's openings and marks: what `damindex` reads and what it writes, character by character, and the case that it is. Assumes
 -- nothing.
 use Prim.Native.Nat.{ℕ}
 use Prim.Native.Char.{code}
 use Prim.Native.String.{String, [] as none, _∷_ as _then_}
 use mathlib.Core.Path.{_≡_}
 use mathlib.Core.List.{List, [], _∷_, _++_}
+use lib.IntN.{pos}
 use Rattle.records.specs.declared.Finding.{Finding}
 use Rattle.casefile.specs.Record.{Row, Case}
 use Rattle.casefile.specs.Reading.{accepted, reading}
@@ -18,7 +19,7 @@ line (c then s) = code c ∷ line s
 abbrev pub file : List ℕ
 file =
     line "0126ac064017700fa00205dc"
-    ++ line "02010103204844001e01900000001e01900000001e01900000"
+    ++ line "02010103204844001e019000000000001e019000000000001e019000000000"
     ++ line "03010203204844000000000000"
     ++ line "03020103204844271027102710"
     ++ line "0f0003"
@@ -45,9 +46,9 @@ printedCase =
     record {
       hull = record { length = 9900; breadth = 1600; deepest = 6000; light = 4000; zones = 2; places = 0 ∷ 1500 ∷ 9900 ∷ 0 ∷ 0 ∷ 0 ∷ 0 ∷ 0 ∷ 0 ∷ 0 ∷ 0 ∷ 0 ∷ 0 ∷ 0 ∷ 0 ∷ 0 ∷ 0 ∷ 0 ∷ 0 ∷ 0 ∷ 0 ∷ [] };
       rows =
-          row 2 1 1 (record { lever = 30; range = 400; heel = 0; given = 0 })
-          ∷ row 3 1 2 (record { lever = 0; range = 0; heel = 0; given = 0 })
-          ∷ row 3 2 1 (record { lever = 0; range = 0; heel = 0; given = 10000 })
+          row 2 1 1 (record { lever = 30; range = 400; heel = 0; opening = pos 0; given = 0 })
+          ∷ row 3 1 2 (record { lever = 0; range = 0; heel = 0; opening = pos 0; given = 0 })
+          ∷ row 3 2 1 (record { lever = 0; range = 0; heel = 0; opening = pos 0; given = 10000 })
           ∷ [];
     }
 

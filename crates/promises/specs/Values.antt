@@ -1,6 +1,7 @@
--- Document 01, "Proved values", as one table, each line as it stands there. Assumes nothing.
+-- Document 01, "Proved values", as one table, each line as it stands there, and document 02's of an immersed opening. Assumes nothing.
 use Prim.Native.Nat.{ℕ}
 use mathlib.Core.Path.{_≡_}
+use lib.IntN.{ℤ, pos, negsuc}
 use Rattle.laws.specs.Fraction.{_over_, whole, _≈_}
 use Rattle.solas.specs.Span.{p}
 use Rattle.solas.specs.Penetration.{C, G1}
@@ -16,9 +17,12 @@ use Rattle.promises.specs.OneFile.{printedCase}
 abbrev pub printedShip : Ship
 printedShip = shipOf (printedCase .hull)
 
--- a lever, a range and a heel that were found give this bottom and top
+-- a lever, a range, a heel and an opening that were found give this bottom and top; the first three with the opening at the waterline
+abbrev pub givesOver : ℤ → ℕ → ℕ → ℕ → ℕ → ℕ → Type 0
+givesOver o g t e bottom top = let s = survivalOf 2 (record { lever = g; range = t; heel = e; opening = o; given = 0 }) in (s .bottom ≡ bottom) × (s .top ≡ top)
+
 abbrev pub gives : ℕ → ℕ → ℕ → ℕ → ℕ → Type 0
-gives g t e bottom top = let s = survivalOf 2 (record { lever = g; range = t; heel = e; given = 0 }) in (s .bottom ≡ bottom) × (s .top ≡ top)
+gives = givesOver (pos 0)
 
 pub record ProvedValues : Type 0 where
   -- "At L = 9,900: x = 1,500 gives p 35/396; x = 3,000 gives 70/297"
@@ -43,3 +47,5 @@ pub record ProvedValues : Type 0 where
   pub s-60-800-0 : gives 60 800 0 7071 7072
   pub s-120-1600-2995 : gives 120 1600 2995 1000 1000
   pub s-at-3000 : (g t : ℕ) → gives g t 3000 0 0
+  -- document 02, "Openings": "Below zero the survival is zero"
+  pub s-immersed : (n g t e : ℕ) → givesOver (negsuc n) g t e 0 0

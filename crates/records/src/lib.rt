@@ -12,11 +12,13 @@ pub struct Hull {
 }
 
 // A row's result at one draught. Kind 2: what the customer's program found, the righting lever in millimetres, its range
-// and the heel in hundredths of a degree, and given is 0. Kind 3: a given survival in ten-thousandths, the others 0.
+// and the heel in hundredths of a degree, the height of the critical opening above the final waterline in millimetres
+// (below 0 it is immersed), and given is 0. Kind 3: a given survival in ten-thousandths, the others 0.
 pub struct Finding {
     pub lever: u64,
     pub range: u64,
     pub heel: u64,
+    pub opening: i64,
     pub given: u64,
 }
 
@@ -42,11 +44,13 @@ pub struct Ratio {
     pub den: u64,
 }
 
-// What holds a survival down, yes or no: the lever is below its cap of 120, the range below its cap of 1,600, the heel above 2,500.
+// What holds a survival down, yes or no: the lever is below its cap of 120, the range below its cap of 1,600, the heel above 2,500, the
+// critical opening is immersed.
 pub struct Marks {
     pub lever: bool,
     pub range: bool,
     pub heel: bool,
+    pub opening: bool,
 }
 
 // A survival factor in ten-thousandths: the exact one is not below the bottom and not above the top. And its marks: a given one has none.

@@ -14,7 +14,7 @@ use Rattle.solas.specs.Index.{dp, attained, R}
 use Rattle.solas.proofs.Values.{printed, short}
 use Rattle.regulation.specs.Regulation.{IsRoot, Jmax, Jkn, pk, lmax, L*, b0, Jm, under√, Jk, b11, b12, b21, b22, J, Jn, p1, p2, p1or2, p, Jb, C, G1, J0, G2, G, r, pr, pi}
 use Rattle.regulation.specs.RegulationIndex as regulation
-use Rattle.regulation.specs.RegulationIndex.{millimetres, centimetres, hundredths, Numbers, Final, none, at, uppermost, vOf, held, vm}
+use Rattle.regulation.specs.RegulationIndex.{millimetres, centimetres, hundredths, Numbers, Final, Taken, none, at, uppermost, vOf, held, vm}
 
 -- a second layer, from 1.6 m to the half breadth; a first one of two zones; a second one of three zones, of which two are short
 pub rows : (rowShare printed 1 1 160 800 ≈ 45035669 over 585937500) × (pi printed (whole 1) 160 800 1 1 ≈ 45035669 over 585937500)
@@ -114,6 +114,15 @@ none-survives = record {
   fourth-root = record { cross = refl };
   product = record { cross = refl };
 }
+
+-- an opening 0.1 m under the final waterline, be the rest what it may; one at the waterline, which is not immersed yet
+pub immersed-survives-not : Taken fractions (millimetres 120) (hundredths 1600) (hundredths 0) (79 over 10) (whole 8) (whole 0)
+unfolding _less_over_
+immersed-survives-not = record { immersed = λ p. record { cross = refl }; dry = λ p. absurd (omega (arith, p .cross)) }
+
+pub dry-survives : Taken fractions (millimetres 30) (hundredths 400) (hundredths 0) (whole 8) (whole 8) (1 over 2)
+unfolding _less_over_
+dry-survives = record { immersed = λ p. absurd (omega (arith, p .cross)); dry = λ p. half-survives }
 
 -- what the cap is for: without it boundaries 12 and 14 m above the waterline and the uppermost would share more than the whole
 pub uncapped-shares-too-much : whole 1 ≺ vm none (at (whole 12)) (whole 0) ⊹ vm (at (whole 12)) (at (whole 14)) (whole 0) ⊹ vm (at (whole 14)) (uppermost (whole 15)) (whole 0)

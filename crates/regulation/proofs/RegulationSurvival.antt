@@ -1,19 +1,24 @@
--- Survival is that of the regulation: document 01's s⁴ is the fourth power of whatever 002, 2.7.3, gives for s. Assumes nothing.
-use Prim.Native.Nat.{ℕ, _-_, _*_, _^_, _≤_, _<_, min}
+-- Survival is that of the regulation: document 01's s⁴ is the fourth power of whatever 002, 2.7.3, gives for s, and nothing where 2.7.6.2 takes s as zero.
+-- Assumes nothing.
+use Prim.Native.Nat.{ℕ, suc, _-_, _*_, _^_, _≤_, _<_, min, zero-le}
 use mathlib.Core.List.{[], _∷_}
 use native.Mathlib.Nat.{mul-pos}
 use native.Mathlib.Omega.{arith}
-use lib.Dec.{lit<}
-use Rattle.laws.specs.Fraction.{Fraction, whole, Is, _≈_, lesser, _⊝_, _⊛_, _⊘_}
+use lib.Dec.{lit<, le→leb}
+use lib.IntN.{pos, negsuc}
+use lib.Signed.{leZ-yes}
+use mathlib.Core.Path.{refl}
+use Rattle.laws.specs.Fraction.{Fraction, _less_over_, whole, Is, _≈_, _≼_, _≺_, lesser, _⊝_, _⊛_, _⊘_}
 use Rattle.laws.specs.Polynomial.{X, C}
 use Rattle.laws.proofs.Choice.{split}
 use Rattle.laws.proofs.Polynomial.{pow-two}
-use Rattle.laws.proofs.Fraction.{is-over, is-whole, is-widened, is-shifted, is-recast, is-⊛, is-⊘, same, below, strictly-below}
+use Rattle.laws.proofs.Fraction.{is-over, is-whole, is-nothing, is-widened, is-shifted, is-recast, is-⊝, is-⊛, is-⊘, same, below, strictly-below}
+use Rattle.laws.proofs.FractionCompare.{difference-not-below, difference-below}
 use Rattle.laws.proofs.FractionTerm.{number, ratio, _⊝ᵗ_, also, quotient-by}
 use Rattle.laws.proofs.FractionOrder.{is-lesser}
-use Rattle.solas.specs.Survival.{s⁴}
-use Rattle.solas.proofs.Survival.{is-s⁴}
-use Rattle.regulation.specs.RegulationIndex.{millimetres, hundredths, θmin, θmax, underRoot, Numbers, square, fourth, Final}
+use Rattle.solas.specs.Survival.{s⁴, unlessImmersed}
+use Rattle.solas.proofs.Survival.{is-s⁴, lost-if-immersed, kept-if-dry, dry-not-below}
+use Rattle.regulation.specs.RegulationIndex.{millimetres, hundredths, millimetresAbove, θmin, θmax, underRoot, Numbers, square, fourth, Final, Taken}
 use Rattle.regulation.specs.OfSolasIndex.{SurvivalIs01's}
 use Rattle.regulation.proofs.Units.{is-millimetres, is-hundredths}
 
@@ -69,6 +74,11 @@ power : {q : Fraction} (g t e : ℕ) → Is q (min 500 (3000 - e)) 0 500 → q �
 power g t e h =
     same {d = 120 * 1600 * 500 ^ 2} (lit< tt) (is-shifted _ 0 (rw pow-two (omega arith)) (is-⊛ (is-⊛ h h) (is-under-root g t))) (is-s⁴ g t e)
 
+-- nothing, four times itself
+nothing-again : whole 0 ⊛ whole 0 ⊛ (whole 0 ⊛ whole 0) ≈ whole 0
+unfolding _⊛_ _less_over_
+nothing-again = record { cross = refl }
+
 module _ (N : Numbers) where
   infix 4 _≐_
   infixl 7 _·_
@@ -102,5 +112,18 @@ module _ (N : Numbers) where
       let together = same-trans (same-sym (fraction-product (q ⊛ q) (underRoot (millimetres g) (hundredths t)))) (same-fraction (power g t e quotient)) in
       same-trans (square-same N (square-same N (f .product))) (same-trans (fourth-product N (f .K) (f .root)) (same-trans parts together))
 
+  -- nothing to the fourth is nothing
+  fourth-nothing : {s : Number} → s ≐ fraction (whole 0) → fourth N s ≐ fraction (whole 0)
+  fourth-nothing z = same-trans (square-fraction N (square-fraction N z)) (same-fraction nothing-again)
+
+-- ---- the opening's lower edge and the final waterline, by how far the one is above the other
+edge-dry : (edge waterline : Fraction) (n : ℕ) → edge ⊝ waterline ≈ millimetresAbove (pos n) → waterline ≼ edge
+edge-dry edge waterline n e = difference-not-below edge waterline e (below {d = 1000} (lit< tt) (is-nothing (lit< tt)) (is-millimetres n) (omega arith))
+
+edge-immersed : (edge waterline : Fraction) (n : ℕ) → edge ⊝ waterline ≈ millimetresAbove (negsuc n) → edge ≺ waterline
+edge-immersed edge waterline n e = difference-below edge waterline e (strictly-below {d = 1000} (is-⊝ (is-nothing (lit< tt)) (is-millimetres (suc n))) (is-nothing (lit< tt)) (omega arith))
+
 pub survival-is-01's : SurvivalIs01's
-survival-is-01's N g t e s f = fourth-power N g t e f
+survival-is-01's N g t e (pos n) edge waterline s h k =
+    rw (kept-if-dry (pos n) (s⁴ g t e) (dry-not-below (pos n) .1 (leZ-yes (le→leb 0 n zero-le)))) (fourth-power N g t e (k .dry (edge-dry edge waterline n h)))
+survival-is-01's N g t e (negsuc n) edge waterline s h k = rw (lost-if-immersed (negsuc n) (s⁴ g t e) refl) (fourth-nothing N (k .immersed (edge-immersed edge waterline n h)))

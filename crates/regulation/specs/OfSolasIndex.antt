@@ -1,12 +1,13 @@
 -- What "those of SOLAS" means for dp, A, R, v and s: the regulation's formulas come to document 01's forms; and where the two part. Assumes nothing.
 use Prim.Native.Nat.{ℕ, _-_, _%_, _≤_, _<_}
 use mathlib.Core.Path.{_≡_}
-use Rattle.laws.specs.Fraction.{Fraction, _over_, whole, _≈_, _≺_}
+use lib.IntN.{ℤ}
+use Rattle.laws.specs.Fraction.{Fraction, _over_, whole, _≈_, _≺_, _⊝_}
 use Rattle.solas.specs.Height.{vAt, rowV, top}
-use Rattle.solas.specs.Survival.{s⁴}
+use Rattle.solas.specs.Survival.{s⁴, unlessImmersed}
 use Rattle.solas.specs.Index.{dp, attained, R, partialMark}
 use Rattle.regulation.specs.RegulationIndex as regulation
-use Rattle.regulation.specs.RegulationIndex.{millimetres, centimetres, hundredths, counted, uppermost, vOf, vm, Numbers, fourth, Final}
+use Rattle.regulation.specs.RegulationIndex.{millimetres, centimetres, hundredths, millimetresAbove, counted, uppermost, vOf, vm, Numbers, fourth, Taken}
 
 -- ---- draughts and indices
 abbrev pub DraughtIs01's : Type 0
@@ -65,6 +66,8 @@ pub record RowParted (H′ H d : ℕ) : Type 0 where
 abbrev pub RowsPartAbove : Type 0
 RowsPartAbove = (H′ H d : ℕ) → H′ < H → top d < H → RowParted H′ H d
 
--- ---- survival, of a lever g, a range t and a heel e, among whatever numbers its roots are found
+-- ---- survival, of a lever g, a range t and a heel e, with an opening whose lower edge is o above the final waterline, among whatever numbers its roots
+-- are found
 abbrev pub SurvivalIs01's : Type 1
-SurvivalIs01's = (N : Numbers) (g t e : ℕ) (s : N .Number) → Final N (millimetres g) (hundredths t) (hundredths e) s → N ._≐_ (fourth N s) (N .fraction (s⁴ g t e))
+SurvivalIs01's = (N : Numbers) (g t e : ℕ) (o : ℤ) (edge waterline : Fraction) (s : N .Number) → edge ⊝ waterline ≈ millimetresAbove o →
+    Taken N (millimetres g) (hundredths t) (hundredths e) edge waterline s → N ._≐_ (fourth N s) (N .fraction (unlessImmersed o (s⁴ g t e)))

@@ -1,7 +1,8 @@
--- What the regulation itself says of s, v, A, dp and R, in its own letters, in metres and degrees: document 002, 2.4.1, 2.5.1, 2.7.3 and 2.7.7,
+-- What the regulation itself says of s, v, A, dp and R, in its own letters, in metres and degrees: document 002, 2.4.1, 2.5.1, 2.7.3, 2.7.6.2 and 2.7.7,
 -- and document 003, 4.1 and section 10. Assumes nothing.
-use Prim.Native.Nat.{ℕ}
+use Prim.Native.Nat.{ℕ, suc}
 use mathlib.Core.Bool.{cond}
+use lib.IntN.{ℤ, pos, negsuc}
 use Rattle.laws.specs.Fraction.{Fraction, _over_, whole, _≈_, _≼_, _≺_, _≼?_, lesser, _⊹_, _⊝_, _⊛_, _⊘_}
 
 -- ---- the units of document 01, in metres and degrees
@@ -13,6 +14,11 @@ centimetres n = n over 100
 
 abbrev pub hundredths : ℕ → Fraction
 hundredths n = n over 100
+
+-- millimetres above something, or below it
+abbrev pub millimetresAbove : ℤ → Fraction
+millimetresAbove (pos n) = millimetres n
+millimetresAbove (negsuc n) = whole 0 ⊝ millimetres (suc n)
 
 -- ---- 003, 4.1: the light service draught plus 60% of the difference
 unfoldable pub dp : Fraction → Fraction → Fraction
@@ -113,3 +119,9 @@ module _ (N : Numbers) where
     pub heeled : θmin ≺ θe → θe ≺ θmax → square K ≐ fraction ((θmax ⊝ θe) ⊘ (θmax ⊝ θmin))
     pub fourth-root : fourth root ≐ fraction (underRoot GZmax Range)
     pub product : s ≐ K · root
+
+  -- 2.7.6.2.1: s is to be taken as zero where the final waterline immerses the lower edge of an opening through which progressive flooding may take
+  -- place; both as heights over the baseline at the opening
+  pub record Taken (GZmax Range θe edge waterline : Fraction) (s : Number) : Type 0 where
+    pub immersed : edge ≺ waterline → s ≐ fraction (whole 0)
+    pub dry : waterline ≼ edge → Final GZmax Range θe s

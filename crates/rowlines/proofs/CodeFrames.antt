@@ -49,7 +49,7 @@ module _ (bs : List ℕ) (k : ℕ) (e : k ≡ kindOf bs) where
     unfolding frameLength
     results-fit a b = rw (rest-of bs 1, length-drop 1 bs) (by (eqb k 2) refl n)
       where
-        by : (t : Bool) → eqb k 2 ≡ t → length bs ≡ cond t 25 (cond (eqb k 3) 13 3) → 6 + 3 * cond t 6 2 ≤ length bs - 1
+        by : (t : Bool) → eqb k 2 ≡ t → length bs ≡ cond t 31 (cond (eqb k 3) 13 3) → 6 + 3 * cond t 8 2 ≤ length bs - 1
         by true g m = omega arith
         by false g m =
             let other : k ≡ 2 → ⊥ = eqb-false k 2 g in

@@ -19,7 +19,7 @@ use Rattle.casefile.specs.Kept.{placeWidth, keptRow}
 pub longest-fields : (kind : ℕ) → 7 + 3 * setLength kind ≤ placeWidth
 longest-fields kind = by (eqb kind 2)
   where
-    by : (t : Bool) → 7 + 3 * cond t 6 2 ≤ placeWidth
+    by : (t : Bool) → 7 + 3 * cond t 8 2 ≤ placeWidth
     by true = omega arith
     by false = omega arith
 

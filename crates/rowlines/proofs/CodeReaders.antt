@@ -11,16 +11,16 @@ use Rattle.laws.proofs.Lists.{rest-of}
 use Rattle.records.specs.declared.Finding.{Finding}
 use Rattle.casefile.specs.Layout.{setLength, findingOf, resultsOf}
 
--- a result of either kind has a field of two bytes, and one of kind 02 has three
+-- a result of either kind has a field of two bytes, and one of kind 02 has four
 pub field-there : (kind n : ℕ) → setLength kind ≤ n → 2 ≤ n
 field-there kind n h = by (eqb kind 2) h
   where
-    by : (t : Bool) → cond t 6 2 ≤ n → 2 ≤ n
+    by : (t : Bool) → cond t 8 2 ≤ n → 2 ≤ n
     by true l = omega arith
     by false l = l
 
-pub three-there : (kind n : ℕ) → kind ≡ 2 → setLength kind ≤ n → 6 ≤ n
-three-there kind n e h = rw (eq-eqb kind 2 e) at h
+pub four-there : (kind n : ℕ) → kind ≡ 2 → setLength kind ≤ n → 8 ≤ n
+four-there kind n e h = rw (eq-eqb kind 2 e) at h
 
 -- what stands from a place on stands in the part from there to the end
 pub part-long : (f : List ℕ) (at n : ℕ) → at + n ≤ length f → n ≤ length (take (length f - at) (drop at f))

@@ -29,6 +29,7 @@ fn finding(kind: u64, f: &[u8]) -> Finding
             lever: fields::word_in(f, 0),
             range: fields::word_in(f, 2),
             heel: fields::word_in(f, 4),
+            opening: fields::signed_in(f, 6),
             given: 0,
         };
     }
@@ -36,6 +37,7 @@ fn finding(kind: u64, f: &[u8]) -> Finding
         lever: 0,
         range: 0,
         heel: 0,
+        opening: 0,
         given: fields::word_in(f, 0),
     }
 }
@@ -45,7 +47,7 @@ fn set_length(kind: u64) -> usize
     ensures { λ r. ⌜ r ≡ setLength kind ⌝ }
 {
     if kind == 2 {
-        return 6;
+        return 8;
     }
     2
 }
@@ -70,7 +72,7 @@ pub fn frame_length(kind: u64) -> usize
     ensures { λ r. ⌜ r ≡ frameLength kind ⌝ }
 {
     match kind {
-        2 => 25,
+        2 => 31,
         3 => 13,
         _ => 3,
     }

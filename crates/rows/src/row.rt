@@ -114,6 +114,7 @@ pub fn begin() -> Running
         lever: false,
         range: false,
         heel: false,
+        opening: false,
     };
     let none = Survival {
         bottom: 0,

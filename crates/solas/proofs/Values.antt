@@ -1,13 +1,14 @@
 -- Values that refuse a slip in the definitions of this crate at once; document 01's own table is crates/promises/specs/Values.antt. Assumes nothing.
 use mathlib.Core.Path.{_≡_, refl}
 use mathlib.Core.List.{[], _∷_}
+use lib.IntN.{pos, negsuc}
 use Rattle.laws.specs.Fraction.{_less_over_, _over_, whole, _⊹_, _⊝_, _⊛_, _≈_}
 use Rattle.solas.specs.Span.{touch, p, P}
 use Rattle.solas.specs.Penetration.{C, G1, G3, G, Q}
 use Rattle.solas.specs.Ship.{Ship, abutting}
 use Rattle.solas.specs.Share.{within, share, rowShare}
 use Rattle.solas.specs.Height.{v, top}
-use Rattle.solas.specs.Survival.{k, s⁴}
+use Rattle.solas.specs.Survival.{k, s⁴, unlessImmersed}
 use Rattle.solas.specs.Index.{dp, draughts, attained, R}
 
 -- the hull of "One file in full": two zones that meet at 1,500
@@ -109,6 +110,11 @@ s⁴-capped = record { cross = refl }
 pub s⁴-heeled : s⁴ 120 1600 2750 ≈ 1 over 4
 unfolding s⁴ k _⊛_ _less_over_
 s⁴-heeled = record { cross = refl }
+
+-- an opening at the final waterline, a millimetre above it and one below
+pub openings : (unlessImmersed (pos 0) (whole 1) ≡ whole 1) × (unlessImmersed (pos 1) (whole 1) ≡ whole 1) × (unlessImmersed (negsuc 0) (whole 1) ≡ whole 0)
+unfolding unlessImmersed
+openings = (refl, refl, refl)
 
 -- the three draughts, in the order deepest, partial, light
 draughts-in-order : draughts 6000 4000 ≡ 6000 ∷ 5200 ∷ 4000 ∷ []

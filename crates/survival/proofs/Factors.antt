@@ -1,25 +1,30 @@
--- Ten-thousandths of a fourth root: 10¹⁶ times a fraction in thirds, its bounds, and survivals kind by kind. Assumes nothing.
+-- Ten-thousandths of a fourth root: 10¹⁶ times a fraction in thirds, its bounds, and survivals kind by kind, with a dry opening and with an immersed one.
+-- Assumes nothing.
 use Prim.Native.Nat.{ℕ, _+_, _*_, _/_, _^_, _≤_, _<_}
 use mathlib.Core.Bool.{Bool, true, false, cond}
-use mathlib.Core.Path.{_≡_, refl, ap}
+use mathlib.Core.Path.{_≡_, refl, ap, sym, _∙_}
 use native.Mathlib.Nat.{div-le-of-le-mul, mul-le-mul-left}
 use native.Mathlib.Omega.{arith}
 use lib.Dec.{eqb, lit<}
 use borrow.Author.Tests.{eq-eqb, ne-eqb}
+use Rattle.laws.specs.Fraction.{whole}
 use Rattle.laws.specs.Rounding.{ceil}
 use Rattle.laws.proofs.Equal.{same-floor, same-ceil}
+use Rattle.laws.proofs.Fraction.{is-whole, below}
 use Rattle.laws.proofs.Rounding.{ceil-least, floor-not-above-ceil, ceil-near-floor}
 use Rattle.records.specs.declared.Finding.{Finding}
-use Rattle.solas.specs.Survival.{s⁴}
-use Rattle.solas.proofs.Survival.{s⁴-not-negative, s⁴-at-most-one}
+use Rattle.records.specs.declared.Marks.{Marks}
+use Rattle.solas.specs.Survival.{s⁴, immersed}
+use Rattle.solas.proofs.Survival.{s⁴-not-negative, s⁴-at-most-one, lost-if-immersed, kept-if-dry, either-way}
 use Rattle.numbers.specs.Ratio.{ratioOf}
 use Rattle.survival.specs.Caps.{Capped}
 use Rattle.survival.specs.Marks.{foundMarks, unmarked, marksOf}
-use Rattle.survival.specs.Survival.{root, given, Sensible, factorOf, scaledOf, roundedOf, marked, survivalOf}
+use Rattle.survival.specs.Survival.{root, given, fourthOf, Sensible, factorOf, scaledOf, roundedOf, marked, survivalOf}
 use Rattle.records.specs.declared.Ratio.{Ratio}
 use Rattle.survival.specs.declared.finding.Multiple.{Multiple}
 use Rattle.survival.specs.declared.finding.Roots.{Roots}
 use Rattle.survival.proofs.Ratios.{caps-positive}
+use Rattle.survival.proofs.Values.{none}
 
 -- ---- 10¹⁶ times n/d in thirds, where d goes into 3·10¹⁶
 module _ (t n d : ℕ) (e : t * d ≡ 3 * 10 ^ 16) (hd : 0 < d) where
@@ -65,15 +70,33 @@ unfolding survivalOf factorOf marksOf
 as-given kind f e = rw (eq-eqb kind 3 e) refl
 
 pub as-found : (kind : ℕ) (f : Finding) → (kind ≡ 3 → ⊥) →
-    survivalOf kind f ≡ marked (roundedOf (ratioOf (s⁴ (f .lever) (f .range) (f .heel)))) (foundMarks (f .lever) (f .range) (f .heel))
+    survivalOf kind f ≡ marked (roundedOf (ratioOf (fourthOf f))) (foundMarks (f .lever) (f .range) (f .heel) (f .opening))
 unfolding survivalOf factorOf marksOf
 as-found kind f n = rw (ne-eqb kind 3 n) refl
+
+pub as-lost : (kind : ℕ) (f : Finding) → (kind ≡ 3 → ⊥) → immersed (f .opening) ≡ true →
+    survivalOf kind f ≡ marked (record { bottom = 0; top = 0 }) (foundMarks (f .lever) (f .range) (f .heel) (f .opening))
+as-lost kind f n i = as-found kind f n ∙ rw (lost-if-immersed (f .opening) (s⁴ (f .lever) (f .range) (f .heel)) i, none) refl
+
+pub as-dry : (kind : ℕ) (f : Finding) → (kind ≡ 3 → ⊥) → immersed (f .opening) ≡ false →
+    survivalOf kind f ≡ marked (roundedOf (ratioOf (s⁴ (f .lever) (f .range) (f .heel)))) (foundMarks (f .lever) (f .range) (f .heel) (f .opening))
+as-dry kind f n i = as-found kind f n ∙ rw (kept-if-dry (f .opening) (s⁴ (f .lever) (f .range) (f .heel)) i) refl
+
+-- what the marks say of the opening is so
+pub opening-told : (f : Finding) (b : Bool) {m : Marks} → m ≡ foundMarks (f .lever) (f .range) (f .heel) (f .opening) → m .opening ≡ b → immersed (f .opening) ≡ b
+unfolding foundMarks
+opening-told f b e h = sym (ap (λ n. n .opening) e) ∙ h
 
 -- what was found and what is given are from 0 to 1
 pub found-sensible : (kind : ℕ) (f : Finding) → f .given ≤ 10 ^ 4 → Sensible (factorOf kind f)
 unfolding factorOf
 found-sensible kind f h = chosen (eqb kind 3)
   where
-    chosen : (b : Bool) → Sensible (cond b (given (f .given)) (root (s⁴ (f .lever) (f .range) (f .heel))))
+    zero : Sensible (root (whole 0))
+    zero = (below {d = 1} (lit< tt) (is-whole 0 (lit< tt)) (is-whole 0 (lit< tt)) (omega arith), below {d = 1} (lit< tt) (is-whole 0 (lit< tt)) (is-whole 1 (lit< tt)) (omega arith))
+
+    chosen : (b : Bool) → Sensible (cond b (given (f .given)) (root (fourthOf f)))
     chosen true = h
-    chosen false = (s⁴-not-negative (f .lever) (f .range) (f .heel), s⁴-at-most-one (f .lever) (f .range) (f .heel))
+    chosen false =
+        either-way (f .opening) (s⁴ (f .lever) (f .range) (f .heel)) (λ x. Sensible (root x)) zero
+        (s⁴-not-negative (f .lever) (f .range) (f .heel), s⁴-at-most-one (f .lever) (f .range) (f .heel))

@@ -1,26 +1,28 @@
 -- What the marks tell: caps kept, s⁴ of one, a bottom of one and a top of one are one thing, and no mark says it. Assumes nothing.
 use Prim.Native.Nat.{ℕ, _-_, _*_, _^_, _≤_, min}
-use mathlib.Core.Bool.{Bool, false}
+use mathlib.Core.Bool.{Bool, true, false}
 use mathlib.Core.Logic.{_↔_}
-use mathlib.Core.Path.{_≡_, refl, ap, _∙_}
+use mathlib.Core.Path.{_≡_, refl, ap, sym, _∙_}
 use native.Mathlib.Nat.{mul-le-mul, pow-le-pow-left}
 use native.Mathlib.Omega.{arith}
 use lib.Dec.{lit<}
+use lib.IntN.{ℤ, pos}
+use lib.Signed.{_≤ℤ_}
 use borrow.Author.Tests.{ltb-false, le-ltb}
 use Rattle.laws.specs.Fraction.{whole, _≈_}
 use Rattle.laws.proofs.Choice.{split}
-use Rattle.laws.proofs.Fraction.{is-one, is-whole, same, below-across}
-use Rattle.laws.proofs.FractionCompare.{is-times}
+use Rattle.laws.proofs.Fraction.{is-one, is-whole, same, below-across, ≈-refl, ≈-sym, ≼-of-≈}
+use Rattle.laws.proofs.FractionCompare.{across-below, is-times}
 use Rattle.records.specs.declared.Finding.{Finding}
 use Rattle.records.specs.declared.Marks.{Marks}
-use Rattle.solas.specs.Survival.{s⁴}
-use Rattle.solas.proofs.Survival.{is-s⁴, s⁴-not-negative, s⁴-at-most-one}
+use Rattle.solas.specs.Survival.{s⁴, immersed}
+use Rattle.solas.proofs.Survival.{is-s⁴, s⁴-not-negative, s⁴-at-most-one, immersed-below, dry-not-below, lost-if-immersed, kept-if-dry}
 use Rattle.survival.specs.Marks.{foundMarks, unmarked}
-use Rattle.survival.specs.Survival.{Factor, root, ends, Sensible, survivalOf}
-use Rattle.survival.specs.Telling.{Found, IsOne, withLever, withRange, withHeel, OneExactlyWhenUnmarked, OneMarkAlone, OthersStillHold, GivenIsUnmarked}
+use Rattle.survival.specs.Survival.{Factor, root, ends, fourthOf, Sensible, survivalOf}
+use Rattle.survival.specs.Telling.{Found, IsOne, withLever, withRange, withHeel, withOpening, OneExactlyWhenUnmarked, OneMarkAlone, OthersStillHold, OpeningDecides, GivenIsUnmarked}
 -- checked first, so that a definition that gives another number is refused there
 use Rattle.survival.proofs.Values.{edges, nearly, one}
-use Rattle.survival.proofs.Factors.{as-given, as-found}
+use Rattle.survival.proofs.Factors.{as-given, as-found, as-lost, as-dry}
 use Rattle.survival.proofs.Bounds.{top-is, ends-same, ends-ordered, ends-at-most}
 
 -- lever, range and heel keep their caps
@@ -67,10 +69,22 @@ module _ (g t e : ℕ) where
       (λ q. absurd (below-cap (factors {a = 120} {b = 1599} {c = 500} (omega arith) (omega arith) (omega arith)))))
       (λ p. absurd (below-cap (omega (arith, factors {a = 119} {b = 1600} {c = 500} (omega arith) (omega arith) (omega arith)))))
 
+-- nothing is not one
+zero-not-one : whole 0 ≈ whole 1 → ⊥
+zero-not-one h = omega (arith, across-below (is-whole 1 {d = 1} (lit< tt)) (is-whole 0 {d = 1} (lit< tt)) (≼-of-≈ (≈-sym h)))
+
+-- dry openings have the same marks, wherever they are
+same-marks : (f : Finding) (o : ℤ) → immersed (f .opening) ≡ false → immersed o ≡ false →
+    foundMarks (f .lever) (f .range) (f .heel) o ≡ foundMarks (f .lever) (f .range) (f .heel) (f .opening)
+unfolding foundMarks
+same-marks f o h k = rw (h, k) refl
+
 -- ---- of a survival that was found
 module _ (kind : ℕ) (f : Finding) (n : Found kind) where
-  abbrev KeptOf : Type 0
-  KeptOf = Kept (f .lever) (f .range) (f .heel)
+  -- the caps are kept, and the opening is dry
+  record KeptDry : Type 0 where
+    caps : Kept (f .lever) (f .range) (f .heel)
+    dry : immersed (f .opening) ≡ false
 
   lever-kept : (survivalOf kind f .marks .lever ≡ false) ↔ (120 ≤ f .lever)
   unfolding foundMarks
@@ -84,26 +98,50 @@ module _ (kind : ℕ) (f : Finding) (n : Found kind) where
   unfolding foundMarks
   heel-kept = rw (as-found kind f n) (ltb-false 2500 (f .heel), le-ltb 2500 (f .heel))
 
-  unmarked-kept : (survivalOf kind f .marks ≡ unmarked) ↔ KeptOf
+  -- the opening's mark is whether it is immersed
+  opening-marked : survivalOf kind f .marks .opening ≡ immersed (f .opening)
+  unfolding foundMarks
+  opening-marked = ap (λ s. s .marks .opening) (as-found kind f n)
+
+  unmarked-kept : (survivalOf kind f .marks ≡ unmarked) ↔ KeptDry
   unmarked-kept = (
-    λ m. record { lever = lever-kept .0 (ap (λ m. m .lever) m); range = range-kept .0 (ap (λ m. m .range) m); heel = heel-kept .0 (ap (λ m. m .heel) m) },
-    λ h. none (lever-kept .1 (h .lever)) (range-kept .1 (h .range)) (heel-kept .1 (h .heel)),
+    λ m. record {
+      caps = record { lever = lever-kept .0 (ap (λ m. m .lever) m); range = range-kept .0 (ap (λ m. m .range) m); heel = heel-kept .0 (ap (λ m. m .heel) m) };
+      dry = sym opening-marked ∙ ap (λ m. m .opening) m;
+    },
+    λ h. none (lever-kept .1 (h .caps .lever)) (range-kept .1 (h .caps .range)) (heel-kept .1 (h .caps .heel)) (opening-marked ∙ h .dry),
   )
     where
-      none : {a b c : Bool} → a ≡ false → b ≡ false → c ≡ false → _≡_ {A = Marks} (record { lever = a; range = b; heel = c }) unmarked
-      none p q r = cc
+      none : {a b c d : Bool} → a ≡ false → b ≡ false → c ≡ false → d ≡ false → _≡_ {A = Marks} (record { lever = a; range = b; heel = c; opening = d }) unmarked
+      none p q r s = cc
 
-  kept-one : KeptOf → IsOne (survivalOf kind f)
-  kept-one h = rw (as-found kind f n) (exact-ends (f .lever) (f .range) (f .heel) (kept-exact (f .lever) (f .range) (f .heel) h))
+  kept-one : KeptDry → IsOne (survivalOf kind f)
+  kept-one h = rw (as-dry kind f n (h .dry)) (exact-ends (f .lever) (f .range) (f .heel) (kept-exact (f .lever) (f .range) (f .heel) (h .caps)))
 
-  one-kept : survivalOf kind f .top ≡ 10 ^ 4 → KeptOf
-  one-kept = rw (as-found kind f n) (top-kept (f .lever) (f .range) (f .heel))
+  -- where something is not zero that an immersed opening makes zero, the opening is dry
+  dry-by : {A : Type 0} → (immersed (f .opening) ≡ true → ⊥) → (immersed (f .opening) ≡ false → A) → A
+  dry-by {A} lost dry = by (immersed (f .opening)) refl
+    where
+      by : (b : Bool) → immersed (f .opening) ≡ b → A
+      by true e = absurd (lost e)
+      by false e = dry e
+
+  one-kept : survivalOf kind f .top ≡ 10 ^ 4 → KeptDry
+  one-kept h =
+      dry-by (λ i. omega (arith, rw (as-lost kind f n i) at h))
+      (λ d. record { caps = top-kept (f .lever) (f .range) (f .heel) (rw (as-dry kind f n d) at h); dry = d })
 
   one-both : survivalOf kind f .bottom ≡ 10 ^ 4 → survivalOf kind f .top ≡ 10 ^ 4
-  one-both = rw (as-found kind f n) (bottom-top (f .lever) (f .range) (f .heel))
+  one-both h =
+      dry-by (λ i. omega (arith, rw (as-lost kind f n i) at h))
+      (λ d. rw (as-dry kind f n d) (bottom-top (f .lever) (f .range) (f .heel) (rw (as-dry kind f n d) at h)))
 
-  exact-kept : (s⁴ (f .lever) (f .range) (f .heel) ≈ whole 1) ↔ KeptOf
-  exact-kept = (λ h. top-kept (f .lever) (f .range) (f .heel) (exact-ends (f .lever) (f .range) (f .heel) h .1), kept-exact (f .lever) (f .range) (f .heel))
+  exact-kept : (fourthOf f ≈ whole 1) ↔ KeptDry
+  exact-kept = (
+    λ h. dry-by (λ i. zero-not-one (rw (lost-if-immersed (f .opening) _ i) at h))
+        (λ d. record { caps = top-kept (f .lever) (f .range) (f .heel) (exact-ends (f .lever) (f .range) (f .heel) (rw (kept-if-dry (f .opening) _ d) at h) .1); dry = d }),
+    λ h. rw (kept-if-dry (f .opening) (s⁴ (f .lever) (f .range) (f .heel)) (h .dry)) (kept-exact (f .lever) (f .range) (f .heel) (h .caps)),
+  )
 
 pub one-exactly-when-unmarked : OneExactlyWhenUnmarked
 one-exactly-when-unmarked =
@@ -113,30 +151,54 @@ one-exactly-when-unmarked =
       exact = λ kind f n. (λ h. unmarked-kept kind f n .1 (exact-kept kind f n .0 h), λ m. exact-kept kind f n .1 (unmarked-kept kind f n .0 m));
     }
 
--- ---- with another lever, range or heel
+-- ---- with another lever, range, heel or opening
 pub one-mark-alone : OneMarkAlone
 one-mark-alone =
     record {
       lever = λ kind f n m g. (
-        λ h. one-kept kind (withLever g f) n (h .1) .lever,
-        λ p. kept-one kind (withLever g f) n (record { lever = p; range = range-kept kind f n .0 (ap (λ m. m .range) m); heel = heel-kept kind f n .0 (ap (λ m. m .heel) m) }),
+        λ h. one-kept kind (withLever g f) n (h .1) .caps .lever,
+        λ p. kept-one kind (withLever g f) n (record { caps = record { lever = p; range = range-kept kind f n .0 (ap (λ m. m .range) m); heel = heel-kept kind f n .0 (ap (λ m. m .heel) m) }; dry = dry-in kind f n m }),
       );
       range = λ kind f n m t. (
-        λ h. one-kept kind (withRange t f) n (h .1) .range,
-        λ p. kept-one kind (withRange t f) n (record { lever = lever-kept kind f n .0 (ap (λ m. m .lever) m); range = p; heel = heel-kept kind f n .0 (ap (λ m. m .heel) m) }),
+        λ h. one-kept kind (withRange t f) n (h .1) .caps .range,
+        λ p. kept-one kind (withRange t f) n (record { caps = record { lever = lever-kept kind f n .0 (ap (λ m. m .lever) m); range = p; heel = heel-kept kind f n .0 (ap (λ m. m .heel) m) }; dry = dry-in kind f n m }),
       );
       heel = λ kind f n m e. (
-        λ h. one-kept kind (withHeel e f) n (h .1) .heel,
-        λ p. kept-one kind (withHeel e f) n (record { lever = lever-kept kind f n .0 (ap (λ m. m .lever) m); range = range-kept kind f n .0 (ap (λ m. m .range) m); heel = p }),
+        λ h. one-kept kind (withHeel e f) n (h .1) .caps .heel,
+        λ p. kept-one kind (withHeel e f) n (record { caps = record { lever = lever-kept kind f n .0 (ap (λ m. m .lever) m); range = range-kept kind f n .0 (ap (λ m. m .range) m); heel = p }; dry = dry-in kind f n m }),
+      );
+      opening = λ kind f n m o. (
+        λ h. dry-not-below o .0 (one-kept kind (withOpening o f) n (h .1) .dry),
+        λ p. kept-one kind (withOpening o f) n (record { caps = record { lever = lever-kept kind f n .0 (ap (λ m. m .lever) m); range = range-kept kind f n .0 (ap (λ m. m .range) m); heel = heel-kept kind f n .0 (ap (λ m. m .heel) m) }; dry = dry-not-below o .1 p }),
       );
     }
+  where
+    dry-in : (kind : ℕ) (f : Finding) (n : Found kind) {l r h : Bool} → survivalOf kind f .marks ≡ record { lever = l; range = r; heel = h; opening = false } → immersed (f .opening) ≡ false
+    dry-in kind f n m = sym (opening-marked kind f n) ∙ ap (λ m. m .opening) m
 
 pub others-still-hold : OthersStillHold
 others-still-hold =
     record {
-      lever = λ kind f n g h. let k = one-kept kind (withLever g f) n h in (range-kept kind f n .1 (k .range), heel-kept kind f n .1 (k .heel));
-      range = λ kind f n t h. let k = one-kept kind (withRange t f) n h in (lever-kept kind f n .1 (k .lever), heel-kept kind f n .1 (k .heel));
-      heel = λ kind f n e h. let k = one-kept kind (withHeel e f) n h in (lever-kept kind f n .1 (k .lever), range-kept kind f n .1 (k .range));
+      lever = λ kind f n g h. let k = one-kept kind (withLever g f) n h in (range-kept kind f n .1 (k .caps .range), heel-kept kind f n .1 (k .caps .heel), opening-marked kind f n ∙ k .dry);
+      range = λ kind f n t h. let k = one-kept kind (withRange t f) n h in (lever-kept kind f n .1 (k .caps .lever), heel-kept kind f n .1 (k .caps .heel), opening-marked kind f n ∙ k .dry);
+      heel = λ kind f n e h. let k = one-kept kind (withHeel e f) n h in (lever-kept kind f n .1 (k .caps .lever), range-kept kind f n .1 (k .caps .range), opening-marked kind f n ∙ k .dry);
+      opening = λ kind f n o h. let k = one-kept kind (withOpening o f) n h in (lever-kept kind f n .1 (k .caps .lever), range-kept kind f n .1 (k .caps .range), heel-kept kind f n .1 (k .caps .heel));
+    }
+
+-- ---- an immersed opening, and dry ones
+pub opening-decides : OpeningDecides
+opening-decides =
+    record {
+      marked = λ kind f n. (λ m. immersed-below (f .opening) .0 (sym (opening-marked kind f n) ∙ m), λ l. opening-marked kind f n ∙ immersed-below (f .opening) .1 l);
+      lost = λ kind f n l.
+          let i = immersed-below (f .opening) .1 l in
+          let s = as-lost kind f n i in
+          (ap (λ s. s .bottom) s, ap (λ s. s .top) s, rw (lost-if-immersed (f .opening) (s⁴ (f .lever) (f .range) (f .heel)) i) (≈-refl (whole 0)));
+      dry = λ kind f o n p q.
+          let here = dry-not-below (f .opening) .1 p in
+          let there = dry-not-below o .1 q in
+          let s = s⁴ (f .lever) (f .range) (f .heel) in
+          (as-dry kind (withOpening o f) n there ∙ rw (same-marks f o here there) (sym (as-dry kind f n here)), rw (kept-if-dry o s there, kept-if-dry (f .opening) s here) (≈-refl s));
     }
 
 pub given-is-unmarked : GivenIsUnmarked

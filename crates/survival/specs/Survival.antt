@@ -1,8 +1,10 @@
--- Document 01, "Height and survival": what a survival is exactly, its bottom and top in ten-thousandths, and document 02's marks with them. Assumes nothing.
+-- Document 01, "Height and survival": what a survival is exactly, its bottom and top in ten-thousandths, and document 02's openings and marks with them.
+-- Assumes nothing.
 use Prim.Native.Nat.{ℕ, _*_, _/_, _^_, _≤_}
 use mathlib.Core.Bool.{cond}
 use mathlib.Core.List.{List, [], _∷_}
 use lib.Dec.{eqb}
+use lib.IntN.{pos}
 use lib.ListN.{getD}
 use Rattle.laws.specs.Fraction.{Fraction, _over_, whole, _≼_, _⊛_}
 use Rattle.laws.specs.Rounding.{ceil}
@@ -10,7 +12,7 @@ use Rattle.roots.specs.Root.{rootDown, rootUp}
 use Rattle.records.specs.declared.Finding.{Finding}
 use Rattle.records.specs.declared.Marks.{Marks}
 use Rattle.records.specs.declared.Survival.{Survival}
-use Rattle.solas.specs.Survival.{s⁴}
+use Rattle.solas.specs.Survival.{s⁴, unlessImmersed}
 use Rattle.numbers.specs.Ratio.{ratioOf}
 use Rattle.records.specs.declared.Ratio.{Ratio}
 use Rattle.survival.specs.declared.finding.Multiple.{Multiple}
@@ -22,9 +24,13 @@ pub data Factor : Type 0 where
   root : Fraction → Factor
   given : ℕ → Factor
 
+-- the exact s⁴ of what was found: that of lever, range and heel, or zero
+abbrev pub fourthOf : Finding → Fraction
+fourthOf f = unlessImmersed (f .opening) (s⁴ (f .lever) (f .range) (f .heel))
+
 -- a row of kind 3 has given survival, any other that of its finding
 unfoldable pub factorOf : ℕ → Finding → Factor
-factorOf kind f = cond (eqb kind 3) (given (f .given)) (root (s⁴ (f .lever) (f .range) (f .heel)))
+factorOf kind f = cond (eqb kind 3) (given (f .given)) (root (fourthOf f))
 
 unfoldable pub scaledOf : Ratio → Multiple
 scaledOf f = record { down = 10 ^ 16 * f .num / f .den; up = ceil (10 ^ 16 * f .num) (f .den) }
@@ -81,7 +87,7 @@ NotBelow (given n) x = tenThousandths n ≼ x
 
 -- ---- a row's three results
 abbrev pub nothing : Finding
-nothing = record { lever = 0; range = 0; heel = 0; given = 0 }
+nothing = record { lever = 0; range = 0; heel = 0; opening = pos 0; given = 0 }
 
 -- past the third draught
 abbrev pub noSurvival : Survival

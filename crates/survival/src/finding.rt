@@ -1,4 +1,5 @@
-// The survival of a row's results: s⁴ as one fraction, from it the bottom and the top in ten-thousandths, and the marks.
+// The survival of a row's results: s⁴ as one fraction, from it the bottom and the top in ten-thousandths, and the marks; nothing of it is left
+// where an opening is immersed.
 use numbers::ceiling;
 use records::Finding;
 use records::Marks;
@@ -8,7 +9,7 @@ use roots::root_down;
 use roots::root_up;
 ghost use mathlib.Core.Path.{_≡_};
 ghost use Prim.Native.Nat.{_*_, _^_, min};
-ghost use Rattle.solas.specs.Survival.{k, s⁴};
+ghost use Rattle.solas.specs.Survival.{k, s⁴, immersed};
 ghost use Rattle.numbers.specs.Ratio.{ratioOf};
 ghost use Rattle.survival.specs.Caps.{Capped, OfCaps};
 ghost use Rattle.survival.specs.Marks.{foundMarks};
@@ -66,7 +67,7 @@ fn heel_factor(heel: u64) -> Ratio
     }
 }
 
-// s⁴ of what was found.
+// s⁴ of lever, range and heel.
 fn fourth(f: Finding) -> Ratio
     ensures { λ r. ⌜ r ≡ ratioOf (s⁴ (f .lever) (f .range) (f .heel)) ⌝ }
 {
@@ -114,18 +115,26 @@ fn rounded(f: Ratio) -> Roots
     Roots { bottom, top }
 }
 
-// What holds the survival of what was found down: lever and range below their caps, the heel above that from which k falls.
+// Whether an opening at a height above the final waterline in millimetres is immersed: at 0 it is not yet.
+fn is_immersed(opening: i64) -> bool
+    ensures { λ r. ⌜ r ≡ immersed opening ⌝ }
+{
+    opening < 0
+}
+
+// What holds the survival of what was found down: lever and range below their caps, the heel above that from which k falls, an immersed opening.
 fn marks(f: Finding) -> Marks
-    ensures { λ r. ⌜ r ≡ foundMarks (f .lever) (f .range) (f .heel) ⌝ }
+    ensures { λ r. ⌜ r ≡ foundMarks (f .lever) (f .range) (f .heel) (f .opening) ⌝ }
 {
     Marks {
         lever: f.lever < LEVER,
         range: f.range < RANGE,
         heel: UPRIGHT < f.heel,
+        opening: is_immersed(f.opening),
     }
 }
 
-// The survival of a row of kind 2 from what was found, of kind 3 as it is given, with no mark.
+// The survival of a row of kind 2 from what was found, zero where the opening is immersed; of kind 3 as it is given, with no mark.
 pub fn survival(kind: u64, f: Finding) -> Survival
     ensures { λ r. ⌜ r ≡ survivalOf kind f ⌝ }
 {
@@ -135,6 +144,7 @@ pub fn survival(kind: u64, f: Finding) -> Survival
             lever: false,
             range: false,
             heel: false,
+            opening: false,
         };
         return Survival {
             bottom: s,
@@ -142,8 +152,15 @@ pub fn survival(kind: u64, f: Finding) -> Survival
             marks,
         };
     }
-    let s = rounded(fourth(f));
     let marks = marks(f);
+    if marks.opening {
+        return Survival {
+            bottom: 0,
+            top: 0,
+            marks,
+        };
+    }
+    let s = rounded(fourth(f));
     Survival {
         bottom: s.bottom,
         top: s.top,

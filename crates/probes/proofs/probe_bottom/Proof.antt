@@ -1,6 +1,8 @@
 -- `probes::probe_bottom` gives the survival's bottom. Assumes nothing.
 use borrow.Author.Needs.{needs}
 use mathlib.Core.Path.{ap}
+use mir.Syntax.{w64}
+use mir.ValLaws.{toZ-ofZ}
 use Rattle.records.specs.declared.Survival.{Survival}
 use Rattle.probes.proofs.probe_bottom.Statement.{statement}
 use Rattle.probes.proofs.probe_bottom.Tie as tie
@@ -9,7 +11,7 @@ survival-requires : tie.Need-survival-requires
 survival-requires c κs = search needs
 
 returns : tie.Need-returns
-returns c = ap (λ (s : Survival). s .bottom) (c .survival .ensures)
+returns c = rw (toZ-ofZ w64 (c .before .args .opening) (c .before .fits .opening)) at (ap (λ (s : Survival). s .bottom) (c .survival .ensures))
 
 pub probe-bottom-spec : {M : Type 1} → statement M
 probe-bottom-spec = tie.close (tie.spec survival-requires returns)

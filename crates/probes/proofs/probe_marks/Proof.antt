@@ -1,6 +1,8 @@
 -- `probes::probe_marks` gives the byte of the survival's marks. Assumes nothing.
 use borrow.Author.Needs.{needs}
 use mathlib.Core.Path.{_∙_, ap}
+use mir.Syntax.{w64}
+use mir.ValLaws.{toZ-ofZ}
 use Rattle.records.specs.declared.Survival.{Survival}
 use Rattle.printing.specs.Marks.{markByte}
 use Rattle.probes.proofs.probe_marks.Statement.{statement}
@@ -13,7 +15,9 @@ mark-byte-requires : tie.Need-mark-byte-requires
 mark-byte-requires c κs = search needs
 
 returns : tie.Need-returns
-returns c = c .mark-byte .ensures ∙ ap (λ (s : Survival). markByte (s .marks)) (c .before .survival .ensures)
+returns c =
+    let a = c .before .before in
+    rw (toZ-ofZ w64 (a .args .opening) (a .fits .opening)) at (c .mark-byte .ensures ∙ ap (λ (s : Survival). markByte (s .marks)) (c .before .survival .ensures))
 
 pub probe-marks-spec : {M : Type 1} → statement M
 probe-marks-spec = tie.close (tie.spec survival-requires mark-byte-requires returns)

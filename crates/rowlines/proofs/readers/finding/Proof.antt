@@ -1,24 +1,40 @@
 -- `finding` meets its contract. Assumes nothing.
-use mathlib.Core.Path.{refl}
+use mathlib.Core.Path.{_≡_, refl}
+use mir.Syntax.{w64}
+use mir.Val.{toZ, ofZ}
+use mir.ValLaws.{toZ-ofZ}
 use borrow.Author.Tests.{eq-eqb, ne-eqb}
 use Rattle.casefile.specs.Layout.{findingOf}
 use native.Mathlib.Omega.{arith}
-use Rattle.rowlines.proofs.CodeReaders.{field-there, three-there}
+use Rattle.rowlines.proofs.CodeReaders.{field-there, four-there}
 use Rattle.rowlines.proofs.readers.finding.Statement.{statement}
 use Rattle.rowlines.proofs.readers.finding.Tie as tie
 
 word-in-requires : tie.Need-word-in-requires
-word-in-requires c κs = omega (arith, three-there _ _ (c .if1 .taken) (c .before .before .pre))
+word-in-requires c κs = omega (arith, four-there _ _ (c .if1 .taken) (c .before .before .pre))
 
 word-in-requires-2 : tie.Need-word-in-requires-2
-word-in-requires-2 c κs = omega (arith, three-there _ _ (c .before .if1 .taken) (c .before .before .before .pre))
+word-in-requires-2 c κs = omega (arith, four-there _ _ (c .before .if1 .taken) (c .before .before .before .pre))
 
 word-in-requires-3 : tie.Need-word-in-requires-3
-word-in-requires-3 c κs = omega (arith, three-there _ _ (c .before .before .if1 .taken) (c .before .before .before .before .pre))
+word-in-requires-3 c κs = omega (arith, four-there _ _ (c .before .before .if1 .taken) (c .before .before .before .before .pre))
+
+signed-in-requires : tie.Need-signed-in-requires
+signed-in-requires c κs = omega (arith, four-there _ _ (c .before .before .before .if1 .taken) (c .before .before .before .before .before .pre))
 
 returns : tie.Need-returns
 unfolding findingOf
-returns c = rw (eq-eqb _ _ (c .before .before .before .if1 .taken), c .word-in3 .ensures .0, c .before .word-in2 .ensures .0, c .before .before .word-in .ensures .0) refl
+returns c =
+    let o = c .signed-in .result in
+    let back : toZ w64 (ofZ w64 o) ≡ o = toZ-ofZ w64 o (record { sfits = c .signed-in .ok }) in
+    rw (
+      eq-eqb _ _ (c .before .before .before .before .if1 .taken),
+      back,
+      c .signed-in .ensures,
+      c .before .word-in3 .ensures .0,
+      c .before .before .word-in2 .ensures .0,
+      c .before .before .before .word-in .ensures .0,
+    ) refl
 
 word-in-requires-4 : tie.Need-word-in-requires-4
 word-in-requires-4 c κs = omega (arith, field-there (c .before .before .args .kind) _ (c .before .before .pre))
@@ -34,6 +50,7 @@ finding-spec =
     word-in-requires
     word-in-requires-2
     word-in-requires-3
+    signed-in-requires
     returns
     word-in-requires-4
     returns-2)

@@ -96,7 +96,7 @@ def seeded_heights(dice, hull, count):
 
 
 def mixed_figures(dice, hull):
-    """Results at three draughts, or given survivals, many of them at a cap or a limit."""
+    """Lever, range and heel at three draughts, or given survivals, many of them at a cap or a limit."""
     if dice.one_in(3):
         return tuple(dice.pick((0, 1, 9999, 10000)) if dice.one_in(3) else dice.below(10001) for _ in range(3))
     figures = ()
@@ -109,14 +109,14 @@ def mixed_figures(dice, hull):
 
 
 def mild_figures(dice, hull):
-    """Results that most ships would be glad of."""
+    """Levers, ranges and heels, or given survivals, that most ships would be glad of."""
     if dice.one_in(3):
         return tuple(dice.between(5000, 10000) for _ in range(3))
     return tuple(figure for _ in range(3) for figure in (dice.between(60, 150), dice.between(800, 2000), dice.between(0, 2600)))
 
 
 def marked_figures(dice, hull):
-    """A survival next to the required index, given or from a result."""
+    """A survival next to the required index, given or from lever and range."""
     over, under = Figures(hull, []).required()
     mark = 10000 * over // under
     lever = dice.between(1, 120)

@@ -39,10 +39,12 @@ def changed_figures(words, figures):
 
 
 def unsigned(figure):
+    """The two bytes of a figure as a number without a sign."""
     return figure % 65536
 
 
 def signed(figure):
+    """The same bytes in two's complement."""
     return figure - 65536 if figure >= 32768 else figure
 
 
@@ -50,7 +52,6 @@ changed_figures("the opening stands before the lever",
                 lambda right: sum(((unsigned(right[at + 3]), right[at], right[at + 1], signed(right[at + 2])) for at in (0, 4, 8)), ()))
 changed_figures("the openings stand after the three results",
                 lambda right: sum((tuple(map(unsigned, right[3 * at:3 * at + 3])) + (signed(right[9 + at]),) for at in range(3)), ()))
-
 
 
 class Without(Line):

@@ -78,7 +78,7 @@ def row_numbers():
     yield accepted("height-1", case_file(twenty, group(twenty, 2, 1, heights=(1,))), "a row at H = 1")
     yield accepted("height-60000", last(Row(2, 1, 1000, 60000, CERTAIN)), "a row at H = 60000")
     yield accepted("results-at-the-most", last(Row(2, 1, 1000, 20500, (5000, 9000, 9000, 30000) * 3)),
-                   "lever 5000, range 9000, heel 9000 and opening 30,000 at each draught")
+                   "lever 5000, range 9000, heel 9000 and opening 30000 at each draught")
     yield accepted("survivals-at-the-most", last(Row(2, 1, 1000, 20500, CERTAIN)), "given survival 10,000 at each draught")
     for place, name in enumerate(("lever", "range", "heel") * 3):
         value, draught, at = 5001 if name == "lever" else 9001, ("ds", "dp", "dl")[place // 3], place + place // 3

@@ -13,10 +13,10 @@ HIGHEST = 60_000
 
 
 class Height(NamedTuple):
-    """One row of a layer: its H, and three results or three given survivals."""
+    """One row of a layer: its H, and three results (lever, range, heel, opening) or three given survivals."""
 
     H: int
-    results: Optional[Tuple[Tuple[int, int, int], ...]] = None
+    results: Optional[Tuple[Tuple[int, int, int, int], ...]] = None
     given: Optional[Tuple[int, int, int]] = None
 
 
@@ -109,14 +109,21 @@ def random_groups(chooser, places):
 
 
 def near_result(chooser, L):
-    """A result whose survival is close to R, so that verdicts are hard to settle."""
+    """Lever, range and heel whose survival is close to R, so that verdicts are hard to settle."""
     wanted = R(Fraction(L, 100)) ** 4 * 120 * 1_600
     lever = chooser.randint(int(wanted / 1_600) + 1, 120)
     return (lever, round(wanted / lever), chooser.randint(0, 2_500))
 
 
-def random_result(chooser, L, way):
-    """A draught's result: anything, a good one, one close to R, or one at an edge."""
+def random_opening(chooser, way):
+    """A draught's opening: dry beside a result close to R, else now and then immersed, some just so and some deep."""
+    if way != "near" and chooser.randrange(6) == 0:
+        return -edge_or_any(chooser, (1, 2, 30_000), 1, 30_000)
+    return edge_or_any(chooser, (0, 1, 30_000), 0, 30_000)
+
+
+def random_curve(chooser, L, way):
+    """A draught's lever, range and heel: anything, good ones, those of a survival close to R, or each at an edge."""
     if way == "any":
         return (chooser.randint(0, 5_000), chooser.randint(0, 9_000), chooser.randint(0, 9_000))
     if way == "good":
@@ -134,7 +141,7 @@ def random_height(chooser, L, H, way):
     """A row of a layer, of either kind."""
     if way == "given" or (way != "near" and chooser.randrange(5) == 0):
         return Height(H, given=tuple(edge_or_any(chooser, (0, 1, 9_999, 10_000), 0, 10_000) for _ in range(3)))
-    return Height(H, results=tuple(random_result(chooser, L, way) for _ in range(3)))
+    return Height(H, results=tuple((*random_curve(chooser, L, way), random_opening(chooser, way)) for _ in range(3)))
 
 
 def random_layer(chooser, L, ds, b, count, way):
@@ -190,9 +197,9 @@ def with_given(survival, H=HIGHEST):
 
 
 def built_ships():
-    """Extreme cases: the widest row, the fewest and most rows, the thinnest zones, and each verdict at its edge."""
-    whole = with_results((120, 1_600, 2_500))
-    odd = with_results((67, 179, 0))
+    """Extreme cases: the widest row, the fewest and most rows, the thinnest zones, each verdict at its edge, and openings about the waterline."""
+    whole = with_results((120, 1_600, 2_500, 0))
+    odd = with_results((67, 179, 0, 0))
     thin = tuple(range(1, 11)) + tuple(range(8_000 - 9, 8_000))
     yield Ship("no rows", 8_000, 1_000, 1_000, 500, (), ())
     yield Ship("meets, one zone", 8_000, 1_000, 1_000, 1_000, (), (Group(1, 1, (Layer(500, (whole,)),)),))
@@ -211,10 +218,29 @@ def built_ships():
         (Group(1, 2, tuple(Layer(b, (odd,)) for b in (*range(1, 500), 3_000))),))
     yield Ship(
         "five hundred heights", 19_800, 6_000, 30_000, 500, (6_600,),
-        (Group(1, 1, (Layer(3_000, tuple(with_results((67, 179, 0), H) for H in range(42_001, 42_501))),)),))
+        (Group(1, 1, (Layer(3_000, tuple(with_results((67, 179, 0, 0), H) for H in range(42_001, 42_501))),)),))
     yield Ship(
         "all groups, all survive", 19_799, 5_998, 30_000, 500, tuple(987 * i for i in range(1, 20)),
         every_group(20, (Layer(77, (whole,)), Layer(2_999, (with_given(10_000),)))))
     yield Ship(
         "all groups, none quite", 13_331, 2_222, 7_000, 3_000, tuple(666 * i for i in range(1, 20)),
-        every_group(20, (Layer(40, (with_results((119, 1_599, 2_501)),)), Layer(1_111, (odd,)))))
+        every_group(20, (Layer(40, (with_results((119, 1_599, 2_501, 0)),)), Layer(1_111, (odd,)))))
+    yield from ships_with_openings(whole, odd)
+
+
+def ships_with_openings(whole, odd):
+    """Openings immersed in every row, at one draught of three, in a row of no weight, in every other row and in one layer of two."""
+    under = with_results((120, 1_600, 2_500, -1))
+    yield Ship("every opening immersed", 8_000, 1_000, 1_000, 500, (), (Group(1, 1, (Layer(500, (under,)),)),))
+    for draught in range(3):
+        results = tuple((120, 1_600, 2_500, -1 if j == draught else 0) for j in range(3))
+        yield Ship(f"opening immersed at draught {draught + 1}", 8_000, 1_000, 1_000, 500, (), (Group(1, 1, (Layer(500, (Height(HIGHEST, results),)),)),))
+    yield Ship(
+        "unsettled over an immersed row", 10_400, 1_000, 1_000, 500, (),
+        (Group(1, 1, (Layer(500, (under._replace(H=500), odd)),)),))
+    yield Ship(
+        "five hundred rows, every other one immersed", 19_800, 6_000, 30_000, 500, (6_600,),
+        (Group(1, 1, (Layer(3_000, tuple((odd, under)[H % 2]._replace(H=H) for H in range(42_001, 42_501))),)),))
+    yield Ship(
+        "all groups, the inner layer immersed", 19_799, 5_998, 30_000, 500, tuple(987 * i for i in range(1, 20)),
+        every_group(20, (Layer(77, (whole,)), Layer(2_999, (under,)))))

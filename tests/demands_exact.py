@@ -8,8 +8,8 @@ from independent import letters
 
 ROOT_SCALE = 10**24
 WEIGHTS = (Fraction(2, 5), Fraction(2, 5), Fraction(1, 5))
-BEST = (Fraction(5), Fraction(90), Fraction(0))           # the best lever, range and heel that a result may have
-CAPS = (Fraction(12, 100), Fraction(16), Fraction(25))  # those from which on they leave survival as it is
+BEST = (Fraction(5), Fraction(90), Fraction(0), Fraction(30))        # the best lever, range, heel and opening that a result may have
+CAPS = (Fraction(12, 100), Fraction(16), Fraction(25), Fraction(0))  # those from which on they leave survival as it is
 
 
 class Bracket(NamedTuple):
@@ -20,22 +20,23 @@ class Bracket(NamedTuple):
 
 
 class Held(NamedTuple):
-    """Of lever, range and heel, which keep survival below one beside the best others, and which make it one when brought to their cap; and whether
-    it is one."""
+    """Of lever, range, heel and opening, which keep survival below one beside the best others, and which make it one when brought to their cap;
+    and whether it is one."""
 
-    by: Tuple[bool, bool, bool]
-    mended: Tuple[bool, bool, bool]
+    by: Tuple[bool, bool, bool, bool]
+    mended: Tuple[bool, bool, bool, bool]
     is_one: bool
 
 
 class Exact(NamedTuple):
-    """Row shares, chances by draught, A, As, Ap, Al and their marks, what holds each row's survivals down, and whether every exposed group is
+    """Row shares, chances by draught, A, As, Ap, Al and their marks, each row's survivals, what holds them down, and whether every exposed group is
     listed."""
 
     shares: Tuple[Fraction, ...]
     chances: Tuple[Fraction, ...]
     figures: Tuple[Bracket, ...]
     marks: Tuple[Fraction, ...]
+    survivals: Tuple[Tuple[Bracket, ...], ...]
     held: Tuple[Tuple[Optional[Held], ...], ...]
     all_listed: bool
 
@@ -77,9 +78,9 @@ def fourth_root(fraction):
 
 
 def in_metres(result):
-    """A result's lever in metres, its range and heel in degrees."""
-    lever, reach, heel = result
-    return Fraction(lever, 1_000), Fraction(reach, 100), Fraction(heel, 100)
+    """A result's lever in metres, its range and heel in degrees, its opening in metres."""
+    lever, reach, heel, opening = result
+    return Fraction(lever, 1_000), Fraction(reach, 100), Fraction(heel, 100), Fraction(opening, 1_000)
 
 
 def survival(height, draught):
@@ -95,8 +96,8 @@ def held(height, draught):
     if height.given:
         return None
     result = in_metres(height.results[draught])
-    alone = [BEST[:at] + result[at:at + 1] + BEST[at + 1:] for at in range(3)]
-    brought = [result[:at] + CAPS[at:at + 1] + result[at + 1:] for at in range(3)]
+    alone = [BEST[:at] + result[at:at + 1] + BEST[at + 1:] for at in range(4)]
+    brought = [result[:at] + CAPS[at:at + 1] + result[at + 1:] for at in range(4)]
     return Held(tuple(letters.s_fourth(*one) < 1 for one in alone), tuple(letters.s_fourth(*one) == 1 for one in brought),
                 letters.s_fourth(*result) == 1)
 
@@ -119,7 +120,7 @@ def exact_figures(ship):
     spans = Spans(ship)
     ds, dl = Fraction(ship.ds), Fraction(ship.dl)
     draughts = (ds, dl + 3 * (ds - dl) / 5, dl)
-    shares, holding, chances, lows, highs = [], [], [Fraction(0)] * 3, [Fraction(0)] * 3, [Fraction(0)] * 3
+    shares, survivals, holding, chances, lows, highs = [], [], [], [Fraction(0)] * 3, [Fraction(0)] * 3, [Fraction(0)] * 3
     for group in ship.groups:
         b_before = 0
         for layer in group.layers:
@@ -128,10 +129,10 @@ def exact_figures(ship):
             below = 0
             for height in layer.heights:
                 shares.append(share)
+                survivals.append(tuple(survival(height, draught) for draught in range(3)))
                 holding.append(tuple(held(height, draught) for draught in range(3)))
-                for j, draught in enumerate(draughts):
+                for j, (draught, root) in enumerate(zip(draughts, survivals[-1])):
                     chance = share * chance_of_height(height.H, below, draught)
-                    root = survival(height, j)
                     chances[j] += chance
                     lows[j] += chance * root.low
                     highs[j] += chance * root.high
@@ -143,4 +144,4 @@ def exact_figures(ship):
     required = letters.R(Fraction(ship.L, 100))
     return Exact(
         tuple(shares), tuple(chances), (attained, *partials), (required, required / 2, required / 2, required / 2),
-        tuple(holding), every_exposed_group_is_listed(ship, spans))
+        tuple(survivals), tuple(holding), every_exposed_group_is_listed(ship, spans))

@@ -84,7 +84,7 @@ static void rows_of_a_file(void) {
 static void constants(void) {
     static const uint64_t sizes[] = {DAMINDEX_LONGEST_INPUT, DAMINDEX_LONGEST_REPORT, DAMINDEX_LONGEST_SHEET,
                                      DAMINDEX_FIGURES, DAMINDEX_ROW_NUMBERS, DAMINDEX_LONGEST_ROWS};
-    static const uint64_t marks[] = {DAMINDEX_LOW_LEVER, DAMINDEX_LOW_RANGE, DAMINDEX_HIGH_HEEL};
+    static const uint64_t marks[] = {DAMINDEX_LOW_LEVER, DAMINDEX_LOW_RANGE, DAMINDEX_HIGH_HEEL, DAMINDEX_IMMERSED_OPENING};
     for (size_t i = 0; i < sizeof sizes / sizeof *sizes; i++) tell(sizes[i]);
     for (size_t i = 0; i < sizeof marks / sizeof *marks; i++) tell(marks[i]);
 }

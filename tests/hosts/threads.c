@@ -47,13 +47,14 @@ static void take_answer(const struct file *file, struct answer *answer) {
     answer->length = damindex_report(file->bytes, file->length, answer->report, sizeof answer->report);
 }
 
-/* Whether the text has the marks of the rows' numbers: a byte below 8, in two digits, at each draught. */
+/* Whether the text has the marks of the rows' numbers: a byte below 16, in two digits, at each draught. */
 static int same_marks(const struct answer *answer) {
     size_t rows = answer->numbers / DAMINDEX_ROW_NUMBERS;
     if (rows != answer->figures[DAMINDEX_ROWS] || answer->length != (answer->figures[DAMINDEX_NUMBER] ? 9 : FIRST_LINE + ROW_LINE * rows)) return 0;
     for (size_t at = 0; at < 3 * rows; at++) {
         const uint8_t *digits = answer->report + FIRST_LINE + ROW_LINE * (at / 3) + MARKS + 2 * (at % 3);
-        if (digits[0] != '0' || digits[1] != '0' + answer->rows[3 * at + 2]) return 0;
+        uint64_t marks = answer->rows[3 * at + 2];
+        if (marks > 15 || digits[0] != '0' || digits[1] != "0123456789abcdef"[marks]) return 0;
     }
     return 1;
 }

@@ -5,6 +5,7 @@ import random
 import struct
 import subprocess
 import sys
+from itertools import product
 from pathlib import Path
 
 HERE = Path(__file__).resolve().parent
@@ -24,8 +25,10 @@ from linking import linked  # noqa: E402
 
 PLACES = 21  # of a hull record: 0, the inner bulkheads, Ls, and zeros after it
 MOST = 2**64 - 1
+LOWEST, HIGHEST = -2**63, 2**63 - 1  # an opening has a sign
 LEVERS, RANGES = (0, 1, 60, 118, 119, 120, 121, 5000), (0, 1, 800, 1598, 1599, 1600, 1601, 9000)
 HEELS = (0, 1, 2499, 2500, 2501, 2750, 2999, 3000, 3001, 9000)
+OPENINGS, FAR = (-30000, -1, 0, 1, 30000), (LOWEST, LOWEST + 1, -2**32, -65536, -30001, 30001, 65535, 2**32, HIGHEST)
 
 
 def near(dice, edges, most):
@@ -33,21 +36,28 @@ def near(dice, edges, most):
     return dice.randint(0, most) if dice.random() < 0.5 else max(dice.choice(edges) + dice.randint(-2, 2), 0)
 
 
+def near_opening(dice):
+    """An opening about the final waterline, at a limit, anywhere within its limits, or far outside of them; most of them dry."""
+    way = dice.randrange(10)
+    if way < 6:
+        return dice.choice((0, 1, 30000, dice.randint(0, 30000)))
+    return dice.choice(FAR) if way == 6 else dice.choice((-1, -2, dice.randint(-300, 300), dice.randint(-30000, 30000)))
+
+
 def survivals(dice, count):
     """Results at every cap and limit, near them and over their whole limits, and given survivals with whatever stands beside them."""
-    for lever in LEVERS:
-        for reach in RANGES:
-            for heel in HEELS:
-                yield 2, lever, reach, heel, 0
+    for lever, reach, heel, opening in product(LEVERS, RANGES, HEELS, OPENINGS + FAR):
+        yield 2, lever, reach, heel, opening, 0
     for _ in range(count):
         yield (2, near(dice, LEVERS, dice.choice((130, 5000))), near(dice, RANGES, dice.choice((1700, 9000))),
-               near(dice, HEELS, dice.choice((3100, 9000))), dice.choice((0, 10000)))
-    for kind in (0, 1, 2, 4, MOST):  # whatever is not kind 3 has lever, range and heel, as large as numbers are
+               near(dice, HEELS, dice.choice((3100, 9000))), near_opening(dice), dice.choice((0, 10000)))
+    for kind in (0, 1, 2, 4, MOST):  # whatever is not kind 3 has lever, range, heel and opening, as large as numbers are
         for three in ((MOST, 1600, 2500), (120, MOST, 2500), (120, 1600, MOST), (MOST, MOST, MOST), (119, 1600, 2500), (0, 0, 2501)):
-            yield kind, *three, 10000
+            for opening in OPENINGS + FAR:
+                yield kind, *three, opening, 10000
     for given in [0, 1, 119, 1599, 2501, 9999, 10000] + [dice.randint(0, 10000) for _ in range(count // 10)]:
-        yield 3, 0, 0, 0, given
-        yield 3, dice.choice(LEVERS), dice.choice(RANGES), dice.choice(HEELS), given
+        yield 3, 0, 0, 0, 0, given
+        yield 3, dice.choice(LEVERS), dice.choice(RANGES), dice.choice(HEELS), dice.choice(OPENINGS + FAR), given
 
 
 def heights(dice, count):
@@ -121,8 +131,8 @@ def share_expected(numbers, asked):
     return 1, *(share_ends(hull, row) if row_is_within(row, hull) and before <= b else (0, 0))
 
 
-def survival_expected(kind, lever, reach, heel, given):
-    row = Row(1, 1, 1, 1, None, (given,) * 3) if kind == 3 else Row(1, 1, 1, 1, (Result(lever, reach, heel),) * 3, None)
+def survival_expected(kind, lever, reach, heel, opening, given):
+    row = Row(1, 1, 1, 1, None, (given,) * 3) if kind == 3 else Row(1, 1, 1, 1, (Result(lever, reach, heel, opening),) * 3, None)
     ends, marks = row_survival(row, 0)
     return *ends, mark_byte(marks)
 
@@ -137,13 +147,14 @@ def judgement_expected(data):
 
 
 def numbers(values):
-    return struct.pack("<%dQ" % len(values), *values)
+    """Numbers of eight bytes, those below zero in two's complement."""
+    return struct.pack("<%dQ" % len(values), *(value % 2**64 for value in values))
 
 
 def questions(dice, wanted):
     """Each question in words, as the host reads it, and the numbers that it must answer."""
     for asked in survivals(dice, wanted.survivals):
-        yield "survival of kind %d, lever %d, range %d, heel %d, given %d" % asked, b"s" + numbers(asked), survival_expected(*asked)
+        yield "survival of kind %d, lever %d, range %d, heel %d, opening %d, given %d" % asked, b"s" + numbers(asked), survival_expected(*asked)
     for asked in heights(dice, wanted.heights):
         yield "v of a row from %d to %d at draught %d" % asked, b"v" + numbers(asked), height_expected(*asked)
     for hull, row in rows(Dice(wanted.seed), wanted.rows):

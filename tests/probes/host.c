@@ -1,26 +1,37 @@
 /* Answers questions about single figures of the proved crates, many in one process.
  *
- * A question is a letter and what `asking.h` says of its numbers and files:
- *   s kind lever range heel given   -> bottom top marks
- *   v below height draught          -> v
- *   j file                          -> number line rows
- *   q hull (26 numbers) a n b' b    -> rows lower upper */
+ * A question is a letter and what `asking.h` says of its numbers and files; an opening comes in two's complement:
+ *   s kind lever range heel opening given   -> bottom top marks
+ *   v below height draught                  -> v
+ *   j file                                  -> number line rows
+ *   q hull (26 numbers) a n b' b            -> rows lower upper */
 #include "asking.h"
+#include <string.h>
 
-uint64_t probe_bottom(uint64_t kind, uint64_t lever, uint64_t range, uint64_t heel, uint64_t given);
-uint64_t probe_top(uint64_t kind, uint64_t lever, uint64_t range, uint64_t heel, uint64_t given);
-uint64_t probe_marks(uint64_t kind, uint64_t lever, uint64_t range, uint64_t heel, uint64_t given);
+uint64_t probe_bottom(uint64_t kind, uint64_t lever, uint64_t range, uint64_t heel, int64_t opening, uint64_t given);
+uint64_t probe_top(uint64_t kind, uint64_t lever, uint64_t range, uint64_t heel, int64_t opening, uint64_t given);
+uint64_t probe_marks(uint64_t kind, uint64_t lever, uint64_t range, uint64_t heel, int64_t opening, uint64_t given);
 uint64_t probe_height(uint64_t below, uint64_t height, uint64_t draught);
 uint64_t probe_number(const uint8_t *input, size_t length);
 uint64_t probe_line(const uint8_t *input, size_t length);
 uint64_t probe_rows(const uint8_t *input, size_t length);
 size_t probe_shares(const uint64_t *hull, size_t numbers, const uint64_t *rows, size_t fields, uint64_t *out, size_t room);
 
+/* A number with a sign, from the same eight bytes. */
+static int64_t ask_signed(void) {
+    uint64_t n = ask();
+    int64_t with_sign;
+    memcpy(&with_sign, &n, sizeof with_sign);
+    return with_sign;
+}
+
 static void survival(void) {
-    uint64_t kind = ask(), lever = ask(), range = ask(), heel = ask(), given = ask();
-    tell(probe_bottom(kind, lever, range, heel, given));
-    tell(probe_top(kind, lever, range, heel, given));
-    tell(probe_marks(kind, lever, range, heel, given));
+    uint64_t kind = ask(), lever = ask(), range = ask(), heel = ask();
+    int64_t opening = ask_signed();
+    uint64_t given = ask();
+    tell(probe_bottom(kind, lever, range, heel, opening, given));
+    tell(probe_top(kind, lever, range, heel, opening, given));
+    tell(probe_marks(kind, lever, range, heel, opening, given));
 }
 
 static void height(void) {

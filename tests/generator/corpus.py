@@ -62,7 +62,7 @@ def unsound(output):
         return "a row's ends are more than 32 apart"
     if any(width > (100000 + 40 * rows if rows else 0) for width in apart[0]):
         return "an index's ends are more than 100,000 + 40 a row apart"
-    if any(len(three) != 3 or max(three) > 7 for three in marks_in(output)):
+    if any(len(three) != 3 or max(three) > 15 for three in marks_in(output)):
         return "a row has no three bytes of marks"
     return None
 

@@ -1,4 +1,4 @@
-"""The generator's own reading of the figures: shares, heights, survivals, marks and the verdict, each rule a method that can be broken."""
+"""The generator's own reading of the figures: shares, heights, survivals, openings, marks and the verdict, each rule a method that can be broken."""
 
 BILLION = 10 ** 9
 FULL_HEIGHT = 916500
@@ -14,7 +14,7 @@ def up(value, by):
 
 
 class Figures:
-    """Document 01's figures of one case; low and high always travel as a pair."""
+    """The figures of one case by documents 01 and 02; low and high always travel as a pair."""
 
     cap_lever, cap_range = 120, 1600
 
@@ -169,11 +169,20 @@ class Figures:
         """k as a fraction over 500 squared."""
         return 250000 if heel <= 2500 else 0 if heel >= 3000 else (3000 - heel) ** 2
 
+    def result(self, row, draught):
+        """Lever, range, heel and opening at draught 0, 1 or 2."""
+        return row.figures[4 * draught:4 * draught + 4]
+
+    def immersed(self, opening):
+        return opening < 0
+
     def survival(self, row, draught):
         """Bottom and top in ten-thousandths at draught 0, 1 or 2."""
         if len(row.figures) == 3:
             return row.figures[draught], row.figures[draught]
-        lever, reach, heel = row.figures[3 * draught:3 * draught + 3]
+        lever, reach, heel, opening = self.result(row, draught)
+        if self.immersed(opening):
+            return 0, 0
         over = 10 ** 16 * min(lever, self.cap_lever) * min(reach, self.cap_range) * self.heeled(heel)
         under = 120 * 1600 * 250000
         return self.root(over, under)
@@ -190,19 +199,19 @@ class Figures:
 
     # what holds a survival down
 
-    def marked(self, lever, reach, heel):
-        """Yes or no to lever, range and heel."""
-        return lever < 120, reach < 1600, heel > 2500
+    def marked(self, lever, reach, heel, opening):
+        """Yes or no to lever, range, heel and opening."""
+        return lever < 120, reach < 1600, heel > 2500, opening < 0
 
-    def added_up(self, lever, reach, heel):
-        """Three answers as one byte."""
-        return sum(one for one, held in ((1, lever), (2, reach), (4, heel)) if held)
+    def added_up(self, lever, reach, heel, opening):
+        """Four answers as one byte."""
+        return sum(one for one, held in ((1, lever), (2, reach), (4, heel), (8, opening)) if held)
 
     def marks_at(self, row, draught):
         """The byte of a row's marks at draught 0, 1 or 2; a given survival has none."""
         if len(row.figures) == 3:
             return 0
-        return self.added_up(*self.marked(*row.figures[3 * draught:3 * draught + 3]))
+        return self.added_up(*self.marked(*self.result(row, draught)))
 
     def row_marks(self):
         """Three bytes for each row."""

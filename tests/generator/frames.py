@@ -27,7 +27,7 @@ class Hull(NamedTuple):
 
 
 class Row(NamedTuple):
-    """A row: nine figures make it kind 02, three make it kind 03."""
+    """A row: twelve figures, lever, range, heel and opening at each draught, make it kind 02, three given survivals kind 03."""
 
     a: int
     n: int
@@ -37,8 +37,8 @@ class Row(NamedTuple):
 
 
 def number(value, size):
-    """A number as hexadecimal of so many bytes, the high byte first."""
-    return value.to_bytes(size, "big").hex()
+    """A number as hexadecimal of so many bytes, the high byte first; below zero in two's complement."""
+    return value.to_bytes(size, "big", signed=value < 0).hex()
 
 
 def pairs(values):
@@ -53,7 +53,7 @@ def hull_line(hull, zones=None):
 
 
 def row_line(row):
-    kind = "02" if len(row.figures) == 9 else "03"
+    kind = {12: "02", 3: "03"}[len(row.figures)]
     return kind + number(row.a, 1) + number(row.n, 1) + pairs((row.b, row.h) + tuple(row.figures))
 
 

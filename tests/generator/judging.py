@@ -26,24 +26,36 @@ class Line:
     def field(self, at):
         return int.from_bytes(self.frame[at:at + 2], "big")
 
+    def opening(self, at):
+        """A field in two's complement."""
+        return int.from_bytes(self.frame[at:at + 2], "big", signed=True)
+
     def bulkheads(self):
         return tuple(self.field(at) for at in range(10, len(self.frame), 2))
 
+    def figures(self):
+        """The numbers after H; three results have an opening each, as their fourth."""
+        places = range(7, len(self.frame), 2)
+        if len(places) != 12:
+            return tuple(self.field(at) for at in places)
+        return tuple(self.opening(at) if at in (13, 21, 29) else self.field(at) for at in places)
+
     def row(self):
         """The row that the line holds."""
-        return Row(self.frame[1], self.frame[2], self.field(3), self.field(5),
-                   tuple(self.field(at) for at in range(7, len(self.frame), 2)))
+        return Row(self.frame[1], self.frame[2], self.field(3), self.field(5), self.figures())
 
 
 class Judging:
-    """Document 01's refusals; a slip is a subclass that breaks one method or the order."""
+    """The refusals of documents 01 and 02; a slip is a subclass that breaks one method, the order or the reading of a line."""
 
+    reads = Line
     longest = 32768
     most_rows = 500
     order = (10, 2, 3, 4, 5, 6, 7, 8, 9)
-    lengths = {2: 25, 3: 13, 15: 3}
+    lengths = {2: 31, 3: 13, 15: 3}
     rise = 12500
-    row_limits = ((5000, 9000, 9000), (10000,))
+    row_limits = ((5000, 9000, 9000, 30000), (10000,))
+    lowest = -30000  # of an opening, the one figure that can be below zero
 
     def refusal(self, data):
         """The number and line of a refused file, nothing for an accepted one."""
@@ -60,7 +72,7 @@ class Judging:
         lines = self.lines(data)
         hull, rows, ended = None, [], False
         for number, (text, closed) in enumerate(lines, 1):
-            line = Line(number, text, closed, hull, rows, ended)
+            line = self.reads(number, text, closed, hull, rows, ended)
             for refusal in self.order:
                 if self.holds(refusal, line):
                     raise Refused(refusal, self.line_of(refusal, number))
@@ -138,9 +150,9 @@ class Judging:
         if not line.is_row:
             return False
         row, hull = line.row(), line.hull
-        limits = self.row_limits[0 if len(row.figures) == 9 else 1]
+        limits = self.row_limits[0 if len(row.figures) == 12 else 1]
         return (self.group_outside(row, hull) or not 1 <= row.b <= hull.half or not 1 <= row.h <= 60000
-                or any(figure > limits[at % len(limits)] for at, figure in enumerate(row.figures)))
+                or any(not self.lowest <= figure <= limits[at % len(limits)] for at, figure in enumerate(row.figures)))
 
     def group_outside(self, row, hull):
         return row.a < 1 or row.n < 1 or row.a + row.n - 1 > hull.zones

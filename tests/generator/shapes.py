@@ -5,8 +5,23 @@ from .frames import Hull, Row
 
 PRINTED = Hull(9900, 1600, 6000, 4000, (1500,))
 FOUR = Hull(12000, 2000, 8000, 5000, (2000, 5000, 9000))
-SAFE = (120, 1600, 0) * 3
-LOST = (0, 0, 3000) * 3
+DRY = (0, 1, 30000)  # an opening for each draught: at the final waterline, just above it, and as high as can be
+
+
+def with_openings(figures, openings):
+    """Lever, range and heel at the three draughts, each with its opening; given survivals as they are."""
+    if len(figures) == 3:
+        return tuple(figures)
+    return sum((tuple(figures[3 * at:3 * at + 3]) + (opening,) for at, opening in enumerate(openings)), ())
+
+
+def dry(figures):
+    """Results with openings that are not immersed."""
+    return with_openings(figures, DRY)
+
+
+SAFE = dry((120, 1600, 0) * 3)
+LOST = dry((0, 0, 3000) * 3)
 CERTAIN = (10000, 10000, 10000)
 NONE = (0, 0, 0)
 
@@ -111,6 +126,19 @@ def marked_figures(dice, hull):
     return (lever, reach, 0) * 3
 
 
+def seeded_opening(dice, immersed):
+    """An opening below the final waterline or not, many of them at it or at a limit."""
+    if immersed:
+        return dice.pick((-1, -1, -2, -30000)) if dice.one_in(2) else -dice.between(1, 3000)
+    return dice.pick((0, 0, 1, 30000)) if dice.one_in(2) else dice.between(0, 3000)
+
+
+def seeded_openings(dice, rows):
+    """The rows with their openings: in half of the ships all of them dry, in the others most."""
+    count = dice.pick((0, 0, 6, 20))  # one in so many is immersed
+    return [row._replace(figures=with_openings(row.figures, [seeded_opening(dice, count and dice.one_in(count)) for _ in range(3)])) for row in rows]
+
+
 def seeded_rows(dice, hull, most):
     """Closed groups in order, at most so many rows."""
     listed = groups_of(hull, dice.pick((1, 2, 3, hull.zones, hull.zones)))
@@ -127,7 +155,7 @@ def seeded_rows(dice, hull, most):
         if len(rows) + len(more) > most:
             break
         rows += more
-    return rows
+    return seeded_openings(dice, rows)
 
 
 def seeded_case(dice, most=60, zones=None):

@@ -1,4 +1,4 @@
-"""An independent program for document 01's case files, in whole numbers and exact fractions."""
+"""An independent program for the case files of documents 01 and 02, in whole numbers and exact fractions."""
 
 from .answering import Answer, answer, answer_to_case
 from .casefile import Case, Hull, Refusal, Result, Row, reading

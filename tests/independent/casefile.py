@@ -1,4 +1,4 @@
-"""The case file of document 01: from bytes to a case, or to a refusal's number and line."""
+"""The case file of documents 01 and 02: from bytes to a case, or to a refusal's number and line."""
 
 from typing import NamedTuple, Optional, Tuple
 
@@ -10,7 +10,7 @@ MOST_ZONES = 20
 ABOVE_DEEPEST = 12_500  # a layer's top lies this far above ds
 
 HULL, LEVER_ROW, GIVEN_ROW, END = 0x01, 0x02, 0x03, 0x0F
-LENGTHS = {LEVER_ROW: 25, GIVEN_ROW: 13, END: 3}
+LENGTHS = {LEVER_ROW: 31, GIVEN_ROW: 13, END: 3}
 
 
 class Refusal(NamedTuple):
@@ -35,11 +35,12 @@ class Hull(NamedTuple):
 
 
 class Result(NamedTuple):
-    """One draught's lever, range and heel."""
+    """One draught's lever, range and heel, and the height of its critical opening above the final waterline."""
 
     lever: int
     reach: int
     heel: int
+    opening: int
 
 
 class Row(NamedTuple):
@@ -93,6 +94,12 @@ def two_bytes(frame, at):
     return 256 * frame[at] + frame[at + 1]
 
 
+def two_bytes_signed(frame, at):
+    """Openings: a number of two bytes in two's complement, the high byte first."""
+    number = two_bytes(frame, at)
+    return number - 65_536 if number >= 32_768 else number
+
+
 # The hull
 
 
@@ -121,13 +128,23 @@ def hull_of(frame):
 # Rows and end
 
 
+def result_of(frame, at):
+    """Openings: one draught's result, the opening after the heel."""
+    lever, reach, heel = (two_bytes(frame, at + field) for field in (0, 2, 4))
+    return Result(lever, reach, heel, two_bytes_signed(frame, at + 6))
+
+
 def row_of(frame):
     """The case file: the fields of a row frame of either kind."""
     a, n, b, H = frame[1], frame[2], two_bytes(frame, 3), two_bytes(frame, 5)
     if frame[0] == LEVER_ROW:
-        results = tuple(Result(*(two_bytes(frame, 7 + 6 * j + field) for field in (0, 2, 4))) for j in range(3))
-        return Row(a, n, b, H, results, None)
+        return Row(a, n, b, H, tuple(result_of(frame, 7 + 8 * j) for j in range(3)), None)
     return Row(a, n, b, H, None, tuple(two_bytes(frame, 7 + 2 * j) for j in range(3)))
+
+
+def result_is_within(result):
+    """Refusal 7: the limits of a result's numbers."""
+    return result.lever <= 5_000 and result.reach <= 9_000 and result.heel <= 9_000 and -30_000 <= result.opening <= 30_000
 
 
 def row_is_within(row, hull):
@@ -138,7 +155,7 @@ def row_is_within(row, hull):
         and row.a + row.n - 1 <= len(hull.zones)
         and 1 <= row.b <= hull.B // 2
         and 1 <= row.H <= 60_000
-        and all(r.lever <= 5_000 and r.reach <= 9_000 and r.heel <= 9_000 for r in row.results or ())
+        and all(result_is_within(result) for result in row.results or ())
         and all(survival <= 10_000 for survival in row.given or ())
     )
 

@@ -13,6 +13,35 @@ READING = [
     ("b to B", "row.b <= hull.B // 2", "row.b <= hull.B"),
     ("capital letters are digits too", 'b"0123456789abcdef"', 'b"0123456789abcdefABCDEF"'),
     ("a last line needs no line feed", "(pieces[-1], False)", "(pieces[-1], True)"),
+    # Openings
+    ("an opening to 30,001", "result.opening <= 30_000", "result.opening <= 30_001"),
+    ("an opening from -30,001", "-30_000 <= result.opening", "-30_001 <= result.opening"),
+    ("an opening of 30,000 is refused", "result.opening <= 30_000", "result.opening < 30_000"),
+    ("an opening of -30,000 is refused", "-30_000 <= result.opening", "-30_000 < result.opening"),
+    ("the deepest draught's opening alone is judged", "for result in row.results or ()", "for result in (row.results or ())[:1]"),
+    ("an opening has no sign", "return number - 65_536 if number >= 32_768 else number", "return number"),
+    ("an opening's sign is dropped, and -1 is 1", "return number - 65_536 if", "return 65_536 - number if"),
+    ("an opening is read in ones' complement", "return number - 65_536 if", "return number - 65_535 if"),
+    ("an opening has its sign in its low byte", "if number >= 32_768 else", "if number % 256 >= 128 else"),
+    ("the heel is read for the opening", "two_bytes_signed(frame, at + 6)", "two_bytes_signed(frame, at + 4)"),
+    ("the light opening is read for the partial", "two_bytes_signed(frame, at + 6)", "two_bytes_signed(frame, at + (14 if at == 15 else 6))"),
+    ("the deepest opening is read for all", "two_bytes_signed(frame, at + 6)", "two_bytes_signed(frame, 13)"),
+    ("the opening stands before the lever", """\
+    lever, reach, heel = (two_bytes(frame, at + field) for field in (0, 2, 4))
+    return Result(lever, reach, heel, two_bytes_signed(frame, at + 6))""", """\
+    lever, reach, heel = (two_bytes(frame, at + field) for field in (2, 4, 6))
+    return Result(lever, reach, heel, two_bytes_signed(frame, at))"""),
+    ("the openings stand after the three results", "tuple(result_of(frame, 7 + 8 * j) for j in range(3))",
+     "tuple(result_of(frame, 7 + 6 * j)._replace(opening=two_bytes_signed(frame, 25 + 2 * j)) for j in range(3))"),
+    ("a result begins where it did without openings", "result_of(frame, 7 + 8 * j)", "result_of(frame, 7 + 6 * j)"),
+    ("a row without openings is let through as dry", "        if kind not in LENGTHS or", """\
+        if kind == LEVER_ROW and len(frame) == 25:
+            frame = b"".join((frame[:13], bytes(2), frame[13:19], bytes(2), frame[19:], bytes(2)))
+        if kind not in LENGTHS or"""),
+    ("a row of results that is too long is let through", "len(frame) != LENGTHS[kind]", "(len(frame) != LENGTHS[kind] and len(frame) <= 31)"),
+    ("a row of results that is too short is let through", "        if kind not in LENGTHS or", """\
+        frame = frame.ljust(31, bytes(1)) if kind == LEVER_ROW else frame
+        if kind not in LENGTHS or"""),
     # Judging order
     ("2 is judged before 10", "if ended:", "if ended and is_written_well(text, closed):"),
     ("5 is judged before 4", "if not within:", "if not within and 1 <= frame[9] <= MOST_ZONES:"),
@@ -26,6 +55,12 @@ READING = [
         if kind not in LENGTHS or"""),
     ("7 is judged before 6 at row 501", "if len(rows) == MOST_ROWS:",
      "if len(rows) == MOST_ROWS and row_is_within(row, hull):"),
+    ("7 is judged before 3 where the opening is outside", "        if kind not in LENGTHS or", """\
+        if kind == LEVER_ROW and len(frame) >= 15 and not result_is_within(result_of(frame, 7)):
+            return Refusal(7, number)
+        if kind not in LENGTHS or"""),
+    ("8 is judged before 7 where the opening is outside", "if not row_is_within(row, hull):",
+     "if not row_is_within(row, hull) and (not rows or row.given or not is_out_of_order(row, rows[-1], hull)):"),
     ("9 is judged before 8", "if rows and is_out_of_order(row, rows[-1], hull):",
      "if rows and is_out_of_order(row, rows[-1], hull) and not leaves_open(row, rows[-1], hull):"),
     ("9 is judged before 6 at the end frame", "if two_bytes(frame, 1) != len(rows):",
@@ -58,6 +93,11 @@ FIGURES = [
     ("the lever is not capped", "min(lever, 120)", "lever"),
     ("K² stands for K⁴", "Fraction(3_000 - heel, 500) ** 2", "Fraction(3_000 - heel, 500)"),
     ("k rises again beyond a heel of 3,000", "heel >= 3_000", "heel == 3_000"),
+    ("an opening at zero is immersed", "if opening < 0:", "if opening <= 0:"),
+    ("an opening of -1 is not immersed", "if opening < 0:", "if opening < -1:"),
+    ("a dry opening is taken for an immersed one", "if opening < 0:", "if opening > 0:"),
+    ("survival stays as it was where the opening is immersed", "    if opening < 0:\n        return Fraction(0)\n", ""),
+    ("survival is one where the opening is immersed", "        return Fraction(0)\n", "        return Fraction(1)\n"),
     ("the partial draught is the mean", "3 * (ds - dl) // 5", "(ds - dl) // 2"),
     # Marks
     ("a lever at its cap is marked", "lever < 120", "lever <= 120"),
@@ -71,6 +111,15 @@ FIGURES = [
     ("a range of nothing is not marked", "reach < 1_600", "0 < reach < 1_600"),
     ("lever and range are told for each other", "Marks(lever < 120, reach < 1_600,", "Marks(reach < 1_600, lever < 120,"),
     ("the heel alone is marked where it makes survival 0", "Marks(lever < 120, reach < 1_600,", "Marks(lever < 120 and heel < 3_000, reach < 1_600,"),
+    ("an opening at zero is marked", "opening < 0)", "opening <= 0)"),
+    ("an opening of -1 is not marked", "opening < 0)", "opening < -1)"),
+    ("a dry opening is marked", "opening < 0)", "opening > 0)"),
+    ("an opening of -30,000 is not marked", "opening < 0)", "-30_000 < opening < 0)"),
+    ("the opening alone is marked where it is immersed", "Marks(lever < 120, reach < 1_600, heel > 2_500,",
+     "Marks(lever < 120 and opening >= 0, reach < 1_600, heel > 2_500,"),
+    ("an immersed opening marks the lever too", "Marks(lever < 120, reach < 1_600, heel > 2_500,",
+     "Marks(lever < 120 or opening < 0, reach < 1_600, heel > 2_500,"),
+    ("the opening is marked where nothing else is", "opening < 0)", "opening < 0 and heel <= 2_500)"),
     ("R changes its form a centimetre too late", "L > 10_000", "L > 10_001"),
     ("a partial index must reach the whole of R", "(R(L), R(L) / 2, ", "(R(L), R(L), "),
 ]
@@ -115,9 +164,17 @@ ENDS = [
 
 ANSWER = [
     ("a result is that of the deepest draught", "row.results[draught]", "row.results[0]"),
-    ("a given survival is marked where it is not one", "NO_MARKS)", "Marks(*(row.given[draught] < 10_000,) * 3))"),
-    ("a given survival is read as a lever", "NO_MARKS)", "survival_marks(row.given[draught], 1_600, 0))"),
+    ("a given survival is marked where it is not one", "NO_MARKS)", "Marks(*(row.given[draught] < 10_000,) * 4))"),
+    ("a given survival is read as a lever", "NO_MARKS)", "survival_marks(row.given[draught], 1_600, 0, 0))"),
+    ("a given survival of nothing has the opening's mark", "NO_MARKS)", "NO_MARKS._replace(opening=row.given[draught] == 0))"),
     ("the marks are those of the light draught", "survival_marks(*result)", "survival_marks(*row.results[2])"),
+    ("the opening is that of the deepest draught", "row.results[draught]", "row.results[draught]._replace(opening=row.results[0].opening)"),
+    ("the opening is that of the light draught", "row.results[draught]", "row.results[draught]._replace(opening=row.results[2].opening)"),
+    ("the opening is that of the first row", "(row_survival(row, draught) for draught in range(3))",
+     "(row_survival(row if row.given else row._replace(results=tuple(result._replace(opening=(case.rows[0].results or row.results)[0].opening)"
+     " for result in row.results)), draught) for draught in range(3))"),
+    ("an immersed opening takes the bottom alone down to nothing", "survival_ends(s_fourth(*result))",
+     "survival_ends(s_fourth(*result))._replace(upper=survival_ends(s_fourth(*result[:3], 0)).upper)"),
     ("the marks of a row are those of the first", "(row_survival(row, draught) for draught in range(3))",
      "(row_survival(row, draught)._replace(marks=row_survival(case.rows[0], draught).marks) for draught in range(3))"),
     ("every partial index stands at the deepest draught", "case.hull.dl)[draught]", "case.hull.dl)[0]"),
@@ -129,7 +186,13 @@ ANSWER = [
 TEXT = [
     ("range and heel change their bytes", "2 * marks.reach + 4 * marks.heel", "4 * marks.reach + 2 * marks.heel"),
     ("lever and range change their bytes", "1 * marks.lever + 2 * marks.reach", "2 * marks.lever + 1 * marks.reach"),
-    ("one mark alone is told", "1 * marks.lever + 2 * marks.reach + 4 * marks.heel", "max(1 * marks.lever, 2 * marks.reach, 4 * marks.heel)"),
+    ("one mark alone is told", "1 * marks.lever + 2 * marks.reach + 4 * marks.heel + 8 * marks.opening",
+     "max(1 * marks.lever, 2 * marks.reach, 4 * marks.heel, 8 * marks.opening)"),
+    ("the opening's mark hides the others", "1 * marks.lever + 2 * marks.reach + 4 * marks.heel + 8 * marks.opening",
+     "8 if marks.opening else 1 * marks.lever + 2 * marks.reach + 4 * marks.heel"),
+    ("the opening's mark is not told", " + 8 * marks.opening", ""),
+    ("heel and opening change their bytes", "4 * marks.heel + 8 * marks.opening", "8 * marks.heel + 4 * marks.opening"),
+    ("the exact survival has no eye for the opening", "s_fourth(*row.results[draught])", "s_fourth(*row.results[draught][:3], 0)"),
     ("the marks of the light draught stand for the partial", "for survival in survivals)", "for survival in (survivals[0], *survivals[2:] * 2))"),
     ("the draughts come light first", "for survival in survivals)", "for survival in survivals[::-1])"),
     ("the first row's marks are repeated", "row_line(*row) for row in zip(answer.shares, answer.survivals)",
@@ -151,6 +214,7 @@ SETTLING = [
     ("the search does not stop at 200 places", "FIRST_PLACES, MOST_PLACES = 4, 200", "FIRST_PLACES, MOST_PLACES = 4, 256"),
     ("a root that is a fraction is rounded too", "if (top**4, bottom**4) == (fourth.numerator, fourth.denominator):", "if fourth == 0:"),
     ("a root is rounded down on both sides", "Fraction(down + 1, scale)", "Fraction(down, scale)"),
+    ("an immersed opening counts as dry", "s_fourth(*row.results[draught])", "s_fourth(*row.results[draught][:3], 0)"),
     ("v does not count", "share * row_v(row, d) / WHOLE_V", "share"),
     ("A weighs each draught alike", "(Fraction(2, 5), Fraction(2, 5), Fraction(1, 5))", "(Fraction(1, 3),) * 3"),
     ("the ship fails only where all fall short", "if any(one.reaches is False", "if all(one.reaches is False"),

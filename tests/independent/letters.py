@@ -70,8 +70,10 @@ def v(height):
     return min(Fraction(1), max(Fraction(0), sloping_v(height)))
 
 
-def s_fourth(lever, reach, heel):
-    """Regulation 7-2: the fourth power of s from metres and degrees, K being the root of (30 - heel)/5."""
+def s_fourth(lever, reach, heel, opening):
+    """Regulation 7-2: s⁴ from metres and degrees, K being the root of (30 - heel)/5; 002, 2.7.6.2.1: zero where the opening is immersed."""
+    if opening < 0:
+        return Fraction(0)
     K_fourth = min(Fraction(1), max(Fraction(0), (30 - heel) / Fraction(5))) ** 2
     return K_fourth * min(lever, Fraction(12, 100)) / Fraction(12, 100) * min(reach, Fraction(16)) / 16
 

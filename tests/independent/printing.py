@@ -10,8 +10,8 @@ DRAUGHTS = ("deepest", "partial", "light")
 
 
 def mark_byte(marks):
-    """Why is this survival not one: 1 for lever, 2 for range, 4 for heel, added up."""
-    return 1 * marks.lever + 2 * marks.reach + 4 * marks.heel
+    """Why is this survival not one, and Openings: 1 for lever, 2 for range, 4 for heel, 8 for the opening, added up."""
+    return 1 * marks.lever + 2 * marks.reach + 4 * marks.heel + 8 * marks.opening
 
 
 def row_line(share, survivals):

@@ -1,4 +1,4 @@
-"""The exact figures of document 01 as fractions: chances, shares, height, survival and the required index."""
+"""The exact figures of documents 01 and 02 as fractions: chances, shares, height, survival and the required index."""
 
 from fractions import Fraction
 from functools import lru_cache
@@ -10,14 +10,15 @@ KEPT = 8_192             # figures kept by the caches: more than the spans and l
 
 
 class Marks(NamedTuple):
-    """What holds one result's survival down, yes or no: its lever, its range, its heel."""
+    """What holds one result's survival down, yes or no: its lever, its range, its heel, its opening."""
 
     lever: bool
     reach: bool
     heel: bool
+    opening: bool
 
 
-NO_MARKS = Marks(False, False, False)
+NO_MARKS = Marks(False, False, False, False)
 
 
 class Span(NamedTuple):
@@ -164,8 +165,10 @@ def row_v(row, d):
     return v(row.H - d) - below
 
 
-def s_fourth(lever, reach, heel):
-    """Height and survival: s⁴ of one result, from its lever, range and heel."""
+def s_fourth(lever, reach, heel, opening):
+    """Height and survival: s⁴ of one result, from its lever, range and heel; Openings: nothing where its opening is immersed."""
+    if opening < 0:
+        return Fraction(0)
     g = min(lever, 120)
     t = min(reach, 1_600)
     if heel <= 2_500:
@@ -177,9 +180,9 @@ def s_fourth(lever, reach, heel):
     return Fraction(g, 120) * Fraction(t, 1_600) * k
 
 
-def survival_marks(lever, reach, heel):
-    """Why is this survival not one: lever below its cap, range below its cap, heel above 2,500."""
-    return Marks(lever < 120, reach < 1_600, heel > 2_500)
+def survival_marks(lever, reach, heel, opening):
+    """Why is this survival not one: lever below its cap, range below its cap, heel above 2,500; Openings: opening below the final waterline."""
+    return Marks(lever < 120, reach < 1_600, heel > 2_500, opening < 0)
 
 
 def draughts(ds, dl):

@@ -19,9 +19,34 @@ class Indices(unittest.TestCase):
         self.assertEqual(ends, tuple(Ends(whole, whole) for whole in expected))
 
     def test_draughts_have_their_own_results(self):
-        rows = [lever_row(1, 1, 800, 60_000, ((120, 1_600, 0), (30, 400, 0), (0, 0, 0)))]
+        rows = [lever_row(1, 1, 800, 60_000, ((120, 1_600, 0, 0), (30, 400, 0, 0), (0, 0, 0, 0)))]
         ends = answer(whole_file(hull_line(L, B, 6_000, 4_000, []), rows)).ends
         self.assertEqual(ends, tuple(Ends(whole, whole) for whole in (600_000_000, 10**9, 500_000_000, 0)))
+
+    def ends_with(self, *openings):
+        """A, As, Ap and Al of a ship of one zone that survives but for its openings at the three draughts."""
+        rows = [lever_row(1, 1, 800, 60_000, [(120, 1_600, 0, opening) for opening in openings])]
+        ends = answer(whole_file(hull_line(L, B, 6_000, 4_000, []), rows)).ends
+        self.assertTrue(all(end.lower == end.upper for end in ends))
+        return tuple(end.lower for end in ends)
+
+    def test_draughts_have_their_own_openings(self):
+        one = 10**9
+        self.assertEqual(self.ends_with(0, 0, 0), (one, one, one, one))
+        self.assertEqual(self.ends_with(1, 30_000, 0), (one, one, one, one))
+        self.assertEqual(self.ends_with(-1, 0, 0), (600_000_000, 0, one, one))
+        self.assertEqual(self.ends_with(0, -1, 0), (600_000_000, one, 0, one))
+        self.assertEqual(self.ends_with(0, 0, -1), (800_000_000, one, one, 0))
+        self.assertEqual(self.ends_with(-30_000, -300, -1), (0, 0, 0, 0))
+
+    def test_rows_have_their_own_openings(self):
+        def ends(below, above):
+            rows = [lever_row(1, 1, 800, H, ((120, 1_600, 0, opening),) * 3) for H, opening in ((13_800, below), (60_000, above))]
+            return answer(whole_file(hull_line(L, B, 6_000, 6_000, []), rows)).ends
+
+        self.assertEqual(ends(0, 0), (Ends(10**9, 10**9),) * 4)
+        self.assertEqual(ends(-1, 0), (Ends(200_000_000, 200_000_000),) * 4)  # v of the row above is 1/5
+        self.assertEqual(ends(0, -1), (Ends(800_000_000, 800_000_000),) * 4)
 
     def test_draughts_have_their_own_heights(self):
         rows = [given_row(1, 1, 800, 13_800, (10_000,) * 3), given_row(1, 1, 800, 60_000, (0, 0, 0))]
@@ -56,6 +81,13 @@ class Verdict(unittest.TestCase):
         self.assertEqual(verdict_of([Ends(393_939_393, 393_939_394)] + good[1:], 8_000), UNSETTLED)
         self.assertEqual(verdict_of([Ends(393_939_393, 393_939_393)] + good[1:], 8_000), FAILS)
         self.assertEqual(verdict_of(good[:3] + [Ends(196_969_696, 196_969_696)], 8_000), FAILS)
+
+    def test_one_opening_turns_the_verdict(self):
+        for draught in range(3):
+            for opening, verdict in ((0, MEETS), (-1, FAILS)):
+                results = [(120, 1_600, 2_500, opening if j == draught else 0) for j in range(3)]
+                told = answer(whole_file(hull_line(L, B, 6_000, 4_000, []), [lever_row(1, 1, 800, 60_000, results)]))
+                self.assertEqual(told.verdict, verdict, (draught, opening))
 
     def test_one_failing_mark_outweighs_unsettled_ones(self):
         ends = [Ends(0, 10**9)] * 3 + [Ends(0, 1)]

@@ -2,14 +2,15 @@
 
 import unittest
 
-from independent import judge
+from independent import Case, Result, judge, reading
 from independent.writing import end_line, file_of, given_row, hull_line, lever_row, whole_file
 
 ACCEPTED = (0, 0)
 HULL = hull_line(9_900, 1_600, 6_000, 4_000, [1_500, 5_000])
 TOP = 18_500
-FINE = ((30, 400, 0),) * 3
+FINE = ((30, 400, 0, 0),) * 3
 ROW = lever_row(1, 1, 800, TOP, FINE)
+WITHOUT_OPENINGS = "02010103204844" + "001e01900000" * 3  # as a row was before it had openings
 GIVEN = given_row(2, 1, 800, TOP, (0, 5_000, 10_000))
 END = end_line(1)
 
@@ -92,6 +93,17 @@ class Lines(ReadingTest):
                     "02" + GIVEN[2:], "03" + ROW[2:]):
             self.expect({bad: file_of([HULL, bad, END])}, (3, 2))
 
+    def test_lengths_of_kind_02(self):
+        self.assertEqual((len(ROW), len(WITHOUT_OPENINGS)), (2 * 31, 2 * 25))
+        for length in range(1, 64):
+            line = (ROW + "00" * 32)[:2 * length]
+            self.expect({length: file_of([HULL, line, END])}, ACCEPTED if length == 31 else (3, 2))
+        self.expect({"no openings": file_of([HULL, WITHOUT_OPENINGS, END])}, (3, 2))
+
+    def test_length_comes_before_numbers(self):
+        outside = lever_row(1, 1, 800, TOP, ((30, 400, 0, 30_001),) * 3)
+        self.expect({bad: file_of([HULL, bad, END]) for bad in (outside[:-2], outside + "00", "0200" + WITHOUT_OPENINGS[4:])}, (3, 2))
+
 
 class HullNumbers(ReadingTest):
     """Refusals 4 and 5."""
@@ -148,8 +160,8 @@ class RowNumbers(ReadingTest):
 
     def test_within_the_limits(self):
         for row in (given_row(1, 3, 800, TOP, (0, 0, 0)), given_row(3, 1, 800, TOP, (10_000,) * 3),
-                    given_row(1, 1, 800, 60_000, (0, 0, 0)), lever_row(1, 1, 800, TOP, ((0, 0, 0),) * 3),
-                    lever_row(1, 1, 800, TOP, ((5_000, 9_000, 9_000),) * 3)):
+                    given_row(1, 1, 800, 60_000, (0, 0, 0)), lever_row(1, 1, 800, TOP, ((0, 0, 0, -30_000),) * 3),
+                    lever_row(1, 1, 800, TOP, ((5_000, 9_000, 9_000, 30_000),) * 3)):
             self.expect({row: with_rows(row)}, ACCEPTED)
         low = [given_row(1, 1, b, H, (0, 0, 0)) for b, H in ((1, 1), (1, TOP), (800, TOP))]
         self.expect({"least b and H": with_rows(*low)}, ACCEPTED)
@@ -160,14 +172,51 @@ class RowNumbers(ReadingTest):
                            (1, 1, 800, 0), (1, 1, 800, 60_001)):
             self.expect({(a, n, b, H): with_rows(given_row(a, n, b, H, (0, 0, 0)))}, (7, 2))
         for draught in range(3):
-            for wrong in ((5_001, 0, 0), (0, 9_001, 0), (0, 0, 9_001)):
-                results = [(0, 0, 0)] * draught + [wrong] + [(0, 0, 0)] * (2 - draught)
+            for wrong in ((5_001, 0, 0, 0), (0, 9_001, 0, 0), (0, 0, 9_001, 0), (0, 0, 0, 30_001), (0, 0, 0, -30_001)):
+                results = [(0, 0, 0, 0)] * draught + [wrong] + [(0, 0, 0, 0)] * (2 - draught)
                 self.expect({(draught, wrong): with_rows(lever_row(1, 1, 800, TOP, results))}, (7, 2))
             survivals = [10_001 if j == draught else 0 for j in range(3)]
             self.expect({draught: with_rows(given_row(1, 1, 800, TOP, survivals))}, (7, 2))
 
+    def test_openings(self):
+        inside = (-30_000, -29_999, -257, -256, -2, -1, 0, 1, 255, 256, 29_999, 30_000, 35_536, 65_535)
+        outside = (-30_001, -32_768, 30_001, 32_767, 32_768, 35_535)
+        for openings, refusal in ((inside, ACCEPTED), (outside, (7, 2))):
+            for opening in openings:
+                for draught in range(3):
+                    results = [(30, 400, 0, opening if j == draught else 0) for j in range(3)]
+                    self.expect({(draught, opening): with_rows(lever_row(1, 1, 800, TOP, results))}, refusal)
+
     def test_limits_come_before_order(self):
         self.expect({"earlier and outside": with_rows(GIVEN, given_row(1, 1, 801, TOP, (0, 0, 0)))}, (7, 3))
+        outside = lever_row(1, 1, 800, TOP, ((30, 400, 0, -30_001),) * 3)
+        self.expect({"earlier group, opening outside": with_rows(GIVEN, outside), "row again, opening outside": with_rows(ROW, outside)}, (7, 3))
+
+
+class RowFields(unittest.TestCase):
+    """What is read from a row of results."""
+
+    def results(self, line):
+        read = reading(with_rows(line))
+        self.assertIsInstance(read, Case)
+        return read.rows[0].results
+
+    def test_each_number_has_its_place(self):
+        results = tuple(Result(*range(4 * j + 1, 4 * j + 5)) for j in range(3))
+        self.assertEqual(self.results(lever_row(1, 1, 800, TOP, results)), results)
+        results = tuple(result._replace(opening=-result.opening) for result in results)
+        self.assertEqual(self.results(lever_row(1, 1, 800, TOP, results)), results)
+
+    def test_bytes_of_an_opening(self):
+        for digits, opening in (("0000", 0), ("0001", 1), ("00ff", 255), ("0100", 256), ("7530", 30_000), ("ffff", -1), ("fffe", -2),
+                                ("ff00", -256), ("feff", -257), ("8ad0", -30_000)):
+            line = WITHOUT_OPENINGS[:14] + ("001e01900000" + digits) * 3
+            self.assertEqual(self.results(line), (Result(30, 400, 0, opening),) * 3, digits)
+
+    def test_printed_row(self):
+        line = "02010103204844001e019000000000001e019000000000001e019000000000"
+        self.assertEqual(self.results(line), (Result(30, 400, 0, 0),) * 3)
+        self.assertEqual(lever_row(1, 1, 800, TOP, FINE), line)
 
 
 class Order(ReadingTest):

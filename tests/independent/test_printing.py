@@ -1,4 +1,4 @@
-"""Tests of what is printed: document 01's file byte for byte, the sheet, and the command line."""
+"""Tests of what is printed: document 01's file with the openings of document 02 byte for byte, the sheet, and the command line."""
 
 import subprocess
 import sys
@@ -6,13 +6,13 @@ import unittest
 from pathlib import Path
 
 from independent import answer, figures, reading, run, total_text
-from independent.writing import end_line, file_of, given_row, hull_line, whole_file
+from independent.writing import end_line, file_of, given_row, hull_line, lever_row, whole_file
 
 PROGRAM = Path(__file__).resolve().parent
 
 PRINTED_CASE = b"""\
 0126ac064017700fa00205dc
-02010103204844001e01900000001e01900000001e01900000
+02010103204844001e019000000000001e019000000000001e019000000000
 03010203204844000000000000
 03020103204844271027102710
 0f0003
@@ -41,6 +41,16 @@ class Printed(unittest.TestCase):
 
     def test_figures(self):
         self.assertEqual(figures(answer(PRINTED_CASE)), FIGURES)
+
+    def test_openings_of_the_printed_case(self):
+        row, places = b"001e019000000000", [PRINTED_CASE.index(b"001e019000000000") + 16 * j + 12 for j in range(3)]
+        self.assertEqual(PRINTED_CASE.count(row), 3)
+        for place, byte in zip(places, (b"0b0303", b"030b03", b"03030b")):
+            for digits, marks in ((b"0000", b"030303"), (b"0001", b"030303"), (b"7530", b"030303"), (b"ffff", byte), (b"8ad0", byte)):
+                told = run(PRINTED_CASE[:place] + digits + PRINTED_CASE[place + 4:])
+                self.assertEqual(told[69:94], b"82072648b6072648b7" + marks + b"\n")
+                self.assertEqual(told[94:], PRINTED_ANSWER[94:])
+                self.assertEqual(told[:69] == PRINTED_ANSWER[:69], marks == b"030303")
 
     def test_answers_do_not_depend_on_files_before(self):
         other = PRINTED_CASE.replace(b"05dc", b"05dd")
@@ -130,8 +140,15 @@ class CommandLine(unittest.TestCase):
         self.assertIn("total chance at partial draught 5200: 1", lines)
         self.assertEqual(program("--exact"), b"refused 10 at line 1\n")
 
+    def test_exact_survival_of_an_immersed_opening(self):
+        rows = [lever_row(1, 1, 800, 60_000, ((120, 1_600, 0, -1), (60, 1_600, 0, 0), (120, 1_600, 0, -30_000)))]
+        lines = program("--exact", data=whole_file(hull_line(9_900, 1_600, 6_000, 4_000, []), rows)).decode().splitlines()
+        self.assertEqual(lines[1:4], [f"  {name}: v 916500/916500 s^4 {fourth}" for name, fourth in (("deepest", 0), ("partial", "1/2"), ("light", 0))])
+
     def test_total(self):
         self.assertEqual(program("--total", data=PRINTED_CASE), b"total 1\n")
+        immersed = PRINTED_CASE.replace(b"001e019000000000", b"001e01900000ffff")
+        self.assertEqual(program("--total", data=immersed), b"total 1\n")
         self.assertEqual(program("--total"), b"refused 10 at line 1\n")
 
     def test_every_byte_is_a_byte(self):

@@ -104,15 +104,21 @@ class RegulationLetters(unittest.TestCase):
         for lever in (0, 1, 119, 120, 121, 5_000):
             for reach in (0, 1, 1_599, 1_600, 1_601, 9_000):
                 for heel in (0, 2_500, 2_501, 2_750, 2_999, 3_000, 3_001, 9_000):
-                    expected = letters.s_fourth(Fraction(lever, 1_000), Fraction(reach, 100), Fraction(heel, 100))
-                    self.assertEqual(s_fourth(lever, reach, heel), expected, (lever, reach, heel))
+                    for opening in (-30_000, -1, 0, 1, 30_000):
+                        expected = letters.s_fourth(Fraction(lever, 1_000), Fraction(reach, 100), Fraction(heel, 100), Fraction(opening, 1_000))
+                        self.assertEqual(s_fourth(lever, reach, heel, opening), expected, (lever, reach, heel, opening))
 
     def test_s_fourth_by_hand(self):
-        self.assertEqual(s_fourth(5_000, 9_000, 0), 1)
-        self.assertEqual(s_fourth(60, 9_000, 2_750), Fraction(1, 8))
-        self.assertEqual(s_fourth(5_000, 400, 2_600), Fraction(4, 25))
-        self.assertEqual(s_fourth(120, 1_600, 3_000), 0)
-        self.assertEqual(s_fourth(0, 1_600, 0), 0)
+        self.assertEqual(s_fourth(5_000, 9_000, 0, 0), 1)
+        self.assertEqual(s_fourth(60, 9_000, 2_750, 0), Fraction(1, 8))
+        self.assertEqual(s_fourth(5_000, 400, 2_600, 0), Fraction(4, 25))
+        self.assertEqual(s_fourth(120, 1_600, 3_000, 0), 0)
+        self.assertEqual(s_fourth(0, 1_600, 0, 0), 0)
+
+    def test_s_fourth_of_an_immersed_opening(self):
+        for opening, fourth in ((-30_000, 0), (-2, 0), (-1, 0), (0, Fraction(1, 8)), (1, Fraction(1, 8)), (30_000, Fraction(1, 8))):
+            self.assertEqual(s_fourth(60, 1_600, 2_750, opening), fourth)
+            self.assertEqual(letters.s_fourth(Fraction(6, 100), Fraction(16), Fraction(55, 2), Fraction(opening, 1_000)), fourth)
 
 
 class Shares(unittest.TestCase):

@@ -148,10 +148,15 @@ class Survival(unittest.TestCase):
     """Bottom and top of a survival."""
 
     def test_proved_values(self):
-        self.assertEqual(survival_ends(s_fourth(30, 400, 0)), Ends(5_000, 5_000))
-        self.assertEqual(survival_ends(s_fourth(60, 800, 0)), Ends(7_071, 7_072))
-        self.assertEqual(survival_ends(s_fourth(120, 1_600, 2_995)), Ends(1_000, 1_000))
-        self.assertEqual(survival_ends(s_fourth(120, 1_600, 3_000)), Ends(0, 0))
+        self.assertEqual(survival_ends(s_fourth(30, 400, 0, 0)), Ends(5_000, 5_000))
+        self.assertEqual(survival_ends(s_fourth(60, 800, 0, 0)), Ends(7_071, 7_072))
+        self.assertEqual(survival_ends(s_fourth(120, 1_600, 2_995, 0)), Ends(1_000, 1_000))
+        self.assertEqual(survival_ends(s_fourth(120, 1_600, 3_000, 0)), Ends(0, 0))
+
+    def test_immersed_opening(self):
+        for numbers in ((30, 400, 0), (60, 800, 0), (120, 1_600, 2_995), (120, 1_600, 3_000), (5_000, 9_000, 0)):
+            self.assertEqual(survival_ends(s_fourth(*numbers, -1)), Ends(0, 0))
+            self.assertEqual(survival_ends(s_fourth(*numbers, 30_000)), survival_ends(s_fourth(*numbers, 0)))
 
     def test_edges(self):
         self.assertEqual(survival_ends(Fraction(1)), Ends(10_000, 10_000))

@@ -13,7 +13,7 @@ from independent.writing import given_row, hull_line, lever_row, whole_file
 EXAMPLES = Path(__file__).resolve().parent.parent.parent / "examples"
 HALF = 10_400  # a length whose R is 1/2
 TOP = 60_000
-AT_HALF, BELOW_HALF, ABOVE_HALF = (30, 400, 0), (13, 923, 0), (34, 353, 0)  # s⁴ is 12,000, 11,999 and 12,002 of 192,000
+AT_HALF, BELOW_HALF, ABOVE_HALF = (30, 400, 0, 0), (13, 923, 0, 0), (34, 353, 0, 0)  # s⁴ is 12,000, 11,999 and 12,002 of 192,000
 
 
 def one_zone(*results):
@@ -163,10 +163,27 @@ class Ships(unittest.TestCase):
             self.assertEqual(ship_is(data), f"the ship {ship}")
 
     def test_each_figure_has_its_own_mark_and_draught(self):
-        low, high = (3, 249, 0), (120, 1_600, 0)  # s is 0.24975 and 1
+        low, high = (3, 249, 0, 0), (120, 1_600, 0, 0)  # s is 0.24975 and 1
         for results, reached in (((low, high, high), [True, False, True, True]), ((high, low, high), [True, True, False, True]),
                                  ((high, high, low), [True, True, True, False]), ((low, low, high), [False, False, False, True])):
             self.assertEqual([settled(figure).reaches for figure in figures_of(reading(one_zone(*results)))], reached)
+
+    def test_each_figure_has_its_own_opening(self):
+        high, under = (120, 1_600, 0, 0), (120, 1_600, 0, -1)
+        for results, reached in (((under, high, high), [True, False, True, True]), ((high, under, high), [True, True, False, True]),
+                                 ((high, high, under), [True, True, True, False]), ((under, under, high), [False, False, False, True])):
+            found = [settled(figure) for figure in figures_of(reading(one_zone(*results)))]
+            self.assertEqual([figure.reaches for figure in found], reached)
+            self.assertTrue(all(figure.exact for figure in found))  # nothing of an immersed opening's root is left
+
+    def test_opening_alone_settles(self):
+        near, under = BELOW_HALF, BELOW_HALF[:3] + (-1,)
+        self.assertEqual(answer(one_zone(near, near, ABOVE_HALF)).verdict, UNSETTLED)
+        self.assertEqual(answer(one_zone(near, near, under)).verdict, FAILS)
+        self.assertEqual(settled_text(reading(one_zone(near, near, under))).splitlines()[4:], [
+            "Al falls short of R/2: it lies between 0.000000000 and 0.000000000, and R/2 is 0.250000000",
+            "the ship fails",
+        ])
 
     def test_rows_above_the_water_alone_count(self):
         rows = [lever_row(1, 1, 800, 5_000, (BELOW_HALF,) * 3), given_row(1, 1, 800, TOP, (5_000,) * 3)]
@@ -195,7 +212,7 @@ class Ships(unittest.TestCase):
         self.assertEqual(ship_is((EXAMPLES / "coaster.case").read_bytes()), "the ship meets")
 
     def test_answer_that_settles_with_a_figure_open(self):
-        data = one_zone((3, 249, 0), (10, 1_202, 0), (120, 1_600, 0))
+        data = one_zone((3, 249, 0, 0), (10, 1_202, 0, 0), (120, 1_600, 0, 0))
         self.assertEqual(answer(data).verdict, FAILS)
         self.assertEqual(settled_text(reading(data)).splitlines()[1:3], [
             "A may reach R or not: it lies between 0.499960000 and 0.500040000, and R is 0.500000000",

@@ -7,9 +7,14 @@ def hull_line(L, B, ds, dl, bulkheads, m=None):
     return f"01{L:04x}{B:04x}{ds:04x}{dl:04x}{count:02x}" + "".join(f"{place:04x}" for place in bulkheads)
 
 
+def result_digits(lever, reach, heel, opening):
+    """Openings: a result as a row has it, the opening in two's complement."""
+    return f"{lever:04x}{reach:04x}{heel:04x}{opening % 65_536:04x}"
+
+
 def lever_row(a, n, b, H, results):
-    """The case file: a row of kind 02 with three results (lever, range, heel)."""
-    return f"02{a:02x}{n:02x}{b:04x}{H:04x}" + "".join(f"{number:04x}" for result in results for number in result)
+    """The case file: a row of kind 02 with three results (lever, range, heel, opening)."""
+    return f"02{a:02x}{n:02x}{b:04x}{H:04x}" + "".join(result_digits(*result) for result in results)
 
 
 def given_row(a, n, b, H, survivals):

@@ -8,26 +8,27 @@ from .slip import Slips
 slip = Slips()
 
 
-class Three(NamedTuple):
-    """Lever, range and heel: the numbers of a result, or its marks."""
+class Four(NamedTuple):
+    """Lever, range, heel and opening: the numbers of a result, or its marks."""
 
     lever: int
     reach: int
     heel: int
+    opening: int
 
 
 def changed_marks(words, **rules):
-    """Another yes or no for some of lever, range and heel, from the numbers and from the right marks."""
+    """Another yes or no for some of lever, range, heel and opening, from the numbers and from the right marks."""
     class Broken(Figures):
         def marked(self, *numbers):
-            right = Three(*super().marked(*numbers))
-            return right._replace(**{name: rule(Three(*numbers), right) for name, rule in rules.items()})
+            right = Four(*super().marked(*numbers))
+            return right._replace(**{name: rule(Four(*numbers), right) for name, rule in rules.items()})
     slip(words)(Broken)
 
 
 def lost(of):
     """Whether a result's survival is 0."""
-    return of.lever == 0 or of.reach == 0 or of.heel >= 3000
+    return of.lever == 0 or of.reach == 0 or of.heel >= 3000 or of.opening < 0
 
 
 changed_marks("a lever at its cap is marked", lever=lambda of, right: of.lever <= 120)
@@ -62,27 +63,45 @@ changed_marks("a survival of 0 has the range's mark", reach=lambda of, right: ri
 changed_marks("a survival of 0 has the heel's mark", heel=lambda of, right: right.heel or lost(of))
 
 
+changed_marks("an opening at 0 is marked", opening=lambda of, right: of.opening <= 0)
+changed_marks("an opening of -1 is not marked", opening=lambda of, right: of.opening < -1)
+changed_marks("an opening of -30,000 is not marked", opening=lambda of, right: -30000 < of.opening < 0)
+changed_marks("a dry opening is marked", opening=lambda of, right: of.opening > 0)
+changed_marks("an opening is never marked", opening=lambda of, right: False)
+changed_marks("heel and opening are told for each other", heel=lambda of, right: right.opening, opening=lambda of, right: right.heel)
+changed_marks("lever and opening are told for each other", lever=lambda of, right: right.opening, opening=lambda of, right: right.lever)
+for name in ("lever", "reach", "heel"):
+    changed_marks("the opening's mark hides the %s's" % name.replace("reach", "range"),
+                  **{name: lambda of, right, name=name: getattr(right, name) and not right.opening})
+    changed_marks("the %s's mark hides the opening's" % name.replace("reach", "range"),
+                  opening=lambda of, right, name=name: right.opening and not getattr(right, name))
+changed_marks("a survival of 0 has the opening's mark", opening=lambda of, right: right.opening or lost(of))
+changed_marks("an opening is marked where survival is not 0 anyway", opening=lambda of, right: right.opening and not lost(of._replace(opening=0)))
+
+
 def changed_byte(words, added_up):
     class Broken(Figures):
-        def added_up(self, lever, reach, heel):
-            return added_up(lever, reach, heel)
+        def added_up(self, lever, reach, heel, opening):
+            return added_up(lever, reach, heel, opening)
     slip(words)(Broken)
 
 
-changed_byte("range is 4 and heel 2", lambda lever, reach, heel: lever + 4 * reach + 2 * heel)
-changed_byte("lever is 2 and range 1", lambda lever, reach, heel: 2 * lever + reach + 4 * heel)
-changed_byte("lever is 4 and heel 1", lambda lever, reach, heel: 4 * lever + 2 * reach + heel)
-changed_byte("heel is 3", lambda lever, reach, heel: lever + 2 * reach + 3 * heel)
-changed_byte("heel is 8", lambda lever, reach, heel: lever + 2 * reach + 8 * heel)
-changed_byte("the marks are counted", lambda lever, reach, heel: lever + reach + heel)
-changed_byte("the greatest mark alone is told", lambda lever, reach, heel: max(lever, 2 * reach, 4 * heel))
+changed_byte("range is 4 and heel 2", lambda lever, reach, heel, opening: lever + 4 * reach + 2 * heel + 8 * opening)
+changed_byte("lever is 2 and range 1", lambda lever, reach, heel, opening: 2 * lever + reach + 4 * heel + 8 * opening)
+changed_byte("lever is 4 and heel 1", lambda lever, reach, heel, opening: 4 * lever + 2 * reach + heel + 8 * opening)
+changed_byte("heel is 3", lambda lever, reach, heel, opening: lever + 2 * reach + 3 * heel + 8 * opening)
+changed_byte("heel is 8 and the opening 4", lambda lever, reach, heel, opening: lever + 2 * reach + 8 * heel + 4 * opening)
+changed_byte("the opening is 16", lambda lever, reach, heel, opening: lever + 2 * reach + 4 * heel + 16 * opening)
+changed_byte("the opening is 7", lambda lever, reach, heel, opening: lever + 2 * reach + 4 * heel + 7 * opening)
+changed_byte("the marks are counted", lambda lever, reach, heel, opening: lever + reach + heel + opening)
+changed_byte("the greatest mark alone is told", lambda lever, reach, heel, opening: max(lever, 2 * reach, 4 * heel, 8 * opening))
 
 
 def changed_given(words, byte):
     """Marks for given survivals."""
     class Broken(Figures):
         def marks_at(self, row, draught):
-            return super().marks_at(row, draught) if len(row.figures) == 9 else byte(self, row.figures, draught)
+            return super().marks_at(row, draught) if len(row.figures) == 12 else byte(self, row.figures, draught)
     slip(words)(Broken)
 
 
@@ -90,7 +109,8 @@ changed_given("a given survival has every mark", lambda self, given, draught: 7)
 changed_given("a given survival below one has every mark", lambda self, given, draught: 7 * (given[draught] < 10000))
 changed_given("a given survival of 0 has every mark", lambda self, given, draught: 7 * (given[draught] == 0))
 changed_given("a given survival is read as a lever", lambda self, given, draught: given[draught] < 120)
-changed_given("given survivals are read as lever, range and heel", lambda self, given, draught: self.added_up(*self.marked(*given)))
+changed_given("given survivals are read as lever, range and heel", lambda self, given, draught: self.added_up(*self.marked(*given, 0)))
+changed_given("a given survival of 0 has the opening's mark", lambda self, given, draught: 8 * (given[draught] == 0))
 
 
 def changed_rows(words, marks):

@@ -16,18 +16,18 @@ constant("501 rows are let through", most_rows=501)
 constant("499 rows are the most", most_rows=499)
 constant("the top is ds + 12,499", rise=12499)
 constant("the top is ds + 12,501", rise=12501)
-constant("lever to 5,001", row_limits=((5001, 9000, 9000), (10000,)))
-constant("range to 9,001", row_limits=((5000, 9001, 9000), (10000,)))
-constant("heel to 9,001", row_limits=((5000, 9000, 9001), (10000,)))
-constant("survival to 10,001", row_limits=((5000, 9000, 9000), (10001,)))
-constant("lever to 4,999", row_limits=((4999, 9000, 9000), (10000,)))
-constant("range to 8,999", row_limits=((5000, 8999, 9000), (10000,)))
-constant("heel to 8,999", row_limits=((5000, 9000, 8999), (10000,)))
-constant("survival to 9,999", row_limits=((5000, 9000, 9000), (9999,)))
-constant("kind 02 in 26 bytes", lengths={2: 26, 3: 13, 15: 3})
-constant("kind 03 in 12 bytes", lengths={2: 25, 3: 12, 15: 3})
-constant("the end frame in two bytes", lengths={2: 25, 3: 13, 15: 2})
-constant("kind 04 is let through", lengths={2: 25, 3: 13, 4: 13, 15: 3})
+constant("lever to 5,001", row_limits=((5001, 9000, 9000, 30000), (10000,)))
+constant("range to 9,001", row_limits=((5000, 9001, 9000, 30000), (10000,)))
+constant("heel to 9,001", row_limits=((5000, 9000, 9001, 30000), (10000,)))
+constant("survival to 10,001", row_limits=((5000, 9000, 9000, 30000), (10001,)))
+constant("lever to 4,999", row_limits=((4999, 9000, 9000, 30000), (10000,)))
+constant("range to 8,999", row_limits=((5000, 8999, 9000, 30000), (10000,)))
+constant("heel to 8,999", row_limits=((5000, 9000, 8999, 30000), (10000,)))
+constant("survival to 9,999", row_limits=((5000, 9000, 9000, 30000), (9999,)))
+constant("kind 02 in 32 bytes", lengths={2: 32, 3: 13, 15: 3})
+constant("kind 03 in 12 bytes", lengths={2: 31, 3: 12, 15: 3})
+constant("the end frame in two bytes", lengths={2: 31, 3: 13, 15: 2})
+constant("kind 04 is let through", lengths={2: 31, 3: 13, 4: 13, 15: 3})
 
 
 def turned(first, second):
@@ -129,8 +129,9 @@ let_through(7, "H from 0", lambda line: line.row().h == 0)
 turned_away(7, "H = 1 is refused", lambda line: line.is_row and line.row().h == 1)
 let_through(7, "H to 60,001", lambda line: line.row().h == 60001)
 turned_away(7, "H = 60,000 is refused", lambda line: line.is_row and line.row().h == 60000)
-for at in range(9):
-    let_through(7, "figure %d of kind 02 is not judged" % (at + 1), lambda line, at=at: len(line.row().figures) == 9 and line.row().figures[at] > 5000)
+for at in range(12):
+    let_through(7, "figure %d of kind 02 is not judged" % (at + 1),
+                lambda line, at=at: len(line.row().figures) == 12 and not -30000 <= line.row().figures[at] <= (30000 if at % 4 == 3 else 5000))
 for at in range(3):
     let_through(7, "survival %d of kind 03 is not judged" % (at + 1), lambda line, at=at: len(line.row().figures) == 3 and line.row().figures[at] > 10000)
 

@@ -57,7 +57,7 @@ def in_two_lines():
 
 def after_too_long():
     for late, (where, lines) in EARLY.items():
-        data = (joined(lines) + joined([row_line(Row(4, 1, HALF, TOP, (0,) * 9))] * 700))[:32769]
+        data = (joined(lines) + joined([row_line(Row(4, 1, HALF, TOP, (0,) * 12))] * 700))[:32769]
         assert without(1).refusal(data) == (late, len(lines)), "%d is not broken after 1" % late
         yield refused("1-then-%d-%s" % (late, where), data, 1, 0, "32,769 bytes, and %d on a line of them" % late)
 

@@ -77,10 +77,11 @@ def row_numbers():
         yield refused("height-%d" % h, last(Row(2, 1, 1000, h, CERTAIN)), 7, 3, "H = %d" % h)
     yield accepted("height-1", case_file(twenty, group(twenty, 2, 1, heights=(1,))), "a row at H = 1")
     yield accepted("height-60000", last(Row(2, 1, 1000, 60000, CERTAIN)), "a row at H = 60000")
-    yield accepted("results-at-the-most", last(Row(2, 1, 1000, 20500, (5000, 9000, 9000) * 3)), "lever 5000, range 9000 and heel 9000 at each draught")
+    yield accepted("results-at-the-most", last(Row(2, 1, 1000, 20500, (5000, 9000, 9000, 30000) * 3)),
+                   "lever 5000, range 9000, heel 9000 and opening 30,000 at each draught")
     yield accepted("survivals-at-the-most", last(Row(2, 1, 1000, 20500, CERTAIN)), "given survival 10,000 at each draught")
-    for at, name in enumerate(("lever", "range", "heel") * 3):
-        value, draught = 5001 if name == "lever" else 9001, ("ds", "dp", "dl")[at // 3]
+    for place, name in enumerate(("lever", "range", "heel") * 3):
+        value, draught, at = 5001 if name == "lever" else 9001, ("ds", "dp", "dl")[place // 3], place + place // 3
         yield refused("%s-%d-at-%s" % (name, value, draught), last(Row(2, 1, 1000, 20500, SAFE[:at] + (value,) + SAFE[at + 1:])), 7, 3,
                       "%s = %d at %s" % (name, value, draught))
     for at, draught in enumerate(("ds", "dp", "dl")):
@@ -117,8 +118,8 @@ def many_rows():
                       "%d rows and an end count of %d" % (count, given))
     long = Hull(12000, 2000, 8000, 5000, tuple(600 * i for i in range(1, 20)))
     longest = case_file(long, group(long, 1, 20, heights=tall, figures=SAFE))
-    assert len(longest) == 25604
-    yield accepted("longest-file", longest, "20 zones and 500 rows of kind 02: 25,604 bytes, the longest file that is accepted")
+    assert len(longest) == 31604
+    yield accepted("longest-file", longest, "20 zones and 500 rows of kind 02: 31,604 bytes, the longest file that is accepted")
     for size in (32768, 32769):
         outside = size > 32768
         padded = longest + b"0" * (size - len(longest) - 1) + b"\n"

@@ -2,7 +2,7 @@
 
 from ..case import accepted
 from ..frames import Hull, Row, case_file
-from ..shapes import FOUR, every_group, group
+from ..shapes import FOUR, dry, every_group, group
 
 SHIP = Hull(12000, 2000, 8005, 5000)
 AT_CAPS = (120, 1600, 2500)
@@ -18,7 +18,7 @@ def with_byte(byte, high=AT_CAPS, low=SHORT):
 def stacked(rows):
     """A file of one zone with these figures from the keel up; of many rows the last alone is out of the water, and counts."""
     heights = [*range(1, len(rows)), SHIP.top]
-    return case_file(SHIP, [Row(1, 1, SHIP.half, h, tuple(figures)) for h, figures in zip(heights, rows)])
+    return case_file(SHIP, [Row(1, 1, SHIP.half, h, dry(figures)) for h, figures in zip(heights, rows)])
 
 
 def results(name, three, marks, shows):
@@ -89,7 +89,7 @@ def in_turn():
             ("layers-and-heights", SHIP, group(SHIP, 1, 1, layers=(100, 500), heights=(2000, 9000, 15000))),
             ("groups", FOUR, every_group(FOUR)), ("groups-layers-and-heights", FOUR, every_group(FOUR, layers=(300,), heights=(9000,)))):
         marks = [((3 * at + 1) % 8, (5 * at + 2) % 8, (7 * at + 4) % 8) for at in range(len(rows))]
-        rows = [row._replace(figures=sum(map(with_byte, three), ())) for row, three in zip(rows, marks)]
+        rows = [row._replace(figures=dry(sum(map(with_byte, three), ()))) for row, three in zip(rows, marks)]
         yield accepted("in-turn-%s" % name, case_file(hull, rows), "rows in %s, each with marks of its own" % name.replace("-", " "), marks=marks)
 
 

@@ -34,7 +34,7 @@ def three():
     for kind in (0, 1, 4, 14, 16, 18, 31, 255):
         yield refused("3-later-kind-%02x" % kind, with_line(3, "%02x" % kind + LINES[2][2:]), 3, 3, "a later line of kind %02x" % kind)
     yield refused("3-second-hull", with_line(2, LINES[0]), 3, 2, "a second hull line")
-    for at, name, lengths in ((2, "02", (1, 13, 24, 26)), (3, "03", (3, 12, 14, 25)), (5, "0f", (1, 2, 4, 13))):
+    for at, name, lengths in ((2, "02", (1, 13, 24, 26, 30, 32)), (3, "03", (3, 12, 14, 25, 31)), (5, "0f", (1, 2, 4, 13))):
         line = LINES[at - 1]
         for length in lengths:
             changed = (line + "00" * 30)[:2 * length]

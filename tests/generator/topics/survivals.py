@@ -3,13 +3,13 @@
 from ..case import accepted
 from ..found import NEAR_ROOTS
 from ..frames import Hull, Row, case_file
-from ..shapes import CERTAIN, NONE, group
+from ..shapes import CERTAIN, NONE, dry, group
 
 SHIP = Hull(12000, 2000, 8005, 5000)
 
 
 def result(name, figures, shows):
-    return accepted(name, case_file(SHIP, [Row(1, 1, SHIP.half, SHIP.top, tuple(figures))]), shows)
+    return accepted(name, case_file(SHIP, [Row(1, 1, SHIP.half, SHIP.top, dry(figures))]), shows)
 
 
 def named(one):

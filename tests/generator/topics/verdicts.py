@@ -3,6 +3,7 @@
 from ..case import accepted
 from ..found import MARKS
 from ..frames import Hull, Row, case_file
+from ..shapes import dry
 
 FIGURES = ("As", "Ap", "Al")
 WORDS = {1: "just meets", 2: "just fails", 3: "has its upper end on"}
@@ -56,7 +57,7 @@ def unsettled():
             ("near-and-lost", near_half + safe + lost, 2, "one partial unsettled and another lost: fails"),
             ("near-half-and-index-short", near_half * 3, 2, "every partial unsettled, A well below R: fails")):
         hull = Hull(12000, 2000, 8000, 5000)
-        yield accepted("results-%s" % name, case_file(hull, [Row(1, 1, 1000, hull.top, results)]), shows, verdict=verdict)
+        yield accepted("results-%s" % name, case_file(hull, [Row(1, 1, 1000, hull.top, dry(results))]), shows, verdict=verdict)
 
 
 def cases():

@@ -22,8 +22,8 @@ def ship(zones):
 
 
 def results(dice):
-    """Levers, ranges and heels of which most are below the caps."""
-    return tuple(n for _ in range(3) for n in (dice.between(0, 150), dice.between(0, 2_000), dice.between(0, 3_100)))
+    """Levers, ranges and heels of which most are below the caps, openings of which one in twenty is immersed."""
+    return tuple(n for _ in range(3) for n in (dice.between(0, 150), dice.between(0, 2_000), dice.between(0, 3_100), dice.between(-150, 2_849)))
 
 
 def rows(dice, hull, count, heights, longest):

@@ -12,7 +12,9 @@ enum { LONGEST = 32768, MOST_ROWS = 500, MOST_ZONES = 20, LONGEST_FRAME = 8 + 2 
 
 typedef struct { u64 lower, upper; } Ends;
 typedef struct { u64 length, breadth, deepest, light, zones, places[MOST_ZONES + 1]; } Hull;
-typedef struct { u64 kind, first, count, depth, height, results[9]; } Row;
+/* A given survival stands in the lever's place. */
+typedef struct { u64 lever, range, heel; long opening; } Result;
+typedef struct { u64 kind, first, count, depth, height; Result results[3]; } Row;
 typedef struct { u64 number, line; } Refusal;
 
 /* ---- the chance of damage within a span */
@@ -145,11 +147,11 @@ static u64 fourth_root(u64 n) {
     return s;
 }
 
-static Ends survival(u64 lever, u64 range, u64 heel) {
-    u64 n = (lever < 120 ? lever : 120) * (range < 1600 ? range : 1600), d = 120 * 1600;
-    if (heel >= 3000) n = 0;
-    if (heel > 2500 && heel < 3000) {
-        n *= (3000 - heel) * (3000 - heel);
+static Ends survival(Result r) {
+    u64 n = (r.lever < 120 ? r.lever : 120) * (r.range < 1600 ? r.range : 1600), d = 120 * 1600;
+    if (r.heel >= 3000 || r.opening < 0) n = 0;
+    if (r.heel > 2500 && r.heel < 3000) {
+        n *= (3000 - r.heel) * (3000 - r.heel);
         d *= 500 * 500;
     }
     u128 scaled = (u128)n * 10000000000000000ul;
@@ -157,8 +159,8 @@ static Ends survival(u64 lever, u64 range, u64 heel) {
     return (Ends){s, s + ((u128)fourth_power(s) * d != scaled)};
 }
 
-/* What holds a survival down: 1 for the lever, 2 for the range, 4 for the heel. */
-static u8 marks(u64 lever, u64 range, u64 heel) { return (u8)((lever < 120) | (range < 1600) << 1 | (heel > 2500) << 2); }
+/* What holds a survival down: 1 for the lever, 2 for the range, 4 for the heel, 8 for an immersed opening. */
+static u8 marks(Result r) { return (u8)((r.lever < 120) | (r.range < 1600) << 1 | (r.heel > 2500) << 2 | (r.opening < 0) << 3); }
 
 /* ---- the answer */
 
@@ -196,9 +198,9 @@ static void work_out(const Hull *h, const Row *rows, u64 count, Answer *answer) 
         answer->lines[i].share = one;
         for (int k = 0; k < 3; k++) {
             u64 v = height_factor(r->height, draughts[k]) - (same_layer ? height_factor(last->height, draughts[k]) : 0);
-            const u64 *f = r->results + 3 * k;
-            Ends s = r->kind == 3 ? (Ends){f[0], f[0]} : survival(f[0], f[1], f[2]);
-            answer->lines[i].marks[k] = r->kind == 3 ? 0 : marks(f[0], f[1], f[2]);
+            Result f = r->results[k];
+            Ends s = r->kind == 3 ? (Ends){f.lever, f.lever} : survival(f);
+            answer->lines[i].marks[k] = r->kind == 3 ? 0 : marks(f);
             figures[k + 1].lower += one.lower * v * s.lower / 9165000000ul;
             figures[k + 1].upper += up(one.upper * v * s.upper, 9165000000ul);
         }
@@ -214,6 +216,9 @@ static void work_out(const Hull *h, const Row *rows, u64 count, Answer *answer) 
 static const u8 DIGITS[256] = {['0'] = 1, 2, 3, 4, 5, 6, 7, 8, 9, 10, ['a'] = 11, 12, 13, 14, 15, 16};
 
 static u64 word(const u8 *f) { return 256ul * f[0] + f[1]; }
+
+/* A number of two bytes in two's complement. */
+static long signed_word(const u8 *f) { return (long)(word(f) ^ 0x8000) - 0x8000; }
 
 /* How many bytes a line writes, 0 where it is badly written; as many as go in are put into the frame. */
 static u64 decode(const u8 *text, u64 digits, u8 *frame) {
@@ -243,15 +248,17 @@ static int at_top(const Hull *h, const Row *r) { return r->height >= h->deepest 
 
 static int closes(const Hull *h, const Row *r) { return !r || (r->depth == h->breadth / 2 && at_top(h, r)); }
 
+static Result read_result(const u8 *f) { return (Result){word(f), word(f + 2), word(f + 4), signed_word(f + 6)}; }
+
+static int within_limits(Result r) { return r.lever <= 5000 && r.range <= 9000 && r.heel <= 9000 && r.opening >= -30000 && r.opening <= 30000; }
+
 static u64 read_row(const u8 *f, const Hull *h, const Row *last, Row *r) {
-    u64 fields = f[0] == 2 ? 9 : 3;
-    *r = (Row){f[0], f[1], f[2], word(f + 3), word(f + 5), {0}};
+    *r = (Row){f[0], f[1], f[2], word(f + 3), word(f + 5), {{0, 0, 0, 0}}};
     if (r->first < 1 || r->count < 1 || r->first + r->count - 1 > h->zones) return 7;
     if (r->depth < 1 || r->depth > h->breadth / 2 || r->height < 1 || r->height > 60000) return 7;
-    for (u64 k = 0; k < fields; k++) {
-        u64 n = word(f + 7 + 2 * k);
-        if (n > (f[0] == 3 ? 10000 : k % 3 ? 9000 : 5000)) return 7;
-        r->results[f[0] == 3 ? 3 * k : k] = n;
+    for (u64 k = 0; k < 3; k++) {
+        r->results[k] = f[0] == 3 ? (Result){word(f + 7 + 2 * k), 0, 0, 0} : read_result(f + 7 + 8 * k);
+        if (f[0] == 3 ? r->results[k].lever > 10000 : !within_limits(r->results[k])) return 7;
     }
     if (!last) return 0;
     if (r->first < last->first || (r->first == last->first && r->count < last->count)) return 8;
@@ -276,7 +283,7 @@ static Refusal read_case(const u8 *input, u64 size, Hull *h, Row *rows, u64 *cou
         const Row *last = *count ? rows + *count - 1 : 0;
         if (line == 1) {
             number = read_hull(f, bytes, h);
-        } else if ((f[0] == 2 && bytes == 25) || (f[0] == 3 && bytes == 13)) {
+        } else if ((f[0] == 2 && bytes == 31) || (f[0] == 3 && bytes == 13)) {
             number = *count == MOST_ROWS ? 6 : read_row(f, h, last, rows + *count);
             ++*count;
         } else if (f[0] == 15 && bytes == 3) {

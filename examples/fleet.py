@@ -1,8 +1,10 @@
-"""The six ships of the examples, in metres: each zone by its name and forward end, from aft forward."""
+"""The seven ships of the examples, in metres: each zone by its name and forward end, from aft forward.
+
+The lowest opening stands as low as the load lines let it: an air pipe 0.76 m above the deck, a ventilator 0.9 m."""
 
 from ship import Ship, Zone
 
-CARGO, CONTAINERS, MACHINERY = 0.7, 0.8, 0.85  # permeabilities; peaks and voids have 0.95
+CARGO, CONTAINERS, PENS, MACHINERY = 0.7, 0.8, 0.85, 0.85  # permeabilities; peaks and voids have 0.95
 
 
 def alongside(width):
@@ -13,7 +15,7 @@ def alongside(width):
 COASTER = Ship(
     name="coaster", what="single-hold coaster, 84.6 m", verdict="meets",
     shows="one hold behind three pairs of side tanks: damage that stays within a tank is survived, damage into the hold is not",
-    length=84.6, breadth=13.6, depth=7.6, deepest=5.4, light=3.1, block=0.78, gm=(0.9, 1.1, 1.4),
+    length=84.6, breadth=13.6, depth=7.6, deepest=5.4, light=3.1, block=0.78, gm=(0.9, 1.1, 1.4), vents=8.36,
     zones=(
         Zone("aft peak", 5.4, decks=(6.2,)),
         Zone("engine room", 18.0, decks=(6.2,), permeability=MACHINERY),
@@ -30,7 +32,7 @@ DOUBLE_SIDED = {"tanks": (1.6, 5.2), "decks": (11.8,), "permeability": CARGO}
 BULK_CARRIER = Ship(
     name="bulk-carrier", what="bulk carrier with double sides, 179.8 m", verdict="meets",
     shows="side tanks in two layers, topside tanks as a height of their own",
-    length=179.8, breadth=30.4, depth=14.8, deepest=10.1, light=6.4, block=0.82, gm=(1.3, 1.8, 2.8),
+    length=179.8, breadth=30.4, depth=14.8, deepest=10.1, light=6.4, block=0.82, gm=(1.3, 1.8, 2.8), vents=15.56,
     zones=(
         Zone("aft peak", 9.6, decks=(12.0,)),
         Zone("engine room", 32.8, tanks=(3.2,), decks=(12.0,), permeability=MACHINERY),
@@ -49,7 +51,7 @@ ENGINES = {"tanks": (2.8,), "decks": (14.4,), "permeability": MACHINERY}
 CONTAINER_SHIP = Ship(
     name="container-ship", what="container ship of 20 zones, 197.6 m", verdict="meets",
     shows="as many zones as a file may have; groups of up to five zones, the longer ones left out",
-    length=197.6, breadth=32.2, depth=17.6, deepest=11.2, light=7.7, block=0.66, gm=(0.6, 0.8, 1.2),
+    length=197.6, breadth=32.2, depth=17.6, deepest=11.2, light=7.7, block=0.66, gm=(0.6, 0.8, 1.2), vents=18.36,
     adjacent=5,
     zones=(
         Zone("aft peak", 6.4),
@@ -80,7 +82,7 @@ TWEEN_DECKED = {"tanks": (2.6,), "decks": (9.2,), "permeability": CARGO}
 HEAVY_LIFT = Ship(
     name="heavy-lift", what="heavy-lift ship, 132.4 m", verdict="meets",
     shows="a tween deck and side tanks: A and all three partial indices are well above their marks",
-    length=132.4, breadth=22.8, depth=11.6, deepest=7.6, light=5.1, block=0.72, gm=(0.8, 1.0, 1.5),
+    length=132.4, breadth=22.8, depth=11.6, deepest=7.6, light=5.1, block=0.72, gm=(0.8, 1.0, 1.5), vents=12.36,
     zones=(
         Zone("aft peak", 7.2, decks=(9.2,)),
         Zone("engine room", 26.4, decks=(9.2,), permeability=MACHINERY),
@@ -97,7 +99,7 @@ HEAVY_LIFT = Ship(
 TIMBER_CARRIER = Ship(
     name="timber-carrier", what="timber carrier with little freeboard, 104 m", verdict="fails",
     shows="A reaches R, and the ship fails all the same: at the deepest draught As is below R/2",
-    length=104.0, breadth=17.2, depth=8.6, deepest=6.9, light=3.2, block=0.75, gm=(0.6, 1.6, 2.6),
+    length=104.0, breadth=17.2, depth=8.6, deepest=6.9, light=3.2, block=0.75, gm=(0.6, 1.6, 2.6), vents=9.36,
     zones=(
         Zone("aft peak", 6.0),
         Zone("engine room", 22.4, permeability=MACHINERY),
@@ -112,7 +114,7 @@ TIMBER_CARRIER = Ship(
 REEFER = Ship(
     name="reefer", what="refrigerated cargo ship, 141.6 m", verdict="unsettled",
     shows="GM drawn down a millimetre at a time until R lies between the ends of A: one more meets, one less fails",
-    length=141.6, breadth=21.6, depth=11.8, deepest=8.4, light=5.9, block=0.62, gm=(0.436, 0.536, 0.836),
+    length=141.6, breadth=21.6, depth=11.8, deepest=8.4, light=5.9, block=0.62, gm=(0.436, 0.536, 0.836), vents=12.7,
     zones=(
         Zone("aft peak", 8.0, decks=(10.2,)),
         Zone("hold 4", 28.0, decks=(10.2,), permeability=CARGO),
@@ -125,4 +127,22 @@ REEFER = Ship(
     ),
 )
 
-FLEET = (COASTER, BULK_CARRIER, CONTAINER_SHIP, HEAVY_LIFT, TIMBER_CARRIER, REEFER)
+FREEBOARD_DECK = 8.0
+PENNED = {"tanks": (1.8,), "decks": (FREEBOARD_DECK,), "permeability": PENS}
+
+LIVESTOCK_CARRIER = Ship(
+    name="livestock-carrier", what="livestock carrier with a shelter deck, 118.8 m", verdict="fails", raised=0.5,
+    shows="the ventilators of its pens open in the side, 0.9 m above the freeboard deck: there it fails, half a metre higher it meets",
+    length=118.8, breadth=19.6, depth=10.8, deepest=7.2, light=5.2, block=0.66, gm=(1.7, 1.9, 2.4), vents=8.9,
+    zones=(
+        Zone("aft peak", 7.2, decks=(FREEBOARD_DECK,)),
+        Zone("engine room", 27.6, decks=(FREEBOARD_DECK,), permeability=MACHINERY),
+        Zone("hold 3", 51.6, **PENNED),
+        Zone("hold 2", 75.6, **PENNED),
+        Zone("hold 1", 99.6, **PENNED),
+        Zone("bow thruster", 108.0, decks=(FREEBOARD_DECK,)),
+        Zone("fore peak", 118.8, decks=(FREEBOARD_DECK,)),
+    ),
+)
+
+FLEET = (COASTER, BULK_CARRIER, CONTAINER_SHIP, HEAVY_LIFT, TIMBER_CARRIER, REEFER, LIVESTOCK_CARRIER)

@@ -1,9 +1,11 @@
-"""Lever, range and heel of a flooded ship by rule of thumb: a stand-in for the results of your own stability program."""
+"""Lever, range, heel and opening of a flooded ship by rule of thumb: a stand-in for the results of your own stability program."""
 
 from fractions import Fraction
+from math import ceil, floor
 from typing import NamedTuple
 
 DEGREES = Fraction(573, 10)  # in a radian
+HIGHEST = 30000              # millimetres above or below the waterline, the most that a file may say of an opening
 
 
 class Space(NamedTuple):
@@ -48,8 +50,15 @@ def spaces(ship, a, n, b, h):
         yield Space(ends[place], ends[place + 1], breadth, height, exact(zone.permeability))
 
 
+def rounded(lever, reach, heel, opening):
+    """The numbers of a result as they are entered, each to its safe side: the heel up, the others down."""
+    held = max(-HIGHEST, min(HIGHEST, floor(opening * 1000)))
+    return floor(lever * 1000), floor(reach * 100), ceil(heel * 100), held
+
+
 def results(ship, a, n, b, h, at):
-    """Lever in millimetres, range and heel in hundredths of a degree at one draught; nothing where the ship is lost."""
+    """Lever in millimetres, range and heel in hundredths of a degree, the opening's height above the final waterline in millimetres, at one draught;
+    nothing where the ship is lost. The opening is taken to stand at the damaged side and at the end that goes down."""
     length, breadth, block = exact(ship.length), exact(ship.breadth), exact(ship.block)
     draught = ship.draughts[at]
     freeboard = exact(ship.depth) - draught
@@ -68,10 +77,12 @@ def results(ship, a, n, b, h, at):
     gm = exact(ship.gm[at]) * left / plane
     heel = heeling / (length * breadth * draught * block * gm)
     trim = abs(trimming) / (left * length / 7)
-    dry = freeboard - lost / left - trim / 2 - heel * breadth / 4
+    sinkage = lost / left + trim / 2
+    dry = freeboard - sinkage - heel * breadth / 4
+    opening = exact(ship.vents) - draught - sinkage - heel * breadth / 2
     spare = dry / freeboard * (1 - lost_reserve / (plane * freeboard))
     lever = gm * spare * spare * Fraction(3, 10) - gm * heel / 4
     reach = 50 * spare - DEGREES * heel
     if dry <= 0 or lever <= 0 or reach <= 0:
         return None
-    return int(lever * 1000), int(reach * 100), int(DEGREES * heel * 100)
+    return rounded(lever, reach, DEGREES * heel, opening)

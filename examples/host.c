@@ -34,7 +34,12 @@ static const char *const refusals[] = {
 static const struct {
     uint64_t mark;
     const char *name;
-} marks[] = {{DAMINDEX_LOW_LEVER, "lever"}, {DAMINDEX_LOW_RANGE, "range"}, {DAMINDEX_HIGH_HEEL, "heel"}};
+} marks[] = {
+    {DAMINDEX_LOW_LEVER, "lever"},
+    {DAMINDEX_LOW_RANGE, "range"},
+    {DAMINDEX_HIGH_HEEL, "heel"},
+    {DAMINDEX_IMMERSED_OPENING, "an immersed opening"},
+};
 
 /* In the order in which a row's numbers have them. */
 static const char *const draughts[] = {"deepest", "partial", "light"};

@@ -20,7 +20,7 @@ VERDICTS = {1: "meets", 2: "fails", 3: "unsettled"}
 PROGRAMS = {"damindex": [str(ROOT / "damindex")], "the independent program": [sys.executable, str(ROOT / "tests" / "independent")]}
 PRINTED = (
     b"0126ac064017700fa00205dc\n"
-    b"02010103204844001e01900000001e01900000001e01900000\n"
+    b"02010103204844001e019000000000001e019000000000001e019000000000\n"
     b"03010203204844000000000000\n"
     b"03020103204844271027102710\n"
     b"0f0003\n"
@@ -130,8 +130,14 @@ def with_gm(ship, more):
     return ship._replace(gm=tuple(float(exact(gm) + exact(more) / 1000) for gm in ship.gm))
 
 
+def with_vents(ship, more):
+    """The ship with its lowest opening so many metres higher."""
+    return ship._replace(vents=float(exact(ship.vents) + exact(more)))
+
+
 def ship_faults():
-    """For each ship: its verdict, its list of groups, and that no longer damage is survived better; what a millimetre of GM does."""
+    """For each ship: its verdict, its list of groups, and that no longer damage is survived better; what a millimetre of GM does, and how much
+    higher its vents must be."""
     for ship in FLEET:
         case = reading(made(ship))
         yield None if verdict(made(ship)) == ship.verdict else f"{ship.name}: the verdict is not {ship.verdict}"
@@ -140,6 +146,9 @@ def ship_faults():
         if ship.verdict == "unsettled":
             told = [verdict(made(with_gm(ship, more))) for more in (1, -1)]
             yield None if told == ["meets", "fails"] else f"{ship.name}: a millimetre of GM more and less gives {told}"
+        if ship.raised is not None:
+            told = [verdict(made(with_vents(ship, more))) for more in (exact(ship.raised), exact(ship.raised) - exact(0.1))]
+            yield None if told == ["meets", "fails"] else f"{ship.name}: vents {ship.raised} m higher, and a tenth less, give {told}"
 
 
 def page_faults():

@@ -35,8 +35,10 @@ class Ship(NamedTuple):
     light: float
     block: float
     gm: Tuple[float, float, float]
+    vents: float                     # the lower edge of its lowest opening, air pipe or ventilator, above the keel
     zones: Tuple[Zone, ...]
     adjacent: int = 20               # groups of more zones than that are left out
+    raised: Optional[float] = None   # where it fails for its vents: how much higher they must be, in tenths of a metre
 
     @property
     def draughts(self):
@@ -54,8 +56,8 @@ def whole(figure, parts):
 
 
 def digits(count, size=2):
-    """A number as hexadecimal digits of so many bytes, the high byte first."""
-    return count.to_bytes(size, "big").hex()
+    """A number as hexadecimal digits of so many bytes, the high byte first; one below zero in two's complement."""
+    return count.to_bytes(size, "big", signed=count < 0).hex()
 
 
 def groups(ship):
@@ -78,10 +80,10 @@ def heights(ship, zones):
 
 
 def row_line(head, found):
-    """A row of three results; where the ship is lost at every draught, a row of given survivals 0."""
+    """A row of three results, with zeros where the ship is lost; where it is lost at every draught, a row of given survivals 0."""
     if not any(found):
         return "03" + head + 3 * digits(0)
-    return "02" + head + "".join(digits(number) for result in found for number in (result or (0, 0, 0)))
+    return "02" + head + "".join(digits(number) for result in found for number in (result or (0, 0, 0, 0)))
 
 
 def group_rows(ship, a, n):

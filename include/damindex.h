@@ -34,11 +34,11 @@ extern "C" {
 
 /* The version of this header. The library tells its own by damindex_version. Major: something that a program relies on has changed. Minor:
  * something was added. Patch: neither. A program runs with a library of its own major version that is not older. */
-#define DAMINDEX_VERSION_MAJOR 2
+#define DAMINDEX_VERSION_MAJOR 3
 #define DAMINDEX_VERSION_MINOR 0
 #define DAMINDEX_VERSION_PATCH 0
 #define DAMINDEX_VERSION (10000 * DAMINDEX_VERSION_MAJOR + 100 * DAMINDEX_VERSION_MINOR + DAMINDEX_VERSION_PATCH)
-#define DAMINDEX_VERSION_STRING "2.0.0"
+#define DAMINDEX_VERSION_STRING "3.0.0"
 
 /* Sizes that serve every input (proved). A longer input than the longest is refused for its length, whatever it holds: to read one byte more
  * than that is enough to tell. */
@@ -74,19 +74,20 @@ enum {
     DAMINDEX_UNSETTLED = 3 /* neither: some mark lies between the ends */
 };
 
-/* The marks of a survival, added up: what holds it down. A survival that was found from lever, range and heel is 1 just where it has no mark; a
- * given survival never has a mark, whatever it is. */
+/* The marks of a survival, added up: what holds it down. A survival that was found from lever, range, heel and opening is 1 just where it has no
+ * mark; a given survival never has a mark, whatever it is. Each mark is told of its own number, whatever the others are. */
 enum {
-    DAMINDEX_LOW_LEVER = 1, /* the lever is below its cap of 120 mm */
-    DAMINDEX_LOW_RANGE = 2, /* the range is below its cap of 16 degrees */
-    DAMINDEX_HIGH_HEEL = 4  /* the heel is above 25 degrees */
+    DAMINDEX_LOW_LEVER = 1,       /* the lever is below its cap of 120 mm */
+    DAMINDEX_LOW_RANGE = 2,       /* the range is below its cap of 16 degrees */
+    DAMINDEX_HIGH_HEEL = 4,       /* the heel is above 25 degrees */
+    DAMINDEX_IMMERSED_OPENING = 8 /* the critical opening is below the final waterline: the survival is 0 */
 };
 
 /* Refusals. A file is judged line by line, and the first line that breaks a rule gives number and line. */
 enum {
     DAMINDEX_TOO_LONG = 1,        /* more than 32,768 bytes; line 0 */
     DAMINDEX_NOT_HEXADECIMAL = 2, /* an empty line, an odd number of digits, a byte that is no digit, or no closing line feed */
-    DAMINDEX_WRONG_FRAME = 3,     /* a frame of another kind or length than may stand there */
+    DAMINDEX_WRONG_FRAME = 3,     /* a frame of another kind or length than may stand there; so is a row of results with no openings, of 25 bytes */
     DAMINDEX_HULL_LIMITS = 4,     /* length, breadth or a draught outside its limits; line 1 */
     DAMINDEX_ZONES = 5,           /* the zone count, the hull frame's length or the bulkheads; line 1 */
     DAMINDEX_ROW_COUNT = 6,       /* a 501st row, or an end frame that counts other rows than there were */

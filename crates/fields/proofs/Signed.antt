@@ -1,5 +1,5 @@
 -- Two bytes with a sign: the number on either side of 32,768, written and read back. Assumes nothing.
-use Prim.Native.Nat.{ℕ, suc, _+_, _-_, _≤_, _<_}
+use Prim.Native.Nat.{ℕ, suc, _+_, _-_, _%_, _≤_, _<_}
 use mathlib.Core.Path.{_≡_, refl, _∙_, ap}
 use mathlib.Core.List.{List, [], _∷_, _++_}
 use native.Mathlib.Omega.{arith}
@@ -19,9 +19,25 @@ pub signed-high : (n : ℕ) → 32768 ≤ n → signed n ≡ negsuc (65535 - n)
 unfolding signed
 signed-high n h = rw (le-ltb n 32768 h) refl
 
--- 65,536 taken off
-pub taken-off : (n : ℕ) → n < 65536 → pos n -ℤ pos 65536 ≡ negsuc (65535 - n)
-taken-off n h = let e : 65536 - suc n ≡ 65535 - n = omega arith in rw (lt-ltb n 65536 h) (ap negsuc e)
+-- half a turn on, around at 65,536, and half a turn back
+pub around : (n : ℕ) → n < 65536 → pos ((n + 32768) % 65536) -ℤ pos 32768 ≡ signed n
+around n h = split 32768 n high low
+  where
+    high : 32768 ≤ n → pos ((n + 32768) % 65536) -ℤ pos 32768 ≡ signed n
+    high l =
+        let e : (n + 32768) % 65536 ≡ n - 32768 = omega arith in
+        let k : 32768 - suc (n - 32768) ≡ 65535 - n = omega arith in
+        rw (e, lt-ltb (n - 32768) 32768 (omega arith), signed-high n l) (ap negsuc k)
+
+    low : n < 32768 → pos ((n + 32768) % 65536) -ℤ pos 32768 ≡ signed n
+    low l =
+        let e : (n + 32768) % 65536 ≡ n + 32768 = omega arith in
+        let k : n + 32768 - 32768 ≡ n = omega arith in
+        rw (e, le-ltb (n + 32768) 32768 (omega arith), signed-low n l) (ap pos k)
+
+-- and no further from 0 than that
+pub near-0 : (n : ℕ) → n < 65536 → mag (signed n) < 32768
+near-0 n h = split 32768 n (λ l. rw (signed-high n l) (omega arith)) (λ l. rw (signed-low n l) l)
 
 -- ---- there and back
 pub unsigned-signed : (n : ℕ) → n < 65536 → unsigned (signed n) ≡ n

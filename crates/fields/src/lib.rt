@@ -44,15 +44,12 @@ pub fn word_in(f: &[u8], at: usize) -> u64
     f[at] as u64 * 256 + f[at + 1] as u64
 }
 
-// The number with a sign that two bytes have in two's complement.
+// The number with a sign that two bytes have in two's complement: with no jump.
 fn with_sign(n: u64) -> i64
     requires { ⌜ n < 65536 ⌝ }
     ensures { λ r. ⌜ r ≡ signed n ⌝ }
 {
-    if n < 32768 {
-        return n as i64;
-    }
-    n as i64 - 65536
+    ((n + 32768) % 65536) as i64 - 32768
 }
 
 // Two bytes of a part of a line that has both, the high one first, in two's complement.

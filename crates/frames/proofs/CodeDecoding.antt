@@ -1,13 +1,14 @@
 -- What the loop over a line's pairs of digits keeps, and what a caller has of the answer and of the buffer. Assumes nothing.
-use Prim.Native.Nat.{ℕ, zero, suc, _+_, _*_, _/_, _%_, _≤_, _<_}
+use Prim.Native.Nat.{ℕ, zero, suc, _+_, _-_, _*_, _/_, _%_, _≤_, _<_}
 use mathlib.Core.Path.{_≡_, refl, sym, _∙_, ap}
 use mathlib.Core.Bool.{Bool, true, false, cond, not, _&&_, _||_, or-false, or-assoc}
-use mathlib.Core.List.{List, [], _∷_}
+use mathlib.Core.List.{List, [], _∷_, _++_}
+use native.Mathlib.Nat.{zero-add}
 use native.Mathlib.Numerals.{add-one}
 use native.Mathlib.Omega.{arith}
 use lib.Dec.{eqb}
-use lib.ListN.{length, getD, take, drop, set, replicate, getD-replicate, drop-of-length-le}
-use lib.Seq.{sets, sets-eq, length-sets, take-at, take-suc, take-add, length-take-le, drop-cons}
+use lib.ListN.{length, getD, take, drop, set, replicate, length-drop, getD-replicate, drop-of-length-le}
+use lib.Seq.{sets, sets-eq, length-sets, take-at, take-suc, take-add, take-take, take-append-le, drop-append-add, drop-drop, length-take-le, drop-cons}
 use Rattle.laws.proofs.Lists.{sets-append}
 use Rattle.hexadecimal.specs.Hex.{digitOf, refusalOf, markOf, pairs, byteOf, bytesOf, digitsOnly, proper}
 use Rattle.hexadecimal.proofs.Marks.{mark-tells, mark-counts}
@@ -21,6 +22,31 @@ use Rattle.frames.specs.Decoding.{markAt, writtenOf}
 not-both : (a b : Bool) → (not a || not b) ≡ not (a && b)
 not-both true b = refl
 not-both false b = refl
+
+-- read once and once more
+twice-read : (p q r : Bool) → (not (p && q) || not (q && r)) ≡ not (p && (q && r))
+twice-read true true r = refl
+twice-read true false r = refl
+twice-read false true r = refl
+twice-read false false r = refl
+
+-- the first a of xs are at the front, and k of them from b on are written over those from there
+written-over : (was xs : List ℕ) (a b k : ℕ) → b ≤ a → a ≤ b + k → b + k ≤ length was → b + k ≤ length xs →
+    sets (sets was 0 (take a xs)) b (take k (drop b xs)) ≡ sets was 0 (take (b + k) xs)
+written-over was xs a b k l m h r =
+    let j = b + k - a in
+    let far : b + k ≡ a + j = omega arith in
+    let some : length (take a xs) ≡ a = length-take-le a xs (omega arith) in
+    let part : length (take k (drop b xs)) ≡ k = length-take-le k (drop b xs) (omega (arith, length-drop b xs)) in
+    let whole : length (take (b + k) xs) ≡ b + k = length-take-le (b + k) xs r in
+    let front = take a xs ++ drop a was in
+    let first : sets was 0 (take a xs) ≡ front = sets-eq (take a xs) was 0 (omega arith) ∙ rw (some, zero-add a) refl in
+    let long : length front ≡ length was = sym (ap length first) ∙ length-sets was 0 (take a xs) in
+    let head : take b front ≡ take b xs = take-append-le b (take a xs) (drop a was) (omega arith) ∙ take-take b a xs l in
+    let tail : drop (b + k) front ≡ drop (b + k) was = rw far (ap (λ n. drop (n + j) front) (sym some) ∙ drop-append-add (take a xs) (drop a was) j ∙ drop-drop j a was) in
+    ap (λ o. sets o b (take k (drop b xs))) first
+    ∙ sets-eq (take k (drop b xs)) front b (omega arith)
+    ∙ rw (part, head, tail) (sym (sets-eq (take (b + k) xs) was 0 (omega arith) ∙ rw (whole, zero-add (b + k), take-add b k xs) refl))
 
 -- a digit more that may be none
 pub other-taken : (s : List ℕ) (k m : ℕ) → k < length s → m ≡ markOf (digitOf (getD s k 0)) → (not (digitsOnly (take k s)) || eqb m 16) ≡ not (digitsOnly (take (suc k) s))
@@ -76,17 +102,32 @@ module _ (text was out : List ℕ) (bad : Bool) (i : ℕ) (p : Decoding text was
         front = rw (pair-byte text i h l r e f) stored;
       }
 
-  -- so many pairs more
-  pub pairs-read : (k : ℕ) {new : List ℕ} {t : Bool} → (i + k) * 2 ≤ length text → t ≡ not (digitsOnly (take (k * 2) (drop (i * 2) text))) → new ≡ sets out i (take k (drop i (bytesOf text))) →
-      Decoding text was new (bad || t) (i + k)
-  pairs-read k h e f =
-      let long : 0 + length (take i (bytesOf text)) ≡ i = omega (arith, length-take-le i (bytesOf text) (omega (arith, length-bytesOf text))) in
-      let both : (i + k) * 2 ≡ i * 2 + k * 2 = omega arith in
-      let read = take (i * 2) text in
-      let more = take (k * 2) (drop (i * 2) text) in
+  -- so many pairs from a pair on, of which some may have been read before
+  pub pairs-read : (b k : ℕ) {new : List ℕ} {t : Bool} → b ≤ i → i ≤ b + k → (b + k) * 2 ≤ length text → b + k ≤ length was →
+      t ≡ not (digitsOnly (take (k * 2) (drop (b * 2) text))) → new ≡ sets out b (take k (drop b (bytesOf text))) → Decoding text was new (bad || t) (b + k)
+  pairs-read b k l m h r e f =
+      let c = i - b in
+      let there : i * 2 ≡ b * 2 + c * 2 = omega arith in
+      let further : k * 2 ≡ c * 2 + (k - c) * 2 = omega arith in
+      let all : (b + k) * 2 ≡ b * 2 + k * 2 = omega arith in
+      let before = take (b * 2) text in
+      let again = take (c * 2) (drop (b * 2) text) in
+      let more = take ((k - c) * 2) (drop (c * 2) (drop (b * 2) text)) in
       record {
-        other = rw (p .other, e, both, take-add (i * 2) (k * 2) text, digits-joined read more) (not-both (digitsOnly read) (digitsOnly more));
-        front = rw (f, p .front, take-add i k (bytesOf text), sets-append was 0 (take i (bytesOf text)) (take k (drop i (bytesOf text))), long) refl;
+        other = rw (
+          p .other,
+          e,
+          all,
+          take-add (b * 2) (k * 2) text,
+          there,
+          take-add (b * 2) (c * 2) text,
+          further,
+          take-add (c * 2) ((k - c) * 2) (drop (b * 2) text),
+          digits-joined before again,
+          digits-joined before (again ++ more),
+          digits-joined again more,
+        ) (twice-read (digitsOnly before) (digitsOnly again) (digitsOnly more));
+        front = f ∙ ap (λ o. sets o b (take k (drop b (bytesOf text)))) (p .front) ∙ written-over was (bytesOf text) i b k l m r (omega (arith, length-bytesOf text));
       }
 
 -- the answer by the four tests

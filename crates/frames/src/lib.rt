@@ -59,25 +59,46 @@ fn decode_eight(text: &[u8], out: &mut [u8], i: usize) -> bool
     some_other(v)
 }
 
-// Writes the bytes of the first m pairs to the front of the buffer, and says whether one of their digits is none. Each turn does the same
-// whatever the digits are, and eight pairs are a turn as long as there are so many, so that the compiler takes them at once.
-fn decode_pairs(text: &[u8], out: &mut [u8], m: usize) -> bool
+fn lesser(a: usize, b: usize) -> usize
+    ensures { λ r. ⌜ r ≡ min a b ⌝ }
+{
+    if a <= b { a } else { b }
+}
+
+// Writes the bytes of the first m pairs to the front of the buffer, one by one, and says whether one of their digits is none.
+fn decode_few(text: &[u8], out: &mut [u8], m: usize) -> bool
     requires { ⌜ (m * 2 ≤ length (now text)) × (m ≤ length (now out)) ⌝ }
     ensures result { λ r. ⌜ r ≡ not (digitsOnly (take (m * 2) (now (text .entry)))) ⌝ }
     ensures buffer { λ r. ⌜ now (out .exit) ≡ sets (now (out .entry)) 0 (take m (bytesOf (now (text .entry)))) ⌝ }
 {
     let mut bad = false;
     let mut i: usize = 0;
-    while i + 8 <= m {
-        bad = bad | decode_eight(text, out, i);
-        i = i + 8;
-    }
     while i < m {
         let h = value_of(text[i * 2]);
         let l = value_of(text[i * 2 + 1]);
         bad = bad | (h == 16) | (l == 16);
         out[i] = h % 16 * 16 + l % 16;
         i = i + 1;
+    }
+    bad
+}
+
+// The same of however many pairs. Each turn does the same whatever the digits are, and eight pairs are a turn, so that the compiler takes them at
+// once; the last eight end with the last pair, and those among them that were read before come out as they did.
+fn decode_pairs(text: &[u8], out: &mut [u8], m: usize) -> bool
+    requires { ⌜ (m * 2 ≤ length (now text)) × (m ≤ length (now out)) ⌝ }
+    ensures result { λ r. ⌜ r ≡ not (digitsOnly (take (m * 2) (now (text .entry)))) ⌝ }
+    ensures buffer { λ r. ⌜ now (out .exit) ≡ sets (now (out .entry)) 0 (take m (bytesOf (now (text .entry)))) ⌝ }
+{
+    if m < 8 {
+        return decode_few(text, out, m);
+    }
+    let mut bad = false;
+    let mut i: usize = 0;
+    while i < m {
+        let at = lesser(i, m - 8);
+        bad = bad | decode_eight(text, out, at);
+        i = at + 8;
     }
     bad
 }
@@ -93,12 +114,6 @@ fn other_from(text: &[u8], at: usize) -> bool
         i = i + 1;
     }
     bad
-}
-
-fn lesser(a: usize, b: usize) -> usize
-    ensures { λ r. ⌜ r ≡ min a b ⌝ }
-{
-    if a <= b { a } else { b }
 }
 
 // Judges all of a line's text, and writes its bytes to the front of the buffer, as many as go in.

@@ -2,7 +2,6 @@
 // shares.
 use casefile::Judgement;
 use casefile::KEPT;
-use records::Finding;
 ghost use mathlib.Core.Path.{_≡_};
 ghost use Rattle.solas.specs.Height.{rowV};
 ghost use Rattle.casefile.specs.Answer.{judgementOf};
@@ -24,14 +23,7 @@ pub extern "C" fn probe_bottom(
 ) -> u64
     ensures { λ r. ⌜ r ≡ survivalOf kind (record { lever = lever; range = range; heel = heel; opening = opening; given = given }) .bottom ⌝ }
 {
-    let f = Finding {
-        lever,
-        range,
-        heel,
-        opening,
-        given,
-    };
-    survival::finding::survival(kind, f).bottom
+    survival::finding::survival(kind, lever, range, heel, opening, given).bottom
 }
 
 // Its top.
@@ -46,14 +38,7 @@ pub extern "C" fn probe_top(
 ) -> u64
     ensures { λ r. ⌜ r ≡ survivalOf kind (record { lever = lever; range = range; heel = heel; opening = opening; given = given }) .top ⌝ }
 {
-    let f = Finding {
-        lever,
-        range,
-        heel,
-        opening,
-        given,
-    };
-    survival::finding::survival(kind, f).top
+    survival::finding::survival(kind, lever, range, heel, opening, given).top
 }
 
 // The byte of its marks.
@@ -68,14 +53,7 @@ pub extern "C" fn probe_marks(
 ) -> u64
     ensures { λ r. ⌜ r ≡ markByte (survivalOf kind (record { lever = lever; range = range; heel = heel; opening = opening; given = given }) .marks) ⌝ }
 {
-    let f = Finding {
-        lever,
-        range,
-        heel,
-        opening,
-        given,
-    };
-    let s = survival::finding::survival(kind, f);
+    let s = survival::finding::survival(kind, lever, range, heel, opening, given);
     printing::mark_byte(s.marks)
 }
 

@@ -2,19 +2,19 @@
 -- Assumes nothing.
 use Prim.Native.Nat.{ℕ, _+_, _*_, _/_, _^_, _≤_, _<_}
 use mathlib.Core.Bool.{Bool, true, false, cond}
-use mathlib.Core.Path.{_≡_, refl, ap, sym, _∙_}
+use mathlib.Core.Path.{_≡_, refl, ap, _∙_}
 use native.Mathlib.Nat.{div-le-of-le-mul, mul-le-mul-left}
 use native.Mathlib.Omega.{arith}
 use lib.Dec.{eqb, lit<}
+use lib.IntN.{ℤ}
 use borrow.Author.Tests.{eq-eqb, ne-eqb}
-use Rattle.laws.specs.Fraction.{whole}
+use Rattle.laws.specs.Fraction.{Fraction, whole}
 use Rattle.laws.specs.Rounding.{ceil}
 use Rattle.laws.proofs.Equal.{same-floor, same-ceil}
 use Rattle.laws.proofs.Fraction.{is-whole, below}
 use Rattle.laws.proofs.Rounding.{ceil-least, floor-not-above-ceil, ceil-near-floor}
 use Rattle.records.specs.declared.Finding.{Finding}
-use Rattle.records.specs.declared.Marks.{Marks}
-use Rattle.solas.specs.Survival.{s⁴, immersed}
+use Rattle.solas.specs.Survival.{s⁴, immersed, unlessImmersed}
 use Rattle.solas.proofs.Survival.{s⁴-not-negative, s⁴-at-most-one, lost-if-immersed, kept-if-dry, either-way}
 use Rattle.numbers.specs.Ratio.{ratioOf}
 use Rattle.survival.specs.Caps.{Capped}
@@ -74,18 +74,21 @@ pub as-found : (kind : ℕ) (f : Finding) → (kind ≡ 3 → ⊥) →
 unfolding survivalOf factorOf marksOf
 as-found kind f n = rw (ne-eqb kind 3 n) refl
 
+-- ---- with an opening o, whatever s⁴ is
+module _ (o : ℤ) (f : Fraction) where
+  pub lost-roots : immersed o ≡ true → roundedOf (ratioOf (unlessImmersed o f)) ≡ record { bottom = 0; top = 0 }
+  lost-roots i = ap (λ g. roundedOf (ratioOf g)) (lost-if-immersed o f i) ∙ none
+
+  pub dry-roots : immersed o ≡ false → roundedOf (ratioOf (unlessImmersed o f)) ≡ roundedOf (ratioOf f)
+  dry-roots i = ap (λ g. roundedOf (ratioOf g)) (kept-if-dry o f i)
+
 pub as-lost : (kind : ℕ) (f : Finding) → (kind ≡ 3 → ⊥) → immersed (f .opening) ≡ true →
     survivalOf kind f ≡ marked (record { bottom = 0; top = 0 }) (foundMarks (f .lever) (f .range) (f .heel) (f .opening))
-as-lost kind f n i = as-found kind f n ∙ rw (lost-if-immersed (f .opening) (s⁴ (f .lever) (f .range) (f .heel)) i, none) refl
+as-lost kind f n i = as-found kind f n ∙ ap (λ r. marked r (foundMarks (f .lever) (f .range) (f .heel) (f .opening))) (lost-roots (f .opening) (s⁴ (f .lever) (f .range) (f .heel)) i)
 
 pub as-dry : (kind : ℕ) (f : Finding) → (kind ≡ 3 → ⊥) → immersed (f .opening) ≡ false →
     survivalOf kind f ≡ marked (roundedOf (ratioOf (s⁴ (f .lever) (f .range) (f .heel)))) (foundMarks (f .lever) (f .range) (f .heel) (f .opening))
-as-dry kind f n i = as-found kind f n ∙ rw (kept-if-dry (f .opening) (s⁴ (f .lever) (f .range) (f .heel)) i) refl
-
--- what the marks say of the opening is so
-pub opening-told : (f : Finding) (b : Bool) {m : Marks} → m ≡ foundMarks (f .lever) (f .range) (f .heel) (f .opening) → m .opening ≡ b → immersed (f .opening) ≡ b
-unfolding foundMarks
-opening-told f b e h = sym (ap (λ n. n .opening) e) ∙ h
+as-dry kind f n i = as-found kind f n ∙ ap (λ r. marked r (foundMarks (f .lever) (f .range) (f .heel) (f .opening))) (dry-roots (f .opening) (s⁴ (f .lever) (f .range) (f .heel)) i)
 
 -- what was found and what is given are from 0 to 1
 pub found-sensible : (kind : ℕ) (f : Finding) → f .given ≤ 10 ^ 4 → Sensible (factorOf kind f)

@@ -9,7 +9,7 @@ use roots::root_down;
 use roots::root_up;
 ghost use mathlib.Core.Path.{_≡_};
 ghost use Prim.Native.Nat.{_*_, _^_, min};
-ghost use Rattle.solas.specs.Survival.{k, s⁴, immersed};
+ghost use Rattle.solas.specs.Survival.{k, s⁴, immersed, unlessImmersed};
 ghost use Rattle.numbers.specs.Ratio.{ratioOf};
 ghost use Rattle.survival.specs.Caps.{Capped, OfCaps};
 ghost use Rattle.survival.specs.Marks.{foundMarks};
@@ -68,15 +68,15 @@ fn heel_factor(heel: u64) -> Ratio
 }
 
 // s⁴ of lever, range and heel.
-fn fourth(f: Finding) -> Ratio
-    ensures { λ r. ⌜ r ≡ ratioOf (s⁴ (f .lever) (f .range) (f .heel)) ⌝ }
+fn fourth(lever: u64, range: u64, heel: u64) -> Ratio
+    ensures { λ r. ⌜ r ≡ ratioOf (s⁴ lever range heel) ⌝ }
 {
-    let lever = lesser(f.lever, LEVER);
-    let range = lesser(f.range, RANGE);
-    let heel = heel_factor(f.heel);
+    let g = lesser(lever, LEVER);
+    let t = lesser(range, RANGE);
+    let k = heel_factor(heel);
     Ratio {
-        num: lever * range * heel.num,
-        den: CAPS * heel.den,
+        num: g * t * k.num,
+        den: CAPS * k.den,
     }
 }
 
@@ -123,23 +123,32 @@ fn is_immersed(opening: i64) -> bool
 }
 
 // What holds the survival of what was found down: lever and range below their caps, the heel above that from which k falls, an immersed opening.
-fn marks(f: Finding) -> Marks
-    ensures { λ r. ⌜ r ≡ foundMarks (f .lever) (f .range) (f .heel) (f .opening) ⌝ }
+fn marks(lever: u64, range: u64, heel: u64, opening: i64) -> Marks
+    ensures { λ r. ⌜ r ≡ foundMarks lever range heel opening ⌝ }
 {
     Marks {
-        lever: f.lever < LEVER,
-        range: f.range < RANGE,
-        heel: UPRIGHT < f.heel,
-        opening: is_immersed(f.opening),
+        lever: lever < LEVER,
+        range: range < RANGE,
+        heel: UPRIGHT < heel,
+        opening: is_immersed(opening),
     }
 }
 
-// The survival of a row of kind 2 from what was found, zero where the opening is immersed; of kind 3 as it is given, with no mark.
-pub fn survival(kind: u64, f: Finding) -> Survival
-    ensures { λ r. ⌜ r ≡ survivalOf kind f ⌝ }
+// The bottom and the top of what was found: zero where the opening is immersed.
+fn found(lever: u64, range: u64, heel: u64, opening: i64) -> Roots
+    ensures { λ r. ⌜ r ≡ roundedOf (ratioOf (unlessImmersed opening (s⁴ lever range heel))) ⌝ }
+{
+    if is_immersed(opening) {
+        return Roots { bottom: 0, top: 0 };
+    }
+    rounded(fourth(lever, range, heel))
+}
+
+// The survival of a result by its numbers: of a row of kind 2 from what was found, of kind 3 as it is given, with no mark.
+pub fn survival(kind: u64, lever: u64, range: u64, heel: u64, opening: i64, given: u64) -> Survival
+    ensures { λ r. ⌜ r ≡ survivalOf kind (record { lever = lever; range = range; heel = heel; opening = opening; given = given }) ⌝ }
 {
     if kind == 3 {
-        let s = f.given;
         let marks = Marks {
             lever: false,
             range: false,
@@ -147,20 +156,13 @@ pub fn survival(kind: u64, f: Finding) -> Survival
             opening: false,
         };
         return Survival {
-            bottom: s,
-            top: s,
+            bottom: given,
+            top: given,
             marks,
         };
     }
-    let marks = marks(f);
-    if marks.opening {
-        return Survival {
-            bottom: 0,
-            top: 0,
-            marks,
-        };
-    }
-    let s = rounded(fourth(f));
+    let s = found(lever, range, heel, opening);
+    let marks = marks(lever, range, heel, opening);
     Survival {
         bottom: s.bottom,
         top: s.top,
@@ -176,8 +178,29 @@ pub fn survivals(kind: u64, fs: [Finding; 3]) -> [Survival; 3]
     let partial = fs[1];
     let light = fs[2];
     [
-        survival(kind, deepest),
-        survival(kind, partial),
-        survival(kind, light),
+        survival(
+            kind,
+            deepest.lever,
+            deepest.range,
+            deepest.heel,
+            deepest.opening,
+            deepest.given,
+        ),
+        survival(
+            kind,
+            partial.lever,
+            partial.range,
+            partial.heel,
+            partial.opening,
+            partial.given,
+        ),
+        survival(
+            kind,
+            light.lever,
+            light.range,
+            light.heel,
+            light.opening,
+            light.given,
+        ),
     ]
 }

@@ -24,29 +24,29 @@ heel-factor-requires c κs = search needs
 heeled : (e : ℕ) {r : Ratio} → r ≡ ratioOf (k e) → (r .num ≤ 250000) × (r .den ≤ 250000)
 heeled e h = let b = k-bounds e in rw h (⊎-elim (λ d. omega (arith, b .0)) (λ d. omega (arith, b .0)) (b .1))
 
-mul-t5 : tie.Need-mul-t5
-mul-t5 c =
+mul-t7 : tie.Need-mul-t7
+mul-t7 c =
     let g : c .before .before .lesser .result ≤ 10000 = omega arith in
     let t : c .before .lesser2 .result ≤ 10000 = omega arith in
     omega (arith, mul-le-mul g t)
 
-mul-t6 : tie.Need-mul-t6
-mul-t6 c =
+mul-t8 : tie.Need-mul-t8
+mul-t8 c =
     let s = c .before in
     let g : s .before .before .lesser .result ≤ 10000 = omega arith in
     let t : s .before .lesser2 .result ≤ 10000 = omega arith in
     omega (arith, mul-le-mul (mul-le-mul g t) (heeled _ (s .heel-factor .ensures) .0))
 
-mul-t7 : tie.Need-mul-t7
-mul-t7 c = omega (arith, heeled _ (c .before .before .heel-factor .ensures) .1)
+mul-t9 : tie.Need-mul-t9
+mul-t9 c = omega (arith, heeled _ (c .before .before .heel-factor .ensures) .1)
 
 returns : tie.Need-returns
 returns c =
     let s = c .before .before in
-    let p = s .before .before .before .args .f in
-    rw (s .before .before .lesser .ensures, s .before .lesser2 .ensures, s .heel-factor .ensures) (sym (fourth-ratio (p .lever) (p .range) (p .heel)))
+    let a = s .before .before .before .args in
+    rw (s .before .before .lesser .ensures, s .before .lesser2 .ensures, s .heel-factor .ensures) (sym (fourth-ratio (a .lever) (a .range) (a .heel)))
 
 pub fourth-spec : {M : Type 1} → statement M
 fourth-spec =
     tie.close
-    (tie.spec lesser-requires lesser-requires-2 heel-factor-requires mul-t5 mul-t6 mul-t7 returns)
+    (tie.spec lesser-requires lesser-requires-2 heel-factor-requires mul-t7 mul-t8 mul-t9 returns)

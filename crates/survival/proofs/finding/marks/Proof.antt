@@ -1,7 +1,6 @@
 -- `survival::finding::marks` meets its contract. Assumes nothing.
-use mathlib.Core.Path.{_≡_, refl}
+use mathlib.Core.Path.{refl}
 use mir.Syntax.{w64}
-use mir.Val.{toZ, ofZ}
 use mir.ValLaws.{toZ-ofZ}
 use borrow.Author.Needs.{needs}
 use Rattle.survival.specs.Marks.{foundMarks}
@@ -13,10 +12,7 @@ is-immersed-requires c κs = search needs
 
 returns : tie.Need-returns
 unfolding foundMarks
-returns c =
-    let o = c .before .before .before .before .before .args .f .opening in
-    let back : toZ w64 (ofZ w64 o) ≡ o = toZ-ofZ w64 o (record { sfits = c .before .struct-told .given .1 .1 .1 .0 .1 }) in
-    rw (c .is-immersed .ensures, back) refl
+returns c = rw (c .is-immersed .ensures, toZ-ofZ w64 (c .before .args .opening) (c .before .fits .opening)) refl
 
 pub marks-spec : {M : Type 1} → statement M
 marks-spec = tie.close (tie.spec is-immersed-requires returns)

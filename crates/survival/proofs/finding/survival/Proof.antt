@@ -1,41 +1,28 @@
--- `survival::finding::survival` meets its contract, kind by kind, and by the opening's mark. Assumes nothing.
-use borrow.Author.Needs.{needs}
-use mathlib.Core.Bool.{true, false}
-use mathlib.Core.Path.{ap, ap₂, sym, _∙_}
+-- `survival::finding::survival` meets its contract, kind by kind. Assumes nothing.
+use mathlib.Core.Path.{ap₂, sym, _∙_}
 use native.Mathlib.Omega.{arith}
-use Rattle.survival.specs.Survival.{roundedOf, marked}
-use Rattle.survival.proofs.Factors.{as-given, as-lost, as-dry, opening-told}
-use Rattle.survival.proofs.Ratios.{fourth-capped}
+use mir.Syntax.{w64}
+use mir.ValLaws.{toZ-ofZ}
+use borrow.Author.Needs.{needs}
+use Rattle.survival.specs.Survival.{marked}
+use Rattle.survival.proofs.Factors.{as-given, as-found}
 use Rattle.survival.proofs.finding.survival.Statement.{statement}
 use Rattle.survival.proofs.finding.survival.Tie as tie
 
 returns : tie.Need-returns
-returns c = let a = c .before .args in sym (as-given (a .kind) (a .f) (omega arith))
+returns c = sym (as-given (c .before .args .kind) _ (omega arith))
+
+found-requires : tie.Need-found-requires
+found-requires c κs = search needs
 
 marks-requires : tie.Need-marks-requires
 marks-requires c κs = search needs
 
 returns-2 : tie.Need-returns-2
 returns-2 c =
-    let a = c .before .before .before .args in
-    let m = c .before .marks .ensures in
-    ap (marked (record { bottom = 0; top = 0 })) m ∙ sym (as-lost (a .kind) (a .f) (c .before .before .if1 .left) (opening-told (a .f) true m (c .if2 .taken)))
-
-fourth-requires : tie.Need-fourth-requires
-fourth-requires c κs = search needs
-
-rounded-requires : tie.Need-rounded-requires
-rounded-requires c κs = rw (c .fourth .ensures) (fourth-capped _ _ _)
-
-returns-3 : tie.Need-returns-3
-returns-3 c =
-    let b = c .before .before .before in
-    let a = b .before .before .args in
-    let m = b .marks .ensures in
-    ap₂ marked (c .rounded .ensures ∙ ap roundedOf (c .before .fourth .ensures)) m
-    ∙ sym (as-dry (a .kind) (a .f) (b .before .if1 .left) (opening-told (a .f) false m (c .before .before .if2 .left)))
+    let s = c .before .before .before in
+    let back = toZ-ofZ w64 (s .args .opening) (s .fits .opening) in
+    ap₂ marked (rw back at (c .before .found .ensures)) (rw back at (c .marks .ensures)) ∙ sym (as-found (s .args .kind) _ (c .before .before .if1 .left))
 
 pub survival-spec : {M : Type 1} → statement M
-survival-spec =
-    tie.close
-    (tie.spec returns marks-requires returns-2 fourth-requires rounded-requires returns-3)
+survival-spec = tie.close (tie.spec returns found-requires marks-requires returns-2)

@@ -1,9 +1,13 @@
 -- `survival::finding::survivals` meets its contract, draught by draught. Assumes nothing.
 use borrow.Author.Needs.{needs}
-use Prim.Native.Nat.{ℕ}
+use Prim.Native.Nat.{ℕ, _^_, _<_}
 use mathlib.Core.Path.{_≡_}
 use mathlib.Core.List.{List, [], _∷_}
 use lib.ListN.{getD}
+use lib.Signed.{mag}
+use mir.Syntax.{w64}
+use mir.Val.{toZ, ofZ}
+use mir.ValLaws.{toZ-ofZ}
 use Rattle.laws.proofs.Lists.{three-same}
 use Rattle.records.specs.declared.Finding.{Finding}
 use Rattle.records.specs.declared.Survival.{Survival}
@@ -29,6 +33,11 @@ survival-requires-2 c κs = search needs
 survival-requires-3 : tie.Need-survival-requires-3
 survival-requires-3 c κs = search needs
 
+-- the numbers of a result, the opening as the machine holds it, are the result
+of-record : (kind : ℕ) (f : Finding) {s : Survival} → mag (f .opening) < 2 ^ 63 →
+    s ≡ survivalOf kind (record { lever = f .lever; range = f .range; heel = f .heel; opening = toZ w64 (ofZ w64 (f .opening)); given = f .given }) → s ≡ survivalOf kind f
+of-record kind f h e = let back = toZ-ofZ w64 (f .opening) (record { sfits = h }) in rw back at e
+
 in-order : (kind : ℕ) (fs : List Finding) {s p l : Survival} →
     s ≡ survivalOf kind (getD fs 0 nothing) → p ≡ survivalOf kind (getD fs 1 nothing) → l ≡ survivalOf kind (getD fs 2 nothing) → (s ∷ p ∷ l ∷ []) ≡ survivalsOf kind fs
 unfolding survivalsOf
@@ -36,8 +45,14 @@ in-order kind fs e f g = three-same e f g
 
 returns : tie.Need-returns
 returns c =
-    let a = c .before .before .before .before .before .before .args in
-    in-order (a .kind) (a .t2) (c .before .before .survival .ensures) (c .before .survival2 .ensures) (c .survival3 .ensures)
+    let light = c .before in
+    let partial = light .before .before in
+    let deepest = partial .before .before in
+    let a = deepest .before .before .before .before .args in
+    in-order (a .kind) (a .t2)
+    (of-record (a .kind) (getD (a .t2) 0 nothing) (deepest .struct-told .given .1 .1 .1 .0 .1) (partial .before .survival .ensures))
+    (of-record (a .kind) (getD (a .t2) 1 nothing) (partial .struct-told2 .given .1 .1 .1 .0 .1) (light .before .survival2 .ensures))
+    (of-record (a .kind) (getD (a .t2) 2 nothing) (light .struct-told3 .given .1 .1 .1 .0 .1) (c .survival3 .ensures))
 
 pub survivals-spec : {M : Type 1} → statement M
 survivals-spec =

@@ -1,4 +1,4 @@
--- `past_sixteens` meets its contract: past sixteen bytes that hold no line feed the line ends where it did. Assumes nothing.
+-- `past_runs` meets its contract: past a run of bytes that hold no line feed the line ends where it did. Assumes nothing.
 use mathlib.Core.Path.{_≡_, refl, sym, _∙_}
 use Prim.Native.Nat.{_+_, _-_}
 use lib.ListN.{length, drop}
@@ -6,14 +6,14 @@ use native.Mathlib.Omega.{arith}
 use borrow.Author.Needs.{needs}
 use Rattle.lines.specs.Lines.{lineLength}
 use Rattle.lines.proofs.Lines.{feedless-go-on}
-use Rattle.lines.proofs.past_sixteens.Statement.{statement}
-use Rattle.lines.proofs.past_sixteens.Tie as tie
+use Rattle.lines.proofs.past_runs.Statement.{statement}
+use Rattle.lines.proofs.past_runs.Tie as tie
 
 abbrev Inv-loop : tie.InvT-loop
-Inv-loop input at i₀ i = i + lineLength (drop i input) ≡ at + lineLength (drop at input)
+Inv-loop input at n i₀ i = i + lineLength (drop i input) ≡ at + lineLength (drop at input)
 
 abbrev μ-loop : tie.MeasureT-loop
-μ-loop input at i₀ i = length input - i
+μ-loop input at n i₀ i = length input - i
 
 loop-holds : tie.Need-loop-holds Inv-loop μ-loop
 loop-holds c = refl
@@ -24,8 +24,8 @@ sub-if1 c = search needs
 returns : tie.Need-returns Inv-loop μ-loop
 returns c = search needs
 
-feed-in-sixteen-requires : tie.Need-feed-in-sixteen-requires Inv-loop μ-loop
-feed-in-sixteen-requires c κs = search needs
+feed-in-requires : tie.Need-feed-in-requires Inv-loop μ-loop
+feed-in-requires c κs = search needs
 
 returns-2 : tie.Need-returns-2 Inv-loop μ-loop
 returns-2 c = search needs
@@ -38,14 +38,14 @@ loop-less c = search needs
 
 loop-again : tie.Need-loop-again Inv-loop μ-loop
 loop-again c =
-    feedless-go-on (c .before .before .before .before .before .before .args .input .now) (c .before .before .before .before .loop .i) 16 (omega arith) (sym (c .before .feed-in-sixteen .ensures) ∙ c .if2 .left)
+    feedless-go-on (c .before .before .before .before .before .before .args .input .now) (c .before .before .before .before .loop .i) (c .before .before .before .before .before .before .args .n) (omega arith) (sym (c .before .feed-in .ensures) ∙ c .if2 .left)
     ∙ c .before .before .before .before .loop .inv
 
 returns-3 : tie.Need-returns-3 Inv-loop μ-loop
 returns-3 c = search needs
 
-pub past-sixteens-spec : {M : Type 1} → statement M
-past-sixteens-spec =
+pub past-runs-spec : {M : Type 1} → statement M
+past-runs-spec =
     tie.close
     (tie.spec
     Inv-loop
@@ -53,7 +53,7 @@ past-sixteens-spec =
     loop-holds
     sub-if1
     returns
-    feed-in-sixteen-requires
+    feed-in-requires
     returns-2
     add-i
     loop-less

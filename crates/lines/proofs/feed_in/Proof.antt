@@ -1,4 +1,4 @@
--- `feed_in_sixteen` meets its contract: a byte more at each turn. Assumes nothing.
+-- `feed_in` meets its contract: a byte more at each turn. Assumes nothing.
 use mathlib.Core.Path.{_≡_, refl, _∙_, ap}
 use mathlib.Core.Bool.{_||_}
 use Prim.Native.Nat.{_+_, _-_, _≤_}
@@ -8,14 +8,14 @@ use native.Mathlib.Omega.{arith}
 use borrow.Author.Needs.{needs}
 use Rattle.lines.specs.Lines.{hasFeed}
 use Rattle.lines.proofs.Lines.{feed-next}
-use Rattle.lines.proofs.feed_in_sixteen.Statement.{statement}
-use Rattle.lines.proofs.feed_in_sixteen.Tie as tie
+use Rattle.lines.proofs.feed_in.Statement.{statement}
+use Rattle.lines.proofs.feed_in.Tie as tie
 
 abbrev Inv-loop : tie.InvT-loop
-Inv-loop input at found₀ k₀ found k = (k ≤ 16) × (found ≡ hasFeed (take k (drop at input)))
+Inv-loop input at n found₀ k₀ found k = (k ≤ n) × (found ≡ hasFeed (take k (drop at input)))
 
 abbrev μ-loop : tie.MeasureT-loop
-μ-loop input at found₀ k₀ found k = 16 - k
+μ-loop input at n found₀ k₀ found k = n - k
 
 loop-holds : tie.Need-loop-holds Inv-loop μ-loop
 unfolding hasFeed
@@ -41,8 +41,8 @@ loop-again c =
 
 returns : tie.Need-returns Inv-loop μ-loop
 returns c =
-    let all : c .before .loop .k ≡ 16 = omega arith in
+    let all : c .before .loop .k ≡ c .before .before .args .n = omega arith in
     rw all at (c .before .loop .inv .1)
 
-pub feed-in-sixteen-spec : {M : Type 1} → statement M
-feed-in-sixteen-spec = tie.close (tie.spec Inv-loop μ-loop loop-holds add-found shared-slice-read-found add-k loop-less loop-again returns)
+pub feed-in-spec : {M : Type 1} → statement M
+feed-in-spec = tie.close (tie.spec Inv-loop μ-loop loop-holds add-found shared-slice-read-found add-k loop-less loop-again returns)

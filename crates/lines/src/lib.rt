@@ -37,13 +37,12 @@ fn past_runs(input: &[u8], at: usize, n: usize) -> usize
 }
 
 // Where the line that starts at a place ends: at its line feed, or where the input ends. Sixteen bytes are looked at together as long as there are so
-// many, then eight, then four, which the compiler takes at once.
+// many, then eight, which the compiler takes at once.
 pub fn line_end(input: &[u8], at: usize) -> usize
     ensures { λ r. ⌜ r ≡ at + lineLength (drop at (now (input .entry))) ⌝ }
 {
     let sixteens = past_runs(input, at, 16);
-    let eights = past_runs(input, sixteens, 8);
-    let mut i = past_runs(input, eights, 4);
+    let mut i = past_runs(input, sixteens, 8);
     while i < input.len() {
         if input[i] == b'\n' {
             return i;

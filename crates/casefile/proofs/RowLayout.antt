@@ -24,7 +24,7 @@ use Rattle.casefile.specs.Limits.{rowFits}
 use Rattle.casefile.specs.Valid.{Formed, found, given, ValidRow}
 use Rattle.casefile.proofs.Words.{words-octets}
 use Rattle.casefile.proofs.Limits.{Sizes, Zones, Head, Found, row-is}
-use Rattle.casefile.specs.Layout.{kindOf, fieldsOf, isRow, isEnd, frameLength, headOf, findingOf, resultsOf, rowOf, countOf, words, findingBytes, resultsBytes, rowBytes, endBytes}
+use Rattle.casefile.specs.Layout.{kindOf, fieldsOf, isRow, isEnd, frameLength, headOf, findingOf, resultsOf, rowOf, countOf, words, findingNumbers, findingBytes, resultsBytes, rowBytes, endBytes}
 
 -- two bytes write the word that they are
 pub two-again : (a b : ℕ) → a < 256 → b < 256 → bytes 2 (a * 256 + b) ≡ a ∷ b ∷ []
@@ -126,10 +126,7 @@ three-of (x ∷ y ∷ z ∷ w ∷ rs) e = absurd (omega arith)
 
 finding-octets : (kind : ℕ) (r : Finding) → Octets (findingBytes kind r)
 unfolding findingBytes
-finding-octets kind r =
-    picked Octets (eqb kind 2) (words (r .lever ∷ r .range ∷ r .heel ∷ unsigned (r .opening) ∷ [])) (bytes 2 (r .given))
-    (λ e. words-octets (r .lever ∷ r .range ∷ r .heel ∷ unsigned (r .opening) ∷ []))
-    (λ e. bytes-octets 2 (r .given))
+finding-octets kind r = words-octets (findingNumbers kind r)
 
 results-octets : (kind : ℕ) (rs : List Finding) → Octets (resultsBytes kind rs)
 results-octets kind [] = λ i. lit< tt
@@ -141,6 +138,12 @@ end-octets count = octets-cons 15 (bytes 2 count) (lit< tt) (bytes-octets 2 coun
 
 -- ---- a row that is valid
 
+-- it is of kind 02 or 03
+pub formed-kind : {kind : ℕ} (rs : List Finding) → 0 < length rs → Every (Formed kind) rs → (kind ≡ 2) ⊎ (kind ≡ 3)
+formed-kind [] l f = absurd (omega arith)
+formed-kind (x ∷ rs) l (found k g, f) = inl k
+formed-kind (x ∷ rs) l (given k a b c d, f) = inr k
+
 module _ (h : Hull) (r : Row) (s : Sizes h) (z : Zones h) (v : ValidRow h r) where
   abbrev kind : ℕ
   kind = r .head .kind
@@ -148,13 +151,8 @@ module _ (h : Hull) (r : Row) (s : Sizes h) (z : Zones h) (v : ValidRow h r) whe
   abbrev fits : Head h (r .head) × Every Found (r .results)
   fits = row-is h r (holds (rowFits h r) (v .limits))
 
-  either : (rs : List Finding) → 0 < length rs → Every (Formed kind) rs → (kind ≡ 2) ⊎ (kind ≡ 3)
-  either [] l f = absurd (omega arith)
-  either (x ∷ rs) l (found k g, f) = inl k
-  either (x ∷ rs) l (given k a b c d, f) = inr k
-
   of-kind : (kind ≡ 2) ⊎ (kind ≡ 3)
-  of-kind = either (r .results) (omega (arith, v .three)) (v .formed)
+  of-kind = formed-kind (r .results) (omega (arith, v .three)) (v .formed)
 
   each-again : (rs : List Finding) → rs ≡ r .results → (x : Finding) × (y : Finding) × (z : Finding) × (rs ≡ x ∷ y ∷ z ∷ []) →
       Every Found rs → Every (Formed kind) rs → resultsOf kind (fieldsOf (rowBytes r)) ≡ rs

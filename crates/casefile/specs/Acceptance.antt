@@ -1,4 +1,4 @@
--- What is promised of the reading: a file is accepted exactly when it keeps document 01's rules, and its lines say the case. Assumes nothing.
+-- What is promised of the reading: a file is accepted exactly when it keeps document 01's rules, with document 02's openings, and its lines say the case. Assumes nothing.
 use Prim.Native.Nat.{ℕ, _≤_}
 use mathlib.Core.Path.{_≡_}
 use mathlib.Core.List.{List, [], _∷_, _++_, map}

@@ -29,7 +29,7 @@ numberOf (Frame.End count) = 0
 numberOf (Frame.Wrong k) = k
 
 -- the kind and the fields after it, with what stands beside the frame, a hull and a row's results: 01: Ls, B, ds, dl, zone count, inner bulkheads;
--- 02, 03: a, n, b, H, and the results; 0f: row count
+-- 02, 03: a, n, b, H, and the results, each opening as its two bytes have it without a sign; 0f: row count
 abbrev pub valuesOf : Hull → List Finding → Frame → List ℕ
 valuesOf h rs Frame.Hull = 1 ∷ h .length ∷ h .breadth ∷ h .deepest ∷ h .light ∷ h .zones ∷ innerOf h
 valuesOf h rs (Frame.Row r) = r .kind ∷ r .first ∷ r .count ∷ r .depth ∷ r .height ∷ resultNumbers (r .kind) rs

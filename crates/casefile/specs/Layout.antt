@@ -114,7 +114,7 @@ unfoldable pub hullBytes : Hull → List ℕ
 hullBytes h = 1 ∷ words (h .length ∷ h .breadth ∷ h .deepest ∷ h .light ∷ []) ++ h .zones ∷ words (innerOf h)
 
 unfoldable pub findingBytes : ℕ → Finding → List ℕ
-findingBytes kind r = cond (eqb kind 2) (words (r .lever ∷ r .range ∷ r .heel ∷ unsigned (r .opening) ∷ [])) (bytes 2 (r .given))
+findingBytes kind r = words (findingNumbers kind r)
 
 abbrev pub resultsBytes : ℕ → List Finding → List ℕ
 resultsBytes kind [] = []

@@ -1,4 +1,4 @@
--- Document 01, "The case file": which cases keep its limits and its order, said of records alone. Assumes nothing.
+-- Document 01, "The case file", with document 02's openings: which cases keep its limits and its order, said of records alone. Assumes nothing.
 use Prim.Native.Nat.{ℕ, _/_, _≤_, _<_}
 use mathlib.Core.Path.{_≡_}
 use mathlib.Core.Logic.{_⊎_}

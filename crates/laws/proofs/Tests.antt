@@ -31,6 +31,11 @@ same-test true false f g = absurd (false≢true (f refl))
 same-test false true f g = absurd (false≢true (g refl))
 same-test false false f g = refl
 
+-- what follows either way
+pub told : {A : Type 0} (t : Bool) → (t ≡ true → A) → (t ≡ false → A) → A
+told true f g = f refl
+told false f g = g refl
+
 -- a value that a test picks
 pub picked : {A : Type 0} (P : A → Type 0) (t : Bool) (x y : A) → (t ≡ true → P x) → (t ≡ false → P y) → P (cond t x y)
 picked P true x y f g = f refl

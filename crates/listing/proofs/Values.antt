@@ -1,4 +1,4 @@
--- Two rows' survivals as a host gets them: one of three different results, one given. Assumes nothing.
+-- Three rows' survivals as a host gets them: one of three different results, one with openings under the water, one given. Assumes nothing.
 use Prim.Native.Nat.{ℕ}
 use mathlib.Core.Path.{_≡_, refl}
 use lib.IntN.{ℤ, pos, negsuc}
@@ -21,7 +21,7 @@ found lever range heel opening = record { lever = lever; range = range; heel = h
 abbrev given : ℕ → Finding
 given s = record { lever = 0; range = 0; heel = 0; opening = pos 0; given = s }
 
--- 60 mm and 8 degrees; a range a hundredth short; a heel of 29.95 degrees; and the same with openings a millimetre under the water at two draughts
+-- 60 mm and 8 degrees; a range a hundredth short; a heel of 29.95 degrees; and rows with openings a millimetre under the water at two draughts
 abbrev first : Row
 first = record { head = record { kind = 2; first = 1; count = 1; depth = 800; height = 18500 }; results = found 60 800 0 (pos 0) ∷ found 120 1599 2500 (pos 1) ∷ found 120 1600 2995 (pos 30000) ∷ [] }
 

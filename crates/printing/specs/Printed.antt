@@ -1,4 +1,4 @@
--- Document 01, "One file in full", and document 02, ticket 2: the printed answer, frame by frame. Numbers are written by their low bytes, the high one first. Assumes nothing.
+-- Document 01, "One file in full", and document 02, tickets 2 and 5: the printed answer, frame by frame. Numbers are written by their low bytes, the high one first. Assumes nothing.
 use Prim.Native.Nat.{ℕ, _+_, _*_}
 use mathlib.Core.Bool.{cond}
 use mathlib.Core.List.{List, [], _∷_, _++_}

@@ -22,6 +22,7 @@ pub mod Fits
 pub mod Marks
 pub mod Survivals
 pub mod OfSolas
+pub mod SurvivalsOfSolas
 pub mod LayerRows
 pub mod LayerSums
 pub mod CaseLayers

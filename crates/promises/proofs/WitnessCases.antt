@@ -1,7 +1,7 @@
 -- Small cases to hold the promises against, and the answer of each, worked out: a ship of one zone, of two and of three. Assumes nothing.
 use Prim.Native.Nat.{ℕ}
 use mathlib.Core.Path.{_≡_, refl}
-use lib.IntN.{pos}
+use lib.IntN.{ℤ, pos, negsuc}
 use mathlib.Core.List.{List, [], _∷_}
 use Rattle.laws.specs.Fraction.{_less_over_, _⊹_, _⊛_}
 use Rattle.laws.specs.Rounding.{ceil}
@@ -122,11 +122,21 @@ unsettled =
 abbrev pub unsettledAnswer : Answer
 unsettledAnswer = let a = ends 492000000 492100000 in figured 3 1 a a a a
 
+-- the same row with the opening a millimetre under the water when it is light: nothing survives there, and the ship fails
+abbrev pub flooded : Case
+flooded =
+    let found : ℤ → Finding = λ o. record { lever = 33; range = 341; heel = 0; opening = o; given = 0 } in
+    oneZone (row 2 1 1 800 18500 (found (pos 0) ∷ found (pos 2000) ∷ found (negsuc 0) ∷ []) ∷ [])
+
+abbrev pub floodedAnswer : Answer
+floodedAnswer = let a = ends 492000000 492100000 in figured 2 1 (ends 393600000 393680000) a a (ends 0 0)
+
 pub record Answers : Type 0 where
   pub of-decked : answer decked ≡ deckedAnswer
   pub of-meeting : answer meeting ≡ meetingAnswer
   pub of-failing : answer failing ≡ failingAnswer
   pub of-unsettled : answer unsettled ≡ unsettledAnswer
+  pub of-flooded : answer flooded ≡ floodedAnswer
   pub rising-meets : answer (highDeck 3100 0 10000) .verdict ≡ 1
   pub raised-fails : answer (highDeck 2300 2300 0) .verdict ≡ 2
 
@@ -134,7 +144,7 @@ pub answers : Answers
 unfolding answer figures partialsOf addsFrom addsAt shareAt stands sameGroup sameLayer
     rowEnds rowOf lowest highest sumsOf withinEnds added taken QEnds mixed c d PEnds GEnds pEnds partEnds G1Ends G3Ends minus plus rounded.endsOf billionthsOf portionOf halvesOf ceil touch P p G1 G3 _⊹_ _⊛_ _less_over_
     rowVs rowV vAt v dp survivalsOf survivalOf factorOf unlessImmersed s⁴ k ratioOf scaledOf roundedOf rootDown rootUp withDigits addsOf rowAdds partials attainedOf R partialMark reaches allReach verdictOf
-answers = record { of-decked = refl; of-meeting = refl; of-failing = refl; of-unsettled = refl; rising-meets = refl; raised-fails = refl }
+answers = record { of-decked = refl; of-meeting = refl; of-failing = refl; of-unsettled = refl; of-flooded = refl; rising-meets = refl; raised-fails = refl }
 
 -- ---- two zones, whose pair is not listed, and three, of which nothing is listed and the middle one is longer than any damage
 

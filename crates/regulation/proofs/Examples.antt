@@ -1,6 +1,8 @@
 -- Figures worked out twice, by document 01's definitions and by the regulation's own, which must not differ; the regulation's letters for a ship
 -- that document 01 leaves out, its survival, and its heights where nothing caps them. Assumes nothing.
 use mathlib.Core.Path.{_≡_, refl}
+use mathlib.Core.List.{[], _∷_, List·Memᴰ, List·Memᴰ·head, List·Memᴰ·tail, List·Memᴰ·cases-cons, List·Memᴰ·not-nil}
+use mathlib.Core.Logic.{⊎-elim}
 use native.Mathlib.Omega.{arith}
 use lib.Dec.{leb→le, lit<}
 use Rattle.laws.specs.Fraction.{Fraction, _less_over_, _over_, whole, _≈_, _≼_, _≺_, _≼?_, lesser, _⊹_, _⊝_, _⊛_, _⊘_}
@@ -14,7 +16,7 @@ use Rattle.solas.specs.Index.{dp, attained, R}
 use Rattle.solas.proofs.Values.{printed, short}
 use Rattle.regulation.specs.Regulation.{IsRoot, Jmax, Jkn, pk, lmax, L*, b0, Jm, under√, Jk, b11, b12, b21, b22, J, Jn, p1, p2, p1or2, p, Jb, C, G1, J0, G2, G, r, pr, pi}
 use Rattle.regulation.specs.RegulationIndex as regulation
-use Rattle.regulation.specs.RegulationIndex.{millimetres, centimetres, hundredths, Numbers, Final, Taken, none, at, uppermost, vOf, held, vm}
+use Rattle.regulation.specs.RegulationIndex.{millimetres, centimetres, hundredths, Opening, Numbers, Final, Taken, none, at, uppermost, vOf, held, vm}
 
 -- a second layer, from 1.6 m to the half breadth; a first one of two zones; a second one of three zones, of which two are short
 pub rows : (rowShare printed 1 1 160 800 ≈ 45035669 over 585937500) × (pi printed (whole 1) 160 800 1 1 ≈ 45035669 over 585937500)
@@ -115,14 +117,24 @@ none-survives = record {
   product = record { cross = refl };
 }
 
--- an opening 0.1 m under the final waterline, be the rest what it may; one at the waterline, which is not immersed yet
-pub immersed-survives-not : Taken fractions (millimetres 120) (hundredths 1600) (hundredths 0) (79 over 10) (whole 8) (whole 0)
-unfolding _less_over_
-immersed-survives-not = record { immersed = λ p. record { cross = refl }; dry = λ p. absurd (omega (arith, p .cross)) }
+-- a hatch 1 m above the final waterline and an air pipe 0.1 m under it, be the rest what it may; and the air pipe just at it, which is not immersed yet
+abbrev hatch : Opening
+hatch = record { edge = whole 9; waterline = whole 8 }
 
-pub dry-survives : Taken fractions (millimetres 30) (hundredths 400) (hundredths 0) (whole 8) (whole 8) (1 over 2)
+abbrev airPipe : Fraction → Opening
+airPipe edge = record { edge = edge; waterline = whole 8 }
+
+pub immersed-survives-not : Taken fractions (millimetres 120) (hundredths 1600) (hundredths 0) (hatch ∷ airPipe (79 over 10) ∷ []) (whole 0)
 unfolding _less_over_
-dry-survives = record { immersed = λ p. absurd (omega (arith, p .cross)); dry = λ p. half-survives }
+immersed-survives-not =
+    record { immersed = λ x m l. record { cross = refl }; dry = λ d. absurd (omega (arith, d (airPipe (79 over 10)) (List·Memᴰ·tail (List·Memᴰ·head refl)) .cross)) }
+
+neither-under : (x : Opening) → List·Memᴰ x (hatch ∷ airPipe (whole 8) ∷ []) → x .edge ≺ x .waterline → ⊥
+unfolding _less_over_
+neither-under x m l = ⊎-elim (λ e. let h = rw e at l in omega (arith, h .cross)) (λ k. ⊎-elim (λ e. let h = rw e at l in omega (arith, h .cross)) (λ n. List·Memᴰ·not-nil n) (List·Memᴰ·cases-cons k)) (List·Memᴰ·cases-cons m)
+
+pub dry-survives : Taken fractions (millimetres 30) (hundredths 400) (hundredths 0) (hatch ∷ airPipe (whole 8) ∷ []) (1 over 2)
+dry-survives = record { immersed = λ x m l. absurd (neither-under x m l); dry = λ d. half-survives }
 
 -- what the cap is for: without it boundaries 12 and 14 m above the waterline and the uppermost would share more than the whole
 pub uncapped-shares-too-much : whole 1 ≺ vm none (at (whole 12)) (whole 0) ⊹ vm (at (whole 12)) (at (whole 14)) (whole 0) ⊹ vm (at (whole 14)) (uppermost (whole 15)) (whole 0)

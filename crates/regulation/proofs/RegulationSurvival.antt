@@ -12,13 +12,13 @@ use Rattle.laws.specs.Fraction.{Fraction, _less_over_, whole, Is, _≈_, _≼_,
 use Rattle.laws.specs.Polynomial.{X, C}
 use Rattle.laws.proofs.Choice.{split}
 use Rattle.laws.proofs.Polynomial.{pow-two}
-use Rattle.laws.proofs.Fraction.{is-over, is-whole, is-nothing, is-widened, is-shifted, is-recast, is-⊝, is-⊛, is-⊘, same, below, strictly-below}
+use Rattle.laws.proofs.Fraction.{is-over, is-whole, is-nothing, is-widened, is-shifted, is-recast, is-⊝, is-⊛, is-⊘, same, below, strictly-below, ≈-refl, ≈-sym, ≼-of-≈, ≼-trans}
 use Rattle.laws.proofs.FractionCompare.{difference-not-below, difference-below}
 use Rattle.laws.proofs.FractionTerm.{number, ratio, _⊝ᵗ_, also, quotient-by}
 use Rattle.laws.proofs.FractionOrder.{is-lesser}
 use Rattle.solas.specs.Survival.{s⁴, unlessImmersed}
 use Rattle.solas.proofs.Survival.{is-s⁴, lost-if-immersed, kept-if-dry, dry-not-below}
-use Rattle.regulation.specs.RegulationIndex.{millimetres, hundredths, millimetresAbove, θmin, θmax, underRoot, Numbers, square, fourth, Final, Taken}
+use Rattle.regulation.specs.RegulationIndex.{millimetres, hundredths, millimetresAbove, θmin, θmax, underRoot, Opening, Numbers, square, fourth, Final}
 use Rattle.regulation.specs.OfSolasIndex.{SurvivalIs01's}
 use Rattle.regulation.proofs.Units.{is-millimetres, is-hundredths}
 
@@ -116,14 +116,19 @@ module _ (N : Numbers) where
   fourth-nothing : {s : Number} → s ≐ fraction (whole 0) → fourth N s ≐ fraction (whole 0)
   fourth-nothing z = same-trans (square-fraction N (square-fraction N z)) (same-fraction nothing-again)
 
--- ---- the opening's lower edge and the final waterline, by how far the one is above the other
-edge-dry : (edge waterline : Fraction) (n : ℕ) → edge ⊝ waterline ≈ millimetresAbove (pos n) → waterline ≼ edge
-edge-dry edge waterline n e = difference-not-below edge waterline e (below {d = 1000} (lit< tt) (is-nothing (lit< tt)) (is-millimetres n) (omega arith))
+-- ---- an opening's lower edge and the final waterline, by how far the critical one is above it
+edge-dry : (x : Opening) {h : Fraction} (n : ℕ) → h ≈ millimetresAbove (pos n) → h ≼ x .edge ⊝ x .waterline → x .waterline ≼ x .edge
+edge-dry x n e l =
+    let positive = below {d = 1000} (lit< tt) (is-nothing (lit< tt)) (is-millimetres n) (omega arith) in
+    difference-not-below (x .edge) (x .waterline) (≈-refl (x .edge ⊝ x .waterline)) (≼-trans positive (≼-trans (≼-of-≈ (≈-sym e)) l))
 
-edge-immersed : (edge waterline : Fraction) (n : ℕ) → edge ⊝ waterline ≈ millimetresAbove (negsuc n) → edge ≺ waterline
-edge-immersed edge waterline n e = difference-below edge waterline e (strictly-below {d = 1000} (is-⊝ (is-nothing (lit< tt)) (is-millimetres (suc n))) (is-nothing (lit< tt)) (omega arith))
+edge-immersed : (x : Opening) (n : ℕ) → x .edge ⊝ x .waterline ≈ millimetresAbove (negsuc n) → x .edge ≺ x .waterline
+edge-immersed x n e =
+    difference-below (x .edge) (x .waterline) e (strictly-below {d = 1000} (is-⊝ (is-nothing (lit< tt)) (is-millimetres (suc n))) (is-nothing (lit< tt)) (omega arith))
 
 pub survival-is-01's : SurvivalIs01's
-survival-is-01's N g t e (pos n) edge waterline s h k =
-    rw (kept-if-dry (pos n) (s⁴ g t e) (dry-not-below (pos n) .1 (leZ-yes (le→leb 0 n zero-le)))) (fourth-power N g t e (k .dry (edge-dry edge waterline n h)))
-survival-is-01's N g t e (negsuc n) edge waterline s h k = rw (lost-if-immersed (negsuc n) (s⁴ g t e) refl) (fourth-nothing N (k .immersed (edge-immersed edge waterline n h)))
+survival-is-01's N g t e (pos n) openings s c k =
+    rw (kept-if-dry (pos n) (s⁴ g t e) (dry-not-below (pos n) .1 (leZ-yes (le→leb 0 n zero-le))))
+    (fourth-power N g t e (k .dry (λ x m. edge-dry x n (c .height) (c .lowest x m))))
+survival-is-01's N g t e (negsuc n) openings s c k =
+    rw (lost-if-immersed (negsuc n) (s⁴ g t e) refl) (fourth-nothing N (k .immersed (c .one) (c .among) (edge-immersed (c .one) n (c .height))))

@@ -1,13 +1,14 @@
 -- What "those of SOLAS" means for dp, A, R, v and s: the regulation's formulas come to document 01's forms; and where the two part. Assumes nothing.
 use Prim.Native.Nat.{ℕ, _-_, _%_, _≤_, _<_}
 use mathlib.Core.Path.{_≡_}
+use mathlib.Core.List.{List, List·Memᴰ}
 use lib.IntN.{ℤ}
-use Rattle.laws.specs.Fraction.{Fraction, _over_, whole, _≈_, _≺_, _⊝_}
+use Rattle.laws.specs.Fraction.{Fraction, _over_, whole, _≈_, _≼_, _≺_, _⊝_}
 use Rattle.solas.specs.Height.{vAt, rowV, top}
 use Rattle.solas.specs.Survival.{s⁴, unlessImmersed}
 use Rattle.solas.specs.Index.{dp, attained, R, partialMark}
 use Rattle.regulation.specs.RegulationIndex as regulation
-use Rattle.regulation.specs.RegulationIndex.{millimetres, centimetres, hundredths, millimetresAbove, counted, uppermost, vOf, vm, Numbers, fourth, Taken}
+use Rattle.regulation.specs.RegulationIndex.{millimetres, centimetres, hundredths, millimetresAbove, Opening, counted, uppermost, vOf, vm, Numbers, fourth, Taken}
 
 -- ---- draughts and indices
 abbrev pub DraughtIs01's : Type 0
@@ -66,8 +67,16 @@ pub record RowParted (H′ H d : ℕ) : Type 0 where
 abbrev pub RowsPartAbove : Type 0
 RowsPartAbove = (H′ H d : ℕ) → H′ < H → top d < H → RowParted H′ H d
 
--- ---- survival, of a lever g, a range t and a heel e, with an opening whose lower edge is o above the final waterline, among whatever numbers its roots
--- are found
+-- ---- survival, of a lever g, a range t and a heel e, with openings of which the critical one is o above the final waterline, among whatever numbers its
+-- roots are found
+
+-- no opening comes lower than that one
+pub record Critical (openings : List Opening) (o : ℤ) : Type 0 where
+  pub one : Opening
+  pub among : List·Memᴰ one openings
+  pub height : one .edge ⊝ one .waterline ≈ millimetresAbove o
+  pub lowest : (x : Opening) → List·Memᴰ x openings → one .edge ⊝ one .waterline ≼ x .edge ⊝ x .waterline
+
 abbrev pub SurvivalIs01's : Type 1
-SurvivalIs01's = (N : Numbers) (g t e : ℕ) (o : ℤ) (edge waterline : Fraction) (s : N .Number) → edge ⊝ waterline ≈ millimetresAbove o →
-    Taken N (millimetres g) (hundredths t) (hundredths e) edge waterline s → N ._≐_ (fourth N s) (N .fraction (unlessImmersed o (s⁴ g t e)))
+SurvivalIs01's = (N : Numbers) (g t e : ℕ) (o : ℤ) (openings : List Opening) (s : N .Number) → Critical openings o →
+    Taken N (millimetres g) (hundredths t) (hundredths e) openings s → N ._≐_ (fourth N s) (N .fraction (unlessImmersed o (s⁴ g t e)))

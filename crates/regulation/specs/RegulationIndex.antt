@@ -1,7 +1,8 @@
--- What the regulation itself says of s, v, A, dp and R, in its own letters, in metres and degrees: document 002, 2.4.1, 2.5.1, 2.7.3, 2.7.6.2 and 2.7.7,
+-- What the regulation itself says of s, v, A, dp and R, in its own letters, in metres and degrees: document 002, 2.4.1, 2.5.1, 2.7.3, 2.7.6.2.1 and 2.7.7,
 -- and document 003, 4.1 and section 10. Assumes nothing.
 use Prim.Native.Nat.{ℕ, suc}
 use mathlib.Core.Bool.{cond}
+use mathlib.Core.List.{List, List·Memᴰ}
 use lib.IntN.{ℤ, pos, negsuc}
 use Rattle.laws.specs.Fraction.{Fraction, _over_, whole, _≈_, _≼_, _≺_, _≼?_, lesser, _⊹_, _⊝_, _⊛_, _⊘_}
 
@@ -82,6 +83,11 @@ TRange = whole 16
 abbrev pub underRoot : Fraction → Fraction → Fraction
 underRoot GZmax Range = (lesser GZmax TGZmax ⊘ TGZmax) ⊛ (lesser Range TRange ⊘ TRange)
 
+-- an opening through which progressive flooding may take place that is not accounted for: how high its lower edge is, and the final waterline there
+pub record Opening : Type 0 where
+  pub edge : Fraction
+  pub waterline : Fraction
+
 -- numbers among which roots may be found: they hold the fractions, and multiply as these do
 pub record Numbers : Type 1 where
   infix 4 _≐_
@@ -120,8 +126,8 @@ module _ (N : Numbers) where
     pub fourth-root : fourth root ≐ fraction (underRoot GZmax Range)
     pub product : s ≐ K · root
 
-  -- 2.7.6.2.1: s is to be taken as zero where the final waterline immerses the lower edge of an opening through which progressive flooding may take
-  -- place; both as heights over the baseline at the opening
-  pub record Taken (GZmax Range θe edge waterline : Fraction) (s : Number) : Type 0 where
-    pub immersed : edge ≺ waterline → s ≐ fraction (whole 0)
-    pub dry : waterline ≼ edge → Final GZmax Range θe s
+  -- 2.7.6.2.1: "The factor s_i is to be taken as zero in those cases where the final waterline, taking into account sinkage, heel and trim, immerses .. for cargo
+  -- ships, the lower edge of openings through which progressive flooding may take place and such flooding is not accounted for in the calculation of factor s_i"
+  pub record Taken (GZmax Range θe : Fraction) (openings : List Opening) (s : Number) : Type 0 where
+    pub immersed : (x : Opening) → List·Memᴰ x openings → x .edge ≺ x .waterline → s ≐ fraction (whole 0)
+    pub dry : ((x : Opening) → List·Memᴰ x openings → x .waterline ≼ x .edge) → Final GZmax Range θe s

@@ -1,6 +1,6 @@
 -- Survival: s⁴ as one quotient of whole numbers, between 0 and 1; nothing of it is left where an opening is immersed. Assumes nothing.
 use Prim.Native.Nat.{ℕ, _-_, _*_, _^_, min, zero-le}
-use mathlib.Core.Bool.{Bool, true, false, cond, true≢false}
+use mathlib.Core.Bool.{true, false, true≢false}
 use mathlib.Core.Logic.{_↔_}
 use mathlib.Core.Path.{_≡_, refl}
 use native.Mathlib.Nat.{min-le-left, min-le-right, mul-le-mul, pow-le-pow-left}
@@ -13,7 +13,7 @@ use Rattle.laws.specs.Fraction.{Fraction, whole, Is, _≼_}
 use Rattle.laws.proofs.Fraction.{is-over, is-whole, is-shifted, is-⊛, below}
 use Rattle.laws.proofs.FractionOrder.{is-chosen}
 use Rattle.laws.proofs.Polynomial.{pow-two}
-use Rattle.laws.proofs.Tests.{holds, proved}
+use Rattle.laws.proofs.Tests.{holds, proved, picked}
 use Rattle.solas.specs.Survival.{k, s⁴, immersed, unlessImmersed}
 -- checked first, so that a definition that gives another number is refused there
 use Rattle.solas.proofs.Values.{s⁴-capped, s⁴-heeled, openings}
@@ -59,8 +59,4 @@ module _ (o : ℤ) (f : Fraction) where
   -- what holds of nothing and of f holds either way
   pub either-way : (P : Fraction → Type 0) → P (whole 0) → P f → P (unlessImmersed o f)
   unfolding unlessImmersed
-  either-way P lost kept = by (immersed o)
-    where
-      by : (b : Bool) → P (cond b (whole 0) f)
-      by true = lost
-      by false = kept
+  either-way P lost kept = picked P (immersed o) (whole 0) f (λ e. lost) (λ e. kept)

@@ -8,9 +8,10 @@ use native.Mathlib.Omega.{arith}
 use lib.Dec.{lit<}
 use lib.IntN.{ℤ, pos}
 use lib.Signed.{_≤ℤ_}
-use borrow.Author.Tests.{ltb-false, le-ltb}
+use borrow.Author.Tests.{ltb-true, ltb-false, lt-ltb, le-ltb}
 use Rattle.laws.specs.Fraction.{whole, _≈_}
 use Rattle.laws.proofs.Choice.{split}
+use Rattle.laws.proofs.Tests.{told}
 use Rattle.laws.proofs.Fraction.{is-one, is-whole, same, below-across, ≈-refl, ≈-sym, ≼-of-≈}
 use Rattle.laws.proofs.FractionCompare.{across-below, is-times}
 use Rattle.records.specs.declared.Finding.{Finding}
@@ -19,7 +20,7 @@ use Rattle.solas.specs.Survival.{s⁴, immersed}
 use Rattle.solas.proofs.Survival.{is-s⁴, s⁴-not-negative, s⁴-at-most-one, immersed-below, dry-not-below, lost-if-immersed, kept-if-dry}
 use Rattle.survival.specs.Marks.{foundMarks, unmarked}
 use Rattle.survival.specs.Survival.{Factor, root, ends, fourthOf, Sensible, survivalOf}
-use Rattle.survival.specs.Telling.{Found, IsOne, withLever, withRange, withHeel, withOpening, OneExactlyWhenUnmarked, OneMarkAlone, OthersStillHold, OpeningDecides, GivenIsUnmarked}
+use Rattle.survival.specs.Telling.{Found, IsOne, withLever, withRange, withHeel, withOpening, EachMarkItsOwn, OneExactlyWhenUnmarked, OneMarkAlone, OthersStillHold, OpeningDecides, GivenIsUnmarked}
 -- checked first, so that a definition that gives another number is refused there
 use Rattle.survival.proofs.Values.{edges, nearly, one}
 use Rattle.survival.proofs.Factors.{as-given, as-found, as-lost, as-dry}
@@ -120,11 +121,7 @@ module _ (kind : ℕ) (f : Finding) (n : Found kind) where
 
   -- where something is not zero that an immersed opening makes zero, the opening is dry
   dry-by : {A : Type 0} → (immersed (f .opening) ≡ true → ⊥) → (immersed (f .opening) ≡ false → A) → A
-  dry-by {A} lost dry = by (immersed (f .opening)) refl
-    where
-      by : (b : Bool) → immersed (f .opening) ≡ b → A
-      by true e = absurd (lost e)
-      by false e = dry e
+  dry-by lost dry = told (immersed (f .opening)) (λ e. absurd (lost e)) dry
 
   one-kept : survivalOf kind f .top ≡ 10 ^ 4 → KeptDry
   one-kept h =
@@ -149,6 +146,17 @@ one-exactly-when-unmarked =
       bottom = λ kind f n. (λ h. unmarked-kept kind f n .1 (one-kept kind f n (one-both kind f n h)), λ m. kept-one kind f n (unmarked-kept kind f n .0 m) .0);
       top = λ kind f n. (λ h. unmarked-kept kind f n .1 (one-kept kind f n h), λ m. kept-one kind f n (unmarked-kept kind f n .0 m) .1);
       exact = λ kind f n. (λ h. unmarked-kept kind f n .1 (exact-kept kind f n .0 h), λ m. exact-kept kind f n .1 (unmarked-kept kind f n .0 m));
+    }
+
+-- ---- each mark by itself
+pub each-mark-its-own : EachMarkItsOwn
+unfolding foundMarks
+each-mark-its-own =
+    record {
+      lever = λ kind f n. rw (as-found kind f n) (ltb-true (f .lever) 120, lt-ltb (f .lever) 120);
+      range = λ kind f n. rw (as-found kind f n) (ltb-true (f .range) 1600, lt-ltb (f .range) 1600);
+      heel = λ kind f n. rw (as-found kind f n) (ltb-true 2500 (f .heel), lt-ltb 2500 (f .heel));
+      opening = λ kind f n. rw (as-found kind f n) (immersed-below (f .opening));
     }
 
 -- ---- with another lever, range, heel or opening
@@ -189,7 +197,6 @@ others-still-hold =
 pub opening-decides : OpeningDecides
 opening-decides =
     record {
-      marked = λ kind f n. (λ m. immersed-below (f .opening) .0 (sym (opening-marked kind f n) ∙ m), λ l. opening-marked kind f n ∙ immersed-below (f .opening) .1 l);
       lost = λ kind f n l.
           let i = immersed-below (f .opening) .1 l in
           let s = as-lost kind f n i in
@@ -198,7 +205,7 @@ opening-decides =
           let here = dry-not-below (f .opening) .1 p in
           let there = dry-not-below o .1 q in
           let s = s⁴ (f .lever) (f .range) (f .heel) in
-          (as-dry kind (withOpening o f) n there ∙ rw (same-marks f o here there) (sym (as-dry kind f n here)), rw (kept-if-dry o s there, kept-if-dry (f .opening) s here) (≈-refl s));
+          (as-dry kind (withOpening o f) n there ∙ rw (same-marks f o here there) (sym (as-dry kind f n here)), rw (kept-if-dry (f .opening) s here) (≈-refl s));
     }
 
 pub given-is-unmarked : GivenIsUnmarked

@@ -54,8 +54,9 @@ pub edges :
     × (foundMarks 120 1600 2501 (pos 30000) ≡ marks false false true false)
     × (foundMarks 120 1600 2500 (negsuc 0) ≡ marks false false false true)
     × (foundMarks 0 1600 3000 (negsuc 29999) ≡ marks true false true true)
+    × (foundMarks 120 1599 2501 (negsuc 0) ≡ marks false true true true)
 unfolding foundMarks
-edges = (refl, refl, refl, refl, refl, refl)
+edges = (refl, refl, refl, refl, refl, refl, refl)
 
 -- 10¹⁶ times a fraction that is 1 and a half: below it 1 is the greatest root, and above it 2 the least
 pub apart : roundedOf (record { num = 3; den = 2 * 10 ^ 16 }) ≡ record { bottom = 1; top = 2 }

@@ -1,5 +1,6 @@
--- What the marks tell (document 02, "Why is this survival not one?" and "Openings"): of a found survival none means that it is one, one alone means that this number holds it down and no other; an immersed opening leaves nothing; a given survival has no mark. Assumes nothing.
-use Prim.Native.Nat.{ℕ, _^_, _≤_}
+-- What the marks tell (document 02, "Why is this survival not one?" and "Openings"): each its own number; of a found survival none means that it is one, one
+-- alone that this number holds it down and no other; an immersed opening leaves nothing; a given survival has no mark. Assumes nothing.
+use Prim.Native.Nat.{ℕ, _^_, _≤_, _<_}
 use mathlib.Core.Bool.{true, false}
 use mathlib.Core.Logic.{_↔_}
 use mathlib.Core.Path.{_≡_}
@@ -9,6 +10,7 @@ use Rattle.laws.specs.Fraction.{whole, _≈_}
 use Rattle.records.specs.declared.Finding.{Finding}
 use Rattle.records.specs.declared.Marks.{Marks}
 use Rattle.records.specs.declared.Survival.{Survival}
+use Rattle.solas.specs.Survival.{s⁴}
 use Rattle.survival.specs.Marks.{unmarked}
 use Rattle.survival.specs.Survival.{root, ends, fourthOf, survivalOf}
 
@@ -46,13 +48,20 @@ heelAlone = record { lever = false; range = false; heel = true; opening = false 
 abbrev pub openingAlone : Marks
 openingAlone = record { lever = false; range = false; heel = false; opening = true }
 
+-- ---- yes or no to each thing, whatever the others are
+pub record EachMarkItsOwn : Type 0 where
+  pub lever : (kind : ℕ) (f : Finding) → Found kind → (survivalOf kind f .marks .lever ≡ true) ↔ (f .lever < 120)
+  pub range : (kind : ℕ) (f : Finding) → Found kind → (survivalOf kind f .marks .range ≡ true) ↔ (f .range < 1600)
+  pub heel : (kind : ℕ) (f : Finding) → Found kind → (survivalOf kind f .marks .heel ≡ true) ↔ (2500 < f .heel)
+  pub opening : (kind : ℕ) (f : Finding) → Found kind → (survivalOf kind f .marks .opening ≡ true) ↔ (f .opening <ℤ pos 0)
+
 -- ---- a found survival is one, rounded either way or exactly, where nothing is marked and nowhere else
 pub record OneExactlyWhenUnmarked : Type 0 where
   pub bottom : (kind : ℕ) (f : Finding) → Found kind → (survivalOf kind f .bottom ≡ 10 ^ 4) ↔ (survivalOf kind f .marks ≡ unmarked)
   pub top : (kind : ℕ) (f : Finding) → Found kind → (survivalOf kind f .top ≡ 10 ^ 4) ↔ (survivalOf kind f .marks ≡ unmarked)
   pub exact : (kind : ℕ) (f : Finding) → Found kind → (fourthOf f ≈ whole 1) ↔ (survivalOf kind f .marks ≡ unmarked)
 
--- ---- where one thing alone is marked, survival is one as soon as that number is brought to its cap, and not before
+-- ---- where one thing alone is marked, survival is one as soon as that number is brought to its cap, or the opening up to the waterline, and not before
 pub record OneMarkAlone : Type 0 where
   pub lever : (kind : ℕ) (f : Finding) → Found kind → survivalOf kind f .marks ≡ leverAlone → (g : ℕ) → IsOne (survivalOf kind (withLever g f)) ↔ (120 ≤ g)
   pub range : (kind : ℕ) (f : Finding) → Found kind → survivalOf kind f .marks ≡ rangeAlone → (t : ℕ) → IsOne (survivalOf kind (withRange t f)) ↔ (1600 ≤ t)
@@ -70,13 +79,12 @@ pub record OthersStillHold : Type 0 where
   pub opening : (kind : ℕ) (f : Finding) → Found kind → (o : ℤ) → survivalOf kind (withOpening o f) .top ≡ 10 ^ 4 →
       (survivalOf kind f .marks .lever ≡ false) × (survivalOf kind f .marks .range ≡ false) × (survivalOf kind f .marks .heel ≡ false)
 
--- ---- "Below zero the survival is zero; at zero the opening is not yet immersed": by bottom, by top and exactly, and the mark tells it; a dry opening, be it
--- where it may, changes nothing
+-- ---- "Below zero the survival is zero; at zero the opening is not yet immersed": by bottom, by top and exactly; a dry opening, be it where it may, leaves
+-- the survival of lever, range and heel
 pub record OpeningDecides : Type 0 where
-  pub marked : (kind : ℕ) (f : Finding) → Found kind → (survivalOf kind f .marks .opening ≡ true) ↔ (f .opening <ℤ pos 0)
   pub lost : (kind : ℕ) (f : Finding) → Found kind → f .opening <ℤ pos 0 → (survivalOf kind f .bottom ≡ 0) × (survivalOf kind f .top ≡ 0) × (fourthOf f ≈ whole 0)
   pub dry : (kind : ℕ) (f : Finding) (o : ℤ) → Found kind → pos 0 ≤ℤ f .opening → pos 0 ≤ℤ o →
-      (survivalOf kind (withOpening o f) ≡ survivalOf kind f) × (fourthOf (withOpening o f) ≈ fourthOf f)
+      (survivalOf kind (withOpening o f) ≡ survivalOf kind f) × (fourthOf f ≈ s⁴ (f .lever) (f .range) (f .heel))
 
 -- ---- "A given survival has none of them"
 abbrev pub GivenIsUnmarked : Type 0

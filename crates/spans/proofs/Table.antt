@@ -14,13 +14,21 @@ use Rattle.records.specs.declared.Hull.{Hull}
 use Rattle.spans.specs.declared.SpanEnds.{SpanEnds}
 use Rattle.spans.specs.Span.{spanEnds}
 use Rattle.spans.specs.Hull.{shipOf, Hulled}
+use Rattle.spans.proofs.Places.{place-below, place-within}
 use Rattle.spans.specs.Table.{spanAt, numberOf, numberAt, tableOf, spanIn}
 
 -- ---- a span of its zones
 
 -- the test for one, passed
-pub tested : (i j m : ℕ) → (leb i j && ltb j m) ≡ true → (i ≤ j) × (j < m)
+tested : (i j m : ℕ) → (leb i j && ltb j m) ≡ true → (i ≤ j) × (j < m)
 tested i j m e = let t = both (leb i j) (ltb j m) e in (leb-true i j (t .0), ltb-true j m (t .1))
+
+-- then it lies within the ship
+pub span-within : {h : Hull} (i j : ℕ) → Hulled h → (leb i j && ltb j (h .zones)) ≡ true →
+    (1 ≤ h .length) × (h .length ≤ 19800) × (getD (h .places) i 0 ≤ getD (h .places) (j + 1) 0) × (getD (h .places) (j + 1) 0 ≤ h .length)
+span-within {h} i j s e =
+    let t = tested i j (h .zones) e in
+    (omega (arith, s .long), s .short, place-below s (omega arith) (omega arith), place-within s (omega arith))
 
 pub span-there : (h : Hull) (i j : ℕ) → i ≤ j → j < h .zones → spanAt h i j ≡ spanEnds (h .length) (getD (h .places) i 0) (getD (h .places) (j + 1) 0)
 unfolding spanAt

@@ -4,6 +4,7 @@ use bands::inner;
 use division::billionths;
 use records::Ends;
 use records::Hull;
+ghost use mathlib.Core.Bool.{true};
 ghost use mathlib.Core.Path.{_≡_};
 ghost use Prim.Native.Nat.{_≤_};
 ghost use lib.ListN.{length};
@@ -12,7 +13,7 @@ ghost use Rattle.bands.specs.Bands.{Chance};
 ghost use Rattle.spans.specs.Rounded.{endsOf};
 ghost use Rattle.spans.specs.Span.{touches, spanEnds};
 ghost use Rattle.spans.specs.Hull.{Hulled};
-ghost use Rattle.spans.specs.Table.{spanAt, tableOf, spanIn};
+ghost use Rattle.spans.specs.Table.{spanWhere, tableOf, spanIn};
 
 // The ends of p and of P of one span.
 pub struct SpanEnds {
@@ -69,13 +70,13 @@ fn span_ends(l: u64, aft: u64, fwd: u64) -> SpanEnds
     SpanEnds { inner: p, chance }
 }
 
-// The zones from i to j of a hull, counted from 0; zeros where there is no such span.
-fn zone_span(h: Hull, i: usize, j: usize) -> SpanEnds
-    requires { ⌜ Hulled h ⌝ }
-    ensures { λ r. ⌜ r ≡ spanAt h i j ⌝ }
+// The same where there is such a span, and zeros where there is none.
+fn span_where(there: bool, l: u64, aft: u64, fwd: u64) -> SpanEnds
+    requires { ⌜ (there ≡ true → (1 ≤ l) × (l ≤ 19800) × (aft ≤ fwd) × (fwd ≤ l)) ⌝ }
+    ensures { λ r. ⌜ r ≡ spanWhere there l aft fwd ⌝ }
 {
-    if (i <= j) & (j < h.zones) {
-        return span_ends(h.length, h.places[i], h.places[j + 1]);
+    if there {
+        return span_ends(l, aft, fwd);
     }
     SpanEnds {
         inner: Ends { lower: 0, upper: 0 },
@@ -98,7 +99,10 @@ pub fn span_table(h: Hull) -> [u64; 1_600]
     let mut t = blank();
     let mut k: usize = 0;
     while k < 1_600 {
-        let s = zone_span(h, k / 80, k / 4 % 20);
+        let i = k / 80;
+        let j = k / 4 % 20;
+        let there = (i <= j) & (j < h.zones);
+        let s = span_where(there, h.length, h.places[i], h.places[j + 1]);
         t[k] = s.inner.lower;
         t[k + 1] = s.inner.upper;
         t[k + 2] = s.chance.lower;

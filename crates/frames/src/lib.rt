@@ -15,42 +15,42 @@ pub enum Written {
     Badly,
 }
 
-// The values of the sixteen bytes from a place on: in an array of their own, so that no store can touch them.
-fn sixteen(text: &[u8], at: usize) -> [u8; 16]
-    requires { ⌜ at + 16 ≤ length (now text) ⌝ }
-    ensures { λ r. ⌜ r ≡ tabulate (λ k. markAt (now (text .entry)) (at + k)) 16 ⌝ }
+// The values of the 32 bytes from a place on: in an array of their own, so that no store can touch them.
+fn values(text: &[u8], at: usize) -> [u8; 32]
+    requires { ⌜ at + 32 ≤ length (now text) ⌝ }
+    ensures { λ r. ⌜ r ≡ tabulate (λ k. markAt (now (text .entry)) (at + k)) 32 ⌝ }
 {
-    let mut v = [0u8; 16];
+    let mut v = [0u8; 32];
     let mut k: usize = 0;
-    while k < 16 {
+    while k < 32 {
         v[k] = value_of(text[at + k]);
         k = k + 1;
     }
     v
 }
 
-// Whether one of sixteen values is that of no digit.
-fn some_other(v: [u8; 16]) -> bool
-    ensures { λ r. ⌜ r ≡ otherBelow v 16 ⌝ }
+// Whether one of 32 values is that of no digit.
+fn some_other(v: [u8; 32]) -> bool
+    ensures { λ r. ⌜ r ≡ otherBelow v 32 ⌝ }
 {
     let mut bad = false;
     let mut k: usize = 0;
-    while k < 16 {
+    while k < 32 {
         bad = bad | (v[k] == 16);
         k = k + 1;
     }
     bad
 }
 
-// Writes the bytes of the eight pairs from pair i on to their places, and says whether one of their digits is none.
-fn decode_eight(text: &[u8], out: &mut [u8], i: usize) -> bool
-    requires { ⌜ (i * 2 + 16 ≤ length (now text)) × (i + 8 ≤ length (now out)) ⌝ }
-    ensures result { λ r. ⌜ r ≡ not (digitsOnly (take 16 (drop (i * 2) (now (text .entry))))) ⌝ }
-    ensures buffer { λ r. ⌜ now (out .exit) ≡ sets (now (out .entry)) i (take 8 (drop i (bytesOf (now (text .entry))))) ⌝ }
+// Writes the bytes of the sixteen pairs from pair i on to their places, and says whether one of their digits is none.
+fn decode_sixteen(text: &[u8], out: &mut [u8], i: usize) -> bool
+    requires { ⌜ (i * 2 + 32 ≤ length (now text)) × (i + 16 ≤ length (now out)) ⌝ }
+    ensures result { λ r. ⌜ r ≡ not (digitsOnly (take 32 (drop (i * 2) (now (text .entry))))) ⌝ }
+    ensures buffer { λ r. ⌜ now (out .exit) ≡ sets (now (out .entry)) i (take 16 (drop i (bytesOf (now (text .entry))))) ⌝ }
 {
-    let v = sixteen(text, i * 2);
+    let v = values(text, i * 2);
     let mut k: usize = 0;
-    while k < 8 {
+    while k < 16 {
         let h = v[2 * k];
         let l = v[2 * k + 1];
         out[i + k] = h % 16 * 16 + l % 16;
@@ -83,22 +83,22 @@ fn decode_few(text: &[u8], out: &mut [u8], m: usize) -> bool
     bad
 }
 
-// The same of however many pairs. Each turn does the same whatever the digits are, and eight pairs are a turn, so that the compiler takes them at
-// once; the last eight end with the last pair, and those among them that were read before come out as they did.
+// The same of however many pairs. Each turn does the same whatever the digits are, and sixteen pairs are a turn, so that the compiler takes them at
+// once; the last sixteen end with the last pair, and those among them that were read before come out as they did.
 fn decode_pairs(text: &[u8], out: &mut [u8], m: usize) -> bool
     requires { ⌜ (m * 2 ≤ length (now text)) × (m ≤ length (now out)) ⌝ }
     ensures result { λ r. ⌜ r ≡ not (digitsOnly (take (m * 2) (now (text .entry)))) ⌝ }
     ensures buffer { λ r. ⌜ now (out .exit) ≡ sets (now (out .entry)) 0 (take m (bytesOf (now (text .entry)))) ⌝ }
 {
-    if m < 8 {
+    if m < 16 {
         return decode_few(text, out, m);
     }
     let mut bad = false;
     let mut i: usize = 0;
     while i < m {
-        let at = lesser(i, m - 8);
-        bad = bad | decode_eight(text, out, at);
-        i = at + 8;
+        let at = lesser(i, m - 16);
+        bad = bad | decode_sixteen(text, out, at);
+        i = at + 16;
     }
     bad
 }

@@ -28,8 +28,8 @@ loop-holds c = (omega arith, none-read _ _)
 lesser-requires : tie.Need-lesser-requires Inv-loop μ-loop
 lesser-requires c κs = search needs
 
-decode-eight-requires : tie.Need-decode-eight-requires Inv-loop μ-loop
-decode-eight-requires c κs = (omega arith, omega (arith, as-long _ _ _ _ _ (c .before .before .before .loop .inv .1)))
+decode-sixteen-requires : tie.Need-decode-sixteen-requires Inv-loop μ-loop
+decode-sixteen-requires c κs = (omega arith, omega (arith, as-long _ _ _ _ _ (c .before .before .before .loop .inv .1)))
 
 add-i : tie.Need-add-i Inv-loop μ-loop
 add-i c = search needs
@@ -39,9 +39,9 @@ loop-less c = search needs
 
 loop-again : tie.Need-loop-again Inv-loop μ-loop
 loop-again c =
-    let e = c .before .before .decode-eight .ensures in
+    let e = c .before .before .decode-sixteen .ensures in
     let b = c .before .before .before .before in
-    (omega arith, pairs-read _ _ _ _ _ (b .before .before .loop .inv .1) (b .lesser .result) 8 (omega arith) (omega arith) (omega arith) (omega arith) (e .0) (e .1))
+    (omega arith, pairs-read _ _ _ _ _ (b .before .before .loop .inv .1) (b .lesser .result) 16 (omega arith) (omega arith) (omega arith) (omega arith) (e .0) (e .1))
 
 same-length-2 : tie.Need-same-length-2 Inv-loop μ-loop
 same-length-2 c = as-long _ _ _ _ _ (c .before .loop .inv .1)
@@ -63,7 +63,7 @@ decode-pairs-spec =
     returns
     loop-holds
     lesser-requires
-    decode-eight-requires
+    decode-sixteen-requires
     add-i
     loop-less
     loop-again

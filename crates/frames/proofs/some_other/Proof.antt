@@ -9,10 +9,10 @@ use Rattle.frames.proofs.some_other.Statement.{statement}
 use Rattle.frames.proofs.some_other.Tie as tie
 
 abbrev Inv-loop : tie.InvT-loop
-Inv-loop v bad₀ k₀ bad k = (k ≤ 16) × (bad ≡ otherBelow v k)
+Inv-loop v bad₀ k₀ bad k = (k ≤ 32) × (bad ≡ otherBelow v k)
 
 abbrev μ-loop : tie.MeasureT-loop
-μ-loop v bad₀ k₀ bad k = 16 - k
+μ-loop v bad₀ k₀ bad k = 32 - k
 
 loop-holds : tie.Need-loop-holds Inv-loop μ-loop
 loop-holds c = (omega arith, other-none _)
@@ -31,7 +31,7 @@ loop-again c = (omega arith, other-more _ _ (c .before .loop .inv .1))
 
 returns : tie.Need-returns Inv-loop μ-loop
 returns c =
-    let e : c .before .loop .k ≡ 16 = omega arith in
+    let e : c .before .loop .k ≡ 32 = omega arith in
     rw (← e) (c .before .loop .inv .1)
 
 pub some-other-spec : {M : Type 1} → statement M

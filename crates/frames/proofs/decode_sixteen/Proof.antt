@@ -1,4 +1,4 @@
--- `decode_eight` meets its contract: a byte more is stored at each turn. Assumes nothing.
+-- `decode_sixteen` meets its contract: a byte more is stored at each turn. Assumes nothing.
 use mathlib.Core.Path.{_≡_, refl}
 use Prim.Native.Nat.{_-_, _*_, _≤_}
 use native.Mathlib.Omega.{arith}
@@ -8,20 +8,20 @@ use borrow.Author.Needs.{needs}
 use Rattle.hexadecimal.specs.Hex.{bytesOf}
 use Rattle.frames.proofs.CodeDecoding.{run-long}
 use Rattle.frames.proofs.CodeEights.{other-told, byte-more}
-use Rattle.frames.proofs.decode_eight.Statement.{statement}
-use Rattle.frames.proofs.decode_eight.Tie as tie
+use Rattle.frames.proofs.decode_sixteen.Statement.{statement}
+use Rattle.frames.proofs.decode_sixteen.Tie as tie
 
 abbrev Inv-loop : tie.InvT-loop
-Inv-loop text out₀ i v k₀ out k = (k ≤ 8) × (out ≡ sets out₀ i (take k (drop i (bytesOf text))))
+Inv-loop text out₀ i v k₀ out k = (k ≤ 16) × (out ≡ sets out₀ i (take k (drop i (bytesOf text))))
 
 abbrev μ-loop : tie.MeasureT-loop
-μ-loop text out₀ i v k₀ out k = 8 - k
+μ-loop text out₀ i v k₀ out k = 16 - k
 
-mul-sixteen : tie.Need-mul-sixteen Inv-loop μ-loop
-mul-sixteen c = search needs
+mul-values : tie.Need-mul-values Inv-loop μ-loop
+mul-values c = search needs
 
-sixteen-requires : tie.Need-sixteen-requires Inv-loop μ-loop
-sixteen-requires c κs = search needs
+values-requires : tie.Need-values-requires Inv-loop μ-loop
+values-requires c κs = search needs
 
 loop-holds : tie.Need-loop-holds Inv-loop μ-loop
 loop-holds c = (omega arith, refl)
@@ -62,7 +62,7 @@ loop-less : tie.Need-loop-less Inv-loop μ-loop
 loop-less c = search needs
 
 loop-again : tie.Need-loop-again Inv-loop μ-loop
-loop-again c = (omega arith, byte-more (c .before .before .before .before .before .args .text .now) _ _ 16 (omega arith) (c .before .before .sixteen .ensures) (c .before .loop .k) (omega arith) (c .before .loop .inv .1))
+loop-again c = (omega arith, byte-more (c .before .before .before .before .before .args .text .now) _ _ 32 (omega arith) (c .before .before .values .ensures) (c .before .loop .k) (omega arith) (c .before .loop .inv .1))
 
 some-other-requires : tie.Need-some-other-requires Inv-loop μ-loop
 some-other-requires c κs = search needs
@@ -75,17 +75,17 @@ same-length c =
 returns : tie.Need-returns Inv-loop μ-loop
 returns c =
     let a = c .before .before .before .before .before .before .args in
-    let all : c .before .before .loop .k ≡ 8 = omega arith in
-    (other-told (a .text .now) (a .i * 2) 16 (omega arith) (c .before .before .before .sixteen .ensures) (c .some-other .ensures), rw all at (c .before .before .loop .inv .1))
+    let all : c .before .before .loop .k ≡ 16 = omega arith in
+    (other-told (a .text .now) (a .i * 2) 32 (omega arith) (c .before .before .before .values .ensures) (c .some-other .ensures), rw all at (c .before .before .loop .inv .1))
 
-pub decode-eight-spec : {M : Type 1} → statement M
-decode-eight-spec =
+pub decode-sixteen-spec : {M : Type 1} → statement M
+decode-sixteen-spec =
     tie.close
     (tie.spec
     Inv-loop
     μ-loop
-    mul-sixteen
-    sixteen-requires
+    mul-values
+    values-requires
     loop-holds
     mul-h
     array-read-h

@@ -5,14 +5,14 @@ use Rattle.laws.proofs.Lists.{Filled, none-filled, one-filled, all-filled}
 use Rattle.frames.specs.Decoding.{markAt}
 use borrow.Author.Needs.{needs}
 use native.Mathlib.Omega.{arith}
-use Rattle.frames.proofs.sixteen.Statement.{statement}
-use Rattle.frames.proofs.sixteen.Tie as tie
+use Rattle.frames.proofs.values.Statement.{statement}
+use Rattle.frames.proofs.values.Tie as tie
 
 abbrev Inv-loop : tie.InvT-loop
-Inv-loop text at v₀ k₀ v k = Filled (λ i. markAt text (at + i)) 16 v k
+Inv-loop text at v₀ k₀ v k = Filled (λ i. markAt text (at + i)) 32 v k
 
 abbrev μ-loop : tie.MeasureT-loop
-μ-loop text at v₀ k₀ v k = 16 - k
+μ-loop text at v₀ k₀ v k = 32 - k
 
 loop-holds : tie.Need-loop-holds Inv-loop μ-loop
 loop-holds c = none-filled _ _ _ refl
@@ -41,8 +41,8 @@ loop-again c = one-filled _ _ _ _ _ (omega arith) (c .value-of .ensures) (c .bef
 returns : tie.Need-returns Inv-loop μ-loop
 returns c = all-filled _ _ _ _ (omega arith) (c .before .loop .inv)
 
-pub sixteen-spec : {M : Type 1} → statement M
-sixteen-spec =
+pub values-spec : {M : Type 1} → statement M
+values-spec =
     tie.close
     (tie.spec
     Inv-loop

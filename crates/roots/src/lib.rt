@@ -29,15 +29,15 @@ fn quarter(r: u64) -> u64
     }
 }
 
-// Some number near the fourth root of 1 and u 2²⁰ths, in 2³⁰ths: a curve of the fourth degree.
+// Some number near the fourth root of 1 and u 2²⁰ths, in 2³⁰ths: a curve of the fourth degree, in two halves that do not wait for each other.
 fn curve(u: u64) -> u64
     requires { ⌜ u < 2 ^ 20 ⌝ }
     ensures { λ r. ⌜ r < 2 ^ 31 ⌝ }
 {
-    let a = above(39_968_789, u * 9_613_669 / PARTS);
-    let b = above(94_994_528, u * a / PARTS);
-    let c = above(267_778_564, u * b / PARTS);
-    1_073_754_768 + u * c / PARTS
+    let square = u * u / PARTS;
+    let line = 1_073_754_768 + u * 267_778_564 / PARTS;
+    let bend = 94_994_528 - u * 39_968_789 / PARTS + square * 9_613_669 / PARTS;
+    line - square * bend / PARTS
 }
 
 // Some number near the fourth root of n, by its leading bits. It decides how soon the root is found and never what is found, because

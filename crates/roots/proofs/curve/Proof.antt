@@ -1,51 +1,52 @@
--- `roots::curve` meets its contract: each factor is below 2²⁸, so that no product wraps, and the last adds less than 2²⁸. Assumes nothing.
-use borrow.Author.Needs.{needs}
-use Prim.Native.Nat.{ℕ, _*_, _^_, _≤_, _<_}
+-- `roots::curve` meets its contract: the square is at most 2²⁰ and each factor below 2²⁸, so that no product wraps and less is taken off than there is. Assumes
+-- nothing.
+use Prim.Native.Nat.{ℕ, _+_, _-_, _*_, _/_, _^_, _≤_, _<_}
 use native.Mathlib.Nat.{mul-le-mul, le-of-lt}
 use native.Mathlib.Omega.{arith}
 use Rattle.roots.proofs.curve.Statement.{statement}
 use Rattle.roots.proofs.curve.Tie as tie
 
-within : {u : ℕ} (a : ℕ) → u < 2 ^ 20 → a < 2 ^ 28 → u * a ≤ 2 ^ 48
-within a hu ha = mul-le-mul (le-of-lt hu) (le-of-lt ha)
+squared : {u : ℕ} → u < 2 ^ 20 → u * u ≤ 2 ^ 40
+squared h = mul-le-mul (le-of-lt h) (le-of-lt h)
 
-mul-above : tie.Need-mul-above
-mul-above c = search needs
+within : {s b : ℕ} → s ≤ 2 ^ 20 → b ≤ 2 ^ 28 → s * b ≤ 2 ^ 48
+within hs hb = mul-le-mul hs hb
 
-above-requires : tie.Need-above-requires
-above-requires c κs = search needs
+-- how far the curve bends from its line
+bent : (u : ℕ) → u < 2 ^ 20 → u * u / 1048576 * (94994528 - u * 39968789 / 1048576 + u * u / 1048576 * 9613669 / 1048576) ≤ 2 ^ 48
+bent u h =
+    let s = squared h in
+    within (omega (arith, s)) (omega (arith, s))
 
-mul-above-2 : tie.Need-mul-above-2
-mul-above-2 c = omega (arith, within (c .above .result) (c .before .pre) (omega arith))
+mul-square : tie.Need-mul-square
+mul-square c = omega (arith, squared (c .pre))
 
-above-requires-2 : tie.Need-above-requires-2
-above-requires-2 c κs = search needs
+mul-line : tie.Need-mul-line
+mul-line c = omega (arith, c .pre)
 
-mul-above-3 : tie.Need-mul-above-3
-mul-above-3 c = omega (arith, within (c .above2 .result) (c .before .before .pre) (omega arith))
+add-line : tie.Need-add-line
+add-line c = omega (arith, c .pre)
 
-above-requires-3 : tie.Need-above-requires-3
-above-requires-3 c κs = search needs
+mul-bend : tie.Need-mul-bend
+mul-bend c = omega (arith, c .pre)
+
+sub-bend : tie.Need-sub-bend
+sub-bend c = omega (arith, c .pre)
+
+mul-bend-2 : tie.Need-mul-bend-2
+mul-bend-2 c = omega (arith, squared (c .pre))
+
+add-bend : tie.Need-add-bend
+add-bend c = omega (arith, squared (c .pre))
 
 mul-result : tie.Need-mul-result
-mul-result c = omega (arith, within (c .above3 .result) (c .before .before .before .pre) (omega arith))
+mul-result c = omega (arith, bent (c .args .u) (c .pre))
 
-add-result : tie.Need-add-result
-add-result c = omega (arith, within (c .above3 .result) (c .before .before .before .pre) (omega arith))
+sub-result : tie.Need-sub-result
+sub-result c = omega (arith, bent (c .args .u) (c .pre))
 
 returns : tie.Need-returns
-returns c = omega (arith, within (c .above3 .result) (c .before .before .before .pre) (omega arith))
+returns c = omega (arith, c .pre)
 
 pub curve-spec : {M : Type 1} → statement M
-curve-spec =
-    tie.close
-    (tie.spec
-    mul-above
-    above-requires
-    mul-above-2
-    above-requires-2
-    mul-above-3
-    above-requires-3
-    mul-result
-    add-result
-    returns)
+curve-spec = tie.close (tie.spec mul-square mul-line add-line mul-bend sub-bend mul-bend-2 add-bend mul-result sub-result returns)

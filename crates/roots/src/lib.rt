@@ -35,7 +35,7 @@ fn curve(u: u64) -> u64
     ensures { λ r. ⌜ r < 2 ^ 31 ⌝ }
 {
     let square = u * u / PARTS;
-    let line = 1_073_754_768 + u * 267_778_564 / PARTS;
+    let line = 1_073_766_768 + u * 267_778_564 / PARTS;
     let bend = 94_994_528 - u * 39_968_789 / PARTS + square * 9_613_669 / PARTS;
     line - square * bend / PARTS
 }
@@ -45,10 +45,11 @@ fn curve(u: u64) -> u64
 fn guess(n: u64) -> u64
     ensures { λ r. ⌜ r ≤ 10000 ⌝ }
 {
-    let top = above(63, u64::leading_zeros(n) as u64);
+    let zeros = u64::leading_zeros(n) as u64;
+    let top = above(63, zeros);
     let u = (n >> above(top, 20)) % PARTS;
     let whole = curve(u) * quarter(top % 4) / ONE;
-    let near = whole >> above(30, top / 4);
+    let near = whole >> (60 + zeros) / 4;
     if near <= 10_000 { near } else { 10_000 }
 }
 

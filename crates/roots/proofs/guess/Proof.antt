@@ -6,8 +6,8 @@ use lib.Count.{leading-le}
 use Rattle.roots.proofs.guess.Statement.{statement}
 use Rattle.roots.proofs.guess.Tie as tie
 
-cast-above : tie.Need-cast-above
-cast-above c = omega (arith, leading-le 64 (c .args .n))
+cast-zeros : tie.Need-cast-zeros
+cast-zeros c = omega (arith, leading-le 64 (c .args .n))
 
 above-requires : tie.Need-above-requires
 above-requires c κs = search needs
@@ -27,11 +27,11 @@ quarter-requires c κs = search needs
 mul-whole : tie.Need-mul-whole
 mul-whole c = omega (arith, mul-le-mul (le-of-lt (c .before .curve .ensures)) (le-of-lt (c .quarter .ensures)))
 
-above-requires-3 : tie.Need-above-requires-3
-above-requires-3 c κs = search needs
+add-near : tie.Need-add-near
+add-near c = omega (arith, leading-le 64 (c .before .before .before .before .args .n))
 
 shr-near : tie.Need-shr-near
-shr-near c = search needs
+shr-near c = omega (arith, leading-le 64 (c .before .before .before .before .args .n))
 
 returns : tie.Need-returns
 returns c = search needs
@@ -43,14 +43,14 @@ pub guess-spec : {M : Type 1} → statement M
 guess-spec =
     tie.close
     (tie.spec
-    cast-above
+    cast-zeros
     above-requires
     above-requires-2
     shr-u
     curve-requires
     quarter-requires
     mul-whole
-    above-requires-3
+    add-near
     shr-near
     returns
     returns-2)

@@ -1,3 +1,3 @@
 pub mod CodeDecoding
-pub mod CodeEights
+pub mod CodeTurns
 pub mod Text

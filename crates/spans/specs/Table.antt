@@ -1,6 +1,6 @@
 -- The span table: p's and P's ends of every span of zones, four numbers a span. Assumes nothing.
 use Prim.Native.Nat.{ℕ, zero, suc, _+_, _-_, _*_, _/_, _%_}
-use mathlib.Core.Bool.{Bool, _&&_, cond}
+use mathlib.Core.Bool.{_&&_, cond}
 use mathlib.Core.List.{List}
 use lib.Dec.{leb, ltb}
 use lib.ListN.{getD}
@@ -9,13 +9,13 @@ use Rattle.records.specs.declared.Hull.{Hull}
 use Rattle.spans.specs.declared.SpanEnds.{SpanEnds}
 use Rattle.spans.specs.Span.{spanEnds}
 
--- the span from aft to fwd where there is one; 0 where there is none
-abbrev pub spanWhere : Bool → ℕ → ℕ → ℕ → SpanEnds
-spanWhere there l aft fwd = cond there (spanEnds l aft fwd) (record { inner = record { lower = 0; upper = 0 }; chance = record { lower = 0; upper = 0 } })
+-- what stands where there is no span
+abbrev pub noSpan : SpanEnds
+noSpan = record { inner = record { lower = 0; upper = 0 }; chance = record { lower = 0; upper = 0 } }
 
 -- the zones from i to j, counted from 0, of the m zones of a hull
 unfoldable pub spanAt : Hull → ℕ → ℕ → SpanEnds
-spanAt h i j = spanWhere (leb i j && ltb j (h .zones)) (h .length) (getD (h .places) i 0) (getD (h .places) (j + 1) 0)
+spanAt h i j = cond (leb i j && ltb j (h .zones)) (spanEnds (h .length) (getD (h .places) i 0) (getD (h .places) (j + 1) 0)) noSpan
 
 -- a span's four numbers
 abbrev pub numberOf : SpanEnds → ℕ → ℕ

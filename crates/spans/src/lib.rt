@@ -4,7 +4,7 @@ use bands::inner;
 use division::billionths;
 use records::Ends;
 use records::Hull;
-ghost use mathlib.Core.Bool.{true};
+ghost use mathlib.Core.Bool.{true, cond};
 ghost use mathlib.Core.Path.{_≡_};
 ghost use Prim.Native.Nat.{_≤_};
 ghost use lib.ListN.{length};
@@ -13,7 +13,7 @@ ghost use Rattle.bands.specs.Bands.{Chance};
 ghost use Rattle.spans.specs.Rounded.{endsOf};
 ghost use Rattle.spans.specs.Span.{touches, spanEnds};
 ghost use Rattle.spans.specs.Hull.{Hulled};
-ghost use Rattle.spans.specs.Table.{spanWhere, tableOf, spanIn};
+ghost use Rattle.spans.specs.Table.{noSpan, tableOf, spanIn};
 
 // The ends of p and of P of one span.
 pub struct SpanEnds {
@@ -73,7 +73,7 @@ fn span_ends(l: u64, aft: u64, fwd: u64) -> SpanEnds
 // The same where there is such a span, and zeros where there is none.
 fn span_where(there: bool, l: u64, aft: u64, fwd: u64) -> SpanEnds
     requires { ⌜ (there ≡ true → (1 ≤ l) × (l ≤ 19800) × (aft ≤ fwd) × (fwd ≤ l)) ⌝ }
-    ensures { λ r. ⌜ r ≡ spanWhere there l aft fwd ⌝ }
+    ensures { λ r. ⌜ r ≡ cond there (spanEnds l aft fwd) noSpan ⌝ }
 {
     if there {
         return span_ends(l, aft, fwd);

@@ -1,4 +1,4 @@
--- `decode_pairs` meets its contract: eight pairs more at each turn, the last of which may have been read before in part. Assumes nothing.
+-- `decode_pairs` meets its contract: sixteen pairs more at each turn, the last of which may have been read before in part. Assumes nothing.
 use mathlib.Core.Path.{_≡_}
 use Prim.Native.Nat.{_-_, _≤_, min}
 use native.Mathlib.Omega.{arith}

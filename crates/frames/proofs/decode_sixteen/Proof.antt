@@ -7,7 +7,7 @@ use lib.Seq.{sets}
 use borrow.Author.Needs.{needs}
 use Rattle.hexadecimal.specs.Hex.{bytesOf}
 use Rattle.frames.proofs.CodeDecoding.{run-long}
-use Rattle.frames.proofs.CodeEights.{other-told, byte-more}
+use Rattle.frames.proofs.CodeTurns.{other-told, byte-more}
 use Rattle.frames.proofs.decode_sixteen.Statement.{statement}
 use Rattle.frames.proofs.decode_sixteen.Tie as tie
 

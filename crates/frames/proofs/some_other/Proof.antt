@@ -4,7 +4,7 @@ use Prim.Native.Nat.{_-_, _≤_}
 use native.Mathlib.Omega.{arith}
 use borrow.Author.Needs.{needs}
 use Rattle.frames.specs.Decoding.{otherBelow}
-use Rattle.frames.proofs.CodeEights.{other-none, other-more}
+use Rattle.frames.proofs.CodeTurns.{other-none, other-more}
 use Rattle.frames.proofs.some_other.Statement.{statement}
 use Rattle.frames.proofs.some_other.Tie as tie
 

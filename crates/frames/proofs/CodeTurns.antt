@@ -1,4 +1,4 @@
--- Eight pairs of digits at once, by the marks of their sixteen bytes: whether one is no digit, and a byte more that is stored. Assumes nothing.
+-- Several pairs of digits in one turn, by the marks of their bytes: whether one is no digit, and a byte more that is stored. Assumes nothing.
 use Prim.Native.Nat.{ℕ, zero, suc, _+_, _*_, _%_, _≤_, _<_}
 use mathlib.Core.Path.{_≡_, refl, sym, _∙_, ap}
 use mathlib.Core.Bool.{Bool, false, not, _||_}

@@ -29,7 +29,7 @@ numberOf (Frame.End count) = 0
 numberOf (Frame.Wrong k) = k
 
 -- the kind and the fields after it, with what stands beside the frame, a hull and a row's results: 01: Ls, B, ds, dl, zone count, inner bulkheads;
--- 02, 03: a, n, b, H, and the results, each opening as its two bytes have it without a sign; 0f: row count
+-- 02, 03, 05: a, n, b, H, and the results, each opening as its two bytes have it without a sign; 0f: row count
 abbrev pub valuesOf : Hull → List Finding → Frame → List ℕ
 valuesOf h rs Frame.Hull = 1 ∷ h .length ∷ h .breadth ∷ h .deepest ∷ h .light ∷ h .zones ∷ innerOf h
 valuesOf h rs (Frame.Row r) = r .kind ∷ r .first ∷ r .count ∷ r .depth ∷ r .height ∷ resultNumbers (r .kind) rs
@@ -76,7 +76,7 @@ pub record SaysTheLine : Type 0 where
   pub number : (h : Hull) (p : Progress) (l : Line) → numberOf (judged h p l) ≡ firstHolds (lineChecks h p l)
   pub row : (h : Hull) (p : Progress) (l : Line) → firstHolds (lineChecks h p l) ≡ 0 → isRow (kindOf (pairs (l .text))) ≡ true →
       let kind = kindOf (pairs (l .text)) in let f = fieldsOf (pairs (l .text)) in
-      valuesOf h (resultsOf kind f) (judged h p l) ≡ kind ∷ byteAt f 0 ∷ byteAt f 1 ∷ wordAt f 2 ∷ wordAt f 4 ∷ tabulate (λ i. wordAt f (6 + 2 * i)) (cond (eqb kind 2) 12 3)
+      valuesOf h (resultsOf kind f) (judged h p l) ≡ kind ∷ byteAt f 0 ∷ byteAt f 1 ∷ wordAt f 2 ∷ wordAt f 4 ∷ tabulate (λ i. wordAt f (6 + 2 * i)) (cond (eqb kind 2) 12 (cond (eqb kind 5) 24 3))
   pub end : (h : Hull) (p : Progress) (l : Line) → firstHolds (lineChecks h p l) ≡ 0 → isRow (kindOf (pairs (l .text))) ≡ false →
       let f = fieldsOf (pairs (l .text)) in valuesOf h [] (judged h p l) ≡ kindOf (pairs (l .text)) ∷ wordAt f 0 ∷ []
 

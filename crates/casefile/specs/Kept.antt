@@ -9,7 +9,7 @@ use Rattle.casefile.specs.Reading.{Reading, refused, accepted}
 
 -- the bytes of a place: as many as the longest row has
 abbrev pub placeWidth : ℕ
-placeWidth = 31
+placeWidth = 55
 
 -- the row at place i
 unfoldable pub keptRow : List ℕ → ℕ → Row

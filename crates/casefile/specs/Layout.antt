@@ -1,4 +1,4 @@
--- Document 01, "The case file", with document 02's openings: the frames' kinds, lengths and fields, from decoded bytes and back to them. Assumes nothing.
+-- Document 01, "The case file", with document 02's openings and second sets: the frames' kinds, lengths and fields, from decoded bytes and back to them. Assumes nothing.
 use Prim.Native.Nat.{ℕ, _+_, _-_, _*_}
 use mathlib.Core.Bool.{Bool, cond, _||_}
 use mathlib.Core.List.{List, [], _∷_, _++_}
@@ -22,19 +22,19 @@ kindOf bs = byteAt bs 0
 abbrev pub fieldsOf : List ℕ → List ℕ
 fieldsOf bs = drop 1 bs
 
--- 01 hull, 02 and 03 row, 0f end
+-- 01 hull; 02, 03 and 05 row; 0f end
 abbrev pub isHull : ℕ → Bool
 isHull kind = eqb kind 1
 
 abbrev pub isRow : ℕ → Bool
-isRow kind = eqb kind 2 || eqb kind 3
+isRow kind = eqb kind 2 || eqb kind 3 || eqb kind 5
 
 abbrev pub isEnd : ℕ → Bool
 isEnd kind = eqb kind 15
 
--- the bytes of a frame after the hull: 31 of kind 02, 13 of kind 03, 3 of kind 0f
+-- the bytes of a frame after the hull: 31 of kind 02, 13 of kind 03, 55 of kind 05, 3 of kind 0f
 unfoldable pub frameLength : ℕ → ℕ
-frameLength kind = cond (eqb kind 2) 31 (cond (eqb kind 3) 13 3)
+frameLength kind = cond (eqb kind 2) 31 (cond (eqb kind 3) 13 (cond (eqb kind 5) 55 3))
 
 -- the bytes of a hull of m zones: 8 + 2m
 abbrev pub hullLength : ℕ → ℕ
@@ -44,9 +44,13 @@ hullLength m = 8 + 2 * m
 abbrev pub shortestHull : ℕ
 shortestHull = 10
 
--- the bytes of one draught's result: lever, range, heel and opening, or a given survival
-abbrev pub setLength : ℕ → ℕ
-setLength kind = cond (eqb kind 2) 8 2
+-- the bytes of one draught's result: a given survival of kind 03; of another lever, range, heel and opening
+abbrev pub resultLength : ℕ → ℕ
+resultLength kind = cond (eqb kind 3) 2 8
+
+-- how many results a row has: a set of three, one at each draught; of kind 05 a second set after it
+abbrev pub resultCount : ℕ → ℕ
+resultCount kind = cond (eqb kind 5) 6 3
 
 -- ---- from the fields
 
@@ -68,25 +72,28 @@ hullOf f = record {
   places = placesOf (λ k. wordAt f (7 + 2 * k)) (byteAt f 8) (wordAt f 0);
 }
 
--- 02 and 03: a, n (one each), b, H (two each)
+-- 02, 03 and 05: a, n (one each), b, H (two each)
 unfoldable pub headOf : ℕ → List ℕ → RowHead
 headOf kind f = record { kind = kind; first = byteAt f 0; count = byteAt f 1; depth = wordAt f 2; height = wordAt f 4 }
 
--- one draught's result, read from there on: lever, range, heel (two each) and the opening (two, with a sign) of kind 02, a given survival of kind 03
+-- one draught's result, read from there on: a given survival of kind 03; of another lever, range, heel (two each) and the opening (two, with a sign)
 unfoldable pub findingOf : ℕ → List ℕ → Finding
 findingOf kind f =
-    cond (eqb kind 2)
-    (record { lever = wordAt f 0; range = wordAt f 2; heel = wordAt f 4; opening = signedAt f 6; given = 0 })
+    cond (eqb kind 3)
     (record { lever = 0; range = 0; heel = 0; opening = pos 0; given = wordAt f 0 })
+    (record { lever = wordAt f 0; range = wordAt f 2; heel = wordAt f 4; opening = signedAt f 6; given = 0 })
 
--- the three draughts' results, after a, n, b and H
+-- a set of results, one at each of the three draughts, read from there on
+unfoldable pub setOf : ℕ → List ℕ → List Finding
+setOf kind f = findingOf kind f ∷ findingOf kind (drop (resultLength kind) f) ∷ findingOf kind (drop (2 * resultLength kind) f) ∷ []
+
+-- a row's results, after a, n, b and H: a set, and of kind 05 "a second set .. after them"
 unfoldable pub resultsOf : ℕ → List ℕ → List Finding
-resultsOf kind f =
-    findingOf kind (drop 6 f) ∷ findingOf kind (drop (6 + setLength kind) f) ∷ findingOf kind (drop (6 + 2 * setLength kind) f) ∷ []
+resultsOf kind f = setOf kind (drop 6 f) ++ cond (eqb kind 5) (setOf kind (drop 30 f)) []
 
 -- a result's numbers, those of its kind, the opening as its two bytes have it; and those of a row's results
 abbrev pub findingNumbers : ℕ → Finding → List ℕ
-findingNumbers kind r = cond (eqb kind 2) (r .lever ∷ r .range ∷ r .heel ∷ unsigned (r .opening) ∷ []) (r .given ∷ [])
+findingNumbers kind r = cond (eqb kind 3) (r .given ∷ []) (r .lever ∷ r .range ∷ r .heel ∷ unsigned (r .opening) ∷ [])
 
 abbrev pub resultNumbers : ℕ → List Finding → List ℕ
 resultNumbers kind [] = []

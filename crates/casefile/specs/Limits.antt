@@ -15,9 +15,9 @@ use Rattle.casefile.specs.Record.{Row}
 unfoldable pub between : ℕ → ℕ → ℕ → Bool
 between low high x = leb low x && leb x high
 
--- input 32,768 bytes
+-- input 65,536 bytes
 abbrev pub longestInput : ℕ
-longestInput = 32768
+longestInput = 65536
 
 -- rows 0 to 500
 abbrev pub mostRows : ℕ

@@ -4,7 +4,7 @@ use Rattle.records.specs.declared.Hull.{Hull}
 use Rattle.records.specs.declared.Finding.{Finding}
 use Rattle.records.specs.declared.RowHead.{RowHead}
 
--- a row's head, and its result at each of the three draughts
+-- a row's head, and its results: one at each of the three draughts, deepest, partial, light; of kind 05 a second set of three after them
 pub record Row : Type 0 where
   pub head : RowHead
   pub results : List Finding

@@ -31,7 +31,7 @@ firstHolds (c ∷ cs) = cond (c .holds) (c .number) (firstHolds cs)
 unfoldable pub wrongHullFrame : List ℕ → Bool
 wrongHullFrame bs = not (isHull (kindOf bs)) || ltb (length bs) shortestHull
 
--- a later line, by its bytes: not 02, 03, 0f, or wrong length
+-- a later line, by its bytes: not 02, 03, 05, 0f, or wrong length
 unfoldable pub wrongFrame : List ℕ → Bool
 wrongFrame bs = not (isRow (kindOf bs) || isEnd (kindOf bs)) || not (eqb (length bs) (frameLength (kindOf bs)))
 

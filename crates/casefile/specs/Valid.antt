@@ -1,4 +1,4 @@
--- Document 01, "The case file", with document 02's openings: which cases keep its limits and its order, said of records alone. Assumes nothing.
+-- Document 01, "The case file", with document 02's openings and second sets: which cases keep its limits and its order, said of records alone. Assumes nothing.
 use Prim.Native.Nat.{ℕ, _/_, _≤_, _<_}
 use mathlib.Core.Path.{_≡_}
 use mathlib.Core.Logic.{_⊎_}
@@ -11,7 +11,7 @@ use Rattle.records.specs.declared.Hull.{Hull}
 use Rattle.records.specs.declared.Finding.{Finding}
 use Rattle.records.specs.declared.RowHead.{RowHead}
 use Rattle.casefile.specs.Record.{Row, Case}
-use Rattle.casefile.specs.Layout.{placesOf}
+use Rattle.casefile.specs.Layout.{placesOf, resultCount}
 use Rattle.casefile.specs.Limits.{mostRows, sizesFit, zonesFit, rowFits}
 use Rattle.casefile.specs.Order.{top}
 
@@ -28,14 +28,14 @@ pub record ValidHull (h : Hull) : Type 0 where
 
 -- ---- a row
 
--- kind 02 has lever, range, heel and opening, kind 03 a given survival; what a kind does not have is 0
+-- kinds 02 and 05 have lever, range, heel and opening, kind 03 a given survival; what a kind does not have is 0
 pub data Formed (kind : ℕ) (r : Finding) : Type 0 where
-  found : kind ≡ 2 → r .given ≡ 0 → Formed kind r
+  found : (kind ≡ 2) ⊎ (kind ≡ 5) → r .given ≡ 0 → Formed kind r
   given : kind ≡ 3 → r .lever ≡ 0 → r .range ≡ 0 → r .heel ≡ 0 → r .opening ≡ pos 0 → Formed kind r
 
 pub record ValidRow (h : Hull) (r : Row) : Type 0 where
   pub limits : T (rowFits h r)
-  pub three : length (r .results) ≡ 3
+  pub results : length (r .results) ≡ resultCount (r .head .kind)
   pub formed : Every (Formed (r .head .kind)) (r .results)
 
 -- ---- the order

@@ -3,7 +3,7 @@ use records::Hull;
 use records::RowHead;
 
 // A row is kept in a place of its own, as wide as the longest row; there is room for 500 rows and a line more.
-pub const PLACE_WIDTH: usize = 31;
+pub const PLACE_WIDTH: usize = 55;
 
 pub const KEPT: usize = 501 * PLACE_WIDTH;
 

@@ -11,8 +11,8 @@ pub struct Hull {
     pub places: [u64; 21],
 }
 
-// A row's result at one draught. Kind 2: what the customer's program found, the righting lever in millimetres, its range
-// and the heel in hundredths of a degree, the height of the critical opening above the final waterline in millimetres
+// A row's result at one draught. Kinds 2 and 5: what the customer's program found, the righting lever in millimetres, its
+// range and the heel in hundredths of a degree, the height of the critical opening above the final waterline in millimetres
 // (below 0 it is immersed), and given is 0. Kind 3: a given survival in ten-thousandths, the others 0.
 pub struct Finding {
     pub lever: u64,
@@ -22,7 +22,7 @@ pub struct Finding {
     pub given: u64,
 }
 
-// What a row says before its results: its kind (2 or 3), the group's first zone a and zone count n, the penetration b
+// What a row says before its results: its kind (2, 3 or 5), the group's first zone a and zone count n, the penetration b
 // in centimetres and the height H in millimetres.
 pub struct RowHead {
     pub kind: u64,

@@ -1,4 +1,4 @@
--- Document 01, "Height and survival": what a survival is exactly, its bottom and top in ten-thousandths, and document 02's openings and marks with them.
+-- Document 01, "Height and survival": what a survival is exactly, its bottom and top in ten-thousandths, and document 02's openings, marks and second sets with them.
 -- Assumes nothing.
 use Prim.Native.Nat.{ℕ, _*_, _/_, _^_, _≤_}
 use mathlib.Core.Bool.{cond}
@@ -6,7 +6,7 @@ use mathlib.Core.List.{List, [], _∷_}
 use lib.Dec.{eqb}
 use lib.IntN.{pos}
 use lib.ListN.{getD}
-use Rattle.laws.specs.Fraction.{Fraction, _over_, whole, _≼_, _⊛_}
+use Rattle.laws.specs.Fraction.{Fraction, _over_, whole, _≼_, _≼?_, _⊛_}
 use Rattle.laws.specs.Rounding.{ceil}
 use Rattle.roots.specs.Root.{rootDown, rootUp}
 use Rattle.records.specs.declared.Finding.{Finding}
@@ -85,7 +85,7 @@ abbrev pub NotBelow : Factor → Fraction → Type 0
 NotBelow (root f) x = f ≼ fourthPower x
 NotBelow (given n) x = tenThousandths n ≼ x
 
--- ---- a row's three results
+-- ---- a row's results
 abbrev pub nothing : Finding
 nothing = record { lever = 0; range = 0; heel = 0; opening = pos 0; given = 0 }
 
@@ -93,9 +93,16 @@ nothing = record { lever = 0; range = 0; heel = 0; opening = pos 0; given = 0 }
 abbrev pub noSurvival : Survival
 noSurvival = record { bottom = 0; top = 0; marks = unmarked }
 
--- deepest, partial, light
+-- of two results the one with the lower exact s⁴, the first when equal
+unfoldable pub worseOf : Finding → Finding → Finding
+worseOf f g = cond (fourthOf f ≼? fourthOf g) f g
+
+-- the result that counts at draught j, 0 deepest, 1 partial, 2 light: of a row of kind 5, whose second set of three stands after the first, the worse of two
+unfoldable pub countsAt : ℕ → List Finding → ℕ → Finding
+countsAt kind fs j = cond (eqb kind 5) (worseOf (getD fs j nothing) (getD fs (3 + j) nothing)) (getD fs j nothing)
+
 unfoldable pub factorsOf : ℕ → List Finding → List Factor
-factorsOf kind fs = factorOf kind (getD fs 0 nothing) ∷ factorOf kind (getD fs 1 nothing) ∷ factorOf kind (getD fs 2 nothing) ∷ []
+factorsOf kind fs = factorOf kind (countsAt kind fs 0) ∷ factorOf kind (countsAt kind fs 1) ∷ factorOf kind (countsAt kind fs 2) ∷ []
 
 unfoldable pub survivalsOf : ℕ → List Finding → List Survival
-survivalsOf kind fs = survivalOf kind (getD fs 0 nothing) ∷ survivalOf kind (getD fs 1 nothing) ∷ survivalOf kind (getD fs 2 nothing) ∷ []
+survivalsOf kind fs = survivalOf kind (countsAt kind fs 0) ∷ survivalOf kind (countsAt kind fs 1) ∷ survivalOf kind (countsAt kind fs 2) ∷ []

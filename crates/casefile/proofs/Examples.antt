@@ -4,6 +4,7 @@ use mathlib.Core.Path.{_≡_, refl}
 use mathlib.Core.Bool.{false}
 use mathlib.Core.List.{List, [], _∷_, _++_, replicate}
 use lib.IntN.{pos, negsuc}
+use lib.ListN.{drop}
 use Rattle.laws.specs.Lists.{tabulate}
 use Rattle.laws.specs.Bytes.{bytes}
 use Rattle.records.specs.declared.Hull.{Hull}
@@ -11,7 +12,7 @@ use Rattle.lines.specs.Lines.{lines}
 use Rattle.hexadecimal.specs.Hex.{digitOf, pairOf, pairs, digitsOnly, proper, badlyWritten, digit, hex, lineOf}
 use Rattle.fields.specs.Fields.{wordAt, signed, unsigned}
 use Rattle.casefile.specs.Record.{Row, Case}
-use Rattle.casefile.specs.Layout.{frameLength, placeOf, hullOf, headOf, findingOf, resultsOf, hullBytes, findingBytes, rowBytes, endBytes}
+use Rattle.casefile.specs.Layout.{frameLength, placeOf, hullOf, headOf, findingOf, setOf, resultsOf, hullBytes, findingBytes, rowBytes, endBytes}
 use Rattle.casefile.specs.Limits.{between, sizesFit, risingTo, zonesFit, headFits, openingFits, findingFits, findingsFit, rowFits}
 use Rattle.casefile.specs.Order.{atTop, closesGroup, sameGroup, sameLayer, earlierGroup, outOfOrder, leavesOpen, endsOpen}
 use Rattle.casefile.specs.Table.{firstHolds, wrongHullFrame, wrongFrame, wrongZones, hullChecks, rowChecks, endChecks, lineChecks}
@@ -48,7 +49,7 @@ printed = hullLine ++ firstRow ++ secondRow ++ thirdRow ++ endLine
 
 -- the definitions, open to computation
 read : List ℕ → Reading
-unfolding reading readFrom lines firstHolds hullChecks rowChecks endChecks lineChecks wrongHullFrame wrongFrame wrongZones between sizesFit risingTo zonesFit headFits openingFits findingFits findingsFit rowFits atTop closesGroup sameGroup sameLayer earlierGroup outOfOrder leavesOpen endsOpen frameLength placeOf hullOf headOf findingOf resultsOf digitOf pairOf pairs digitsOnly proper badlyWritten wordAt signed unsigned tabulate bytes hullBytes findingBytes rowBytes endBytes digit hex lineOf rowLines encode
+unfolding reading readFrom lines firstHolds hullChecks rowChecks endChecks lineChecks wrongHullFrame wrongFrame wrongZones between sizesFit risingTo zonesFit headFits openingFits findingFits findingsFit rowFits atTop closesGroup sameGroup sameLayer earlierGroup outOfOrder leavesOpen endsOpen frameLength placeOf hullOf headOf findingOf setOf resultsOf digitOf pairOf pairs digitsOnly proper badlyWritten wordAt signed unsigned tabulate bytes hullBytes findingBytes rowBytes endBytes digit hex lineOf rowLines encode
 read f = reading f
 
 -- 16 m broad, two zones
@@ -106,14 +107,55 @@ deepest-partial-light : reading (hullLine ++ unlikeRow ++ endOfOne) ≡ accepted
 unfolding read
 deepest-partial-light = refl
 
--- ---- rows as they are kept: 31 bytes each, whatever stands after a shorter frame
+-- and a second set's after them
+
+-- 05010103204844000100020003ffff00040005000675300007000800098ad0000a000b000cfff3000e000f00100011001200130014ffeb
+abbrev secondSetRow : List ℕ
+secondSetRow = 48 ∷ 53 ∷ 48 ∷ 49 ∷ 48 ∷ 49 ∷ 48 ∷ 51 ∷ 50 ∷ 48 ∷ 52 ∷ 56 ∷ 52 ∷ 52 ∷ 48 ∷ 48 ∷ 48 ∷ 49 ∷ 48 ∷ 48 ∷ 48 ∷ 50 ∷ 48 ∷ 48 ∷ 48 ∷ 51 ∷ 102 ∷ 102 ∷ 102 ∷ 102 ∷ 48 ∷ 48 ∷ 48 ∷ 52 ∷ 48 ∷ 48 ∷ 48 ∷ 53 ∷ 48 ∷ 48 ∷ 48 ∷ 54 ∷ 55 ∷ 53 ∷ 51 ∷ 48 ∷ 48 ∷ 48 ∷ 48 ∷ 55 ∷ 48 ∷ 48 ∷ 48 ∷ 56 ∷ 48 ∷ 48 ∷ 48 ∷ 57 ∷ 56 ∷ 97 ∷ 100 ∷ 48 ∷ 48 ∷ 48 ∷ 48 ∷ 97 ∷ 48 ∷ 48 ∷ 48 ∷ 98 ∷ 48 ∷ 48 ∷ 48 ∷ 99 ∷ 102 ∷ 102 ∷ 102 ∷ 51 ∷ 48 ∷ 48 ∷ 48 ∷ 101 ∷ 48 ∷ 48 ∷ 48 ∷ 102 ∷ 48 ∷ 48 ∷ 49 ∷ 48 ∷ 48 ∷ 48 ∷ 49 ∷ 49 ∷ 48 ∷ 48 ∷ 49 ∷ 50 ∷ 48 ∷ 48 ∷ 49 ∷ 51 ∷ 48 ∷ 48 ∷ 49 ∷ 52 ∷ 102 ∷ 102 ∷ 101 ∷ 98 ∷ 10 ∷ []
+
+abbrev unlikeSets : Row
+unlikeSets =
+    record {
+      head = record { kind = 5; first = 1; count = 1; depth = 800; height = 18500 };
+      results =
+          found 1 2 3 (negsuc 0)
+          ∷ found 4 5 6 (pos 30000)
+          ∷ found 7 8 9 (negsuc 29999)
+          ∷ found 10 11 12 (negsuc 12)
+          ∷ found 14 15 16 (pos 17)
+          ∷ found 18 19 20 (negsuc 20)
+          ∷ [];
+    }
+
+second-set-after-the-first : reading (hullLine ++ secondSetRow ++ endOfOne) ≡ accepted (case printedHull (unlikeSets ∷ []))
+unfolding read
+second-set-after-the-first = refl
+
+second-set-values : valuesFrom begin (lines (hullLine ++ secondSetRow ++ endOfOne))
+    ≡ (1 ∷ 9900 ∷ 1600 ∷ 6000 ∷ 4000 ∷ 2 ∷ 1500 ∷ [])
+    ∷ (5 ∷ 1 ∷ 1 ∷ 800 ∷ 18500 ∷ 1 ∷ 2 ∷ 3 ∷ 65535 ∷ 4 ∷ 5 ∷ 6 ∷ 30000 ∷ 7 ∷ 8 ∷ 9 ∷ 35536 ∷ 10 ∷ 11 ∷ 12 ∷ 65523 ∷ 14 ∷ 15 ∷ 16 ∷ 17 ∷ 18 ∷ 19 ∷ 20 ∷ 65515 ∷ [])
+    ∷ (15 ∷ 1 ∷ [])
+    ∷ []
+unfolding read firstJudged frameOf judged valuesFrom
+second-set-values = refl
+
+-- a first set alone is no row of kind 05, and two sets are none of kind 02
+second-set-missing : reading (hullLine ++ lineOf (5 ∷ drop 1 (rowBytes unlikeResults)) ++ endOfOne) ≡ refused 3 2
+unfolding read
+second-set-missing = refl
+
+second-set-too-many : reading (hullLine ++ lineOf (2 ∷ drop 1 (rowBytes unlikeSets)) ++ endOfOne) ≡ refused 3 2
+unfolding read
+second-set-too-many = refl
+
+-- ---- rows as they are kept: 55 bytes each, whatever stands after a shorter frame
 
 abbrev keptFrames : List ℕ
-keptFrames = rowBytes unlikeResults ++ rowBytes (row 3 1 2 800 18500 (survival 0)) ++ replicate 18 9
+keptFrames = rowBytes unlikeSets ++ rowBytes unlikeResults ++ replicate 24 9 ++ rowBytes (row 3 1 2 800 18500 (survival 0)) ++ replicate 42 9
 
-two-kept : keptRows 2 keptFrames 0 ≡ unlikeResults ∷ row 3 1 2 800 18500 (survival 0) ∷ []
+three-kept : keptRows 3 keptFrames 0 ≡ unlikeSets ∷ unlikeResults ∷ row 3 1 2 800 18500 (survival 0) ∷ []
 unfolding read keptRows keptRow
-two-kept = refl
+three-kept = refl
 
 -- ---- 10: no end frame, and whatever follows it
 
@@ -216,6 +258,10 @@ range-too-great = refl
 opening-too-low : rowsOf (row 2 1 1 800 18500 (found 30 400 0 (negsuc 30000)) ∷ []) ≡ refused 7 2
 unfolding read
 opening-too-low = refl
+
+second-heel-too-great : rowsOf (record { head = unlikeSets .head; results = found 0 0 0 (pos 0) ∷ found 0 0 0 (pos 0) ∷ found 0 0 0 (pos 0) ∷ found 0 0 0 (pos 0) ∷ found 0 0 0 (pos 0) ∷ found 0 0 9001 (pos 0) ∷ [] } ∷ []) ≡ refused 7 2
+unfolding read
+second-heel-too-great = refl
 
 earlier-group : rowsOf (row 3 2 1 800 18500 (survival 0) ∷ row 3 1 2 800 18500 (survival 0) ∷ []) ≡ refused 8 3
 unfolding read

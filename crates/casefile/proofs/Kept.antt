@@ -17,10 +17,11 @@ use Rattle.hexadecimal.specs.Hex.{pairs, bytesOf, proper}
 use Rattle.hexadecimal.proofs.Pairs.{proper-parts}
 use Rattle.hexadecimal.proofs.Decode.{bytes-pairs}
 use Rattle.casefile.specs.declared.Progress.{Progress}
-use Rattle.casefile.specs.Layout.{kindOf, isRow, frameLength, headOf, findingOf, resultsOf, rowOf}
+use Rattle.casefile.specs.Layout.{kindOf, isRow, frameLength, headOf, findingOf, setOf, resultsOf, rowOf}
 use Rattle.casefile.specs.Kept.{placeWidth, keptRow, keptRows}
 use Rattle.casefile.proofs.Checks.{LinePasses}
-use Rattle.casefile.proofs.Passing.{well-written, fits, of-row-kind}
+use Rattle.casefile.proofs.RowKinds.{RowKind, one-set, survivals, two-sets, of-row-kind}
+use Rattle.casefile.proofs.Passing.{well-written, fits}
 
 pub length-kept : (k : ℕ) (kept : List ℕ) (i : ℕ) → length (keptRows k kept i) ≡ k
 unfolding keptRows
@@ -55,12 +56,16 @@ kept-next (suc k) kept i =
 
 module _ (x : ℕ → ℕ) (rest : List ℕ) where
   found-in-front : x 0 ≡ 2 → rowOf (tabulate x 31 ++ rest) ≡ rowOf (tabulate x 31)
-  unfolding tabulate headOf resultsOf findingOf wordAt
+  unfolding tabulate headOf setOf resultsOf findingOf wordAt
   found-in-front e = rw e refl
 
   given-in-front : x 0 ≡ 3 → rowOf (tabulate x 13 ++ rest) ≡ rowOf (tabulate x 13)
-  unfolding tabulate headOf resultsOf findingOf wordAt
+  unfolding tabulate headOf setOf resultsOf findingOf wordAt
   given-in-front e = rw e refl
+
+  second-in-front : x 0 ≡ 5 → rowOf (tabulate x 55 ++ rest) ≡ rowOf (tabulate x 55)
+  unfolding tabulate headOf setOf resultsOf findingOf wordAt
+  second-in-front e = rw e refl
 
 row-in-front : (bs rest : List ℕ) → isRow (kindOf bs) ≡ true → length bs ≡ frameLength (kindOf bs) → rowOf (bs ++ rest) ≡ rowOf bs
 unfolding frameLength
@@ -69,18 +74,20 @@ row-in-front bs rest k n = by (of-row-kind (kindOf bs) k)
     as-table : (m : ℕ) → length bs ≡ m → tabulate (λ i. getD bs i 0) m ≡ bs
     as-table m e = rw (← e) (tabulate-places 0 bs)
 
-    by : (kindOf bs ≡ 2) ⊎ (kindOf bs ≡ 3) → rowOf (bs ++ rest) ≡ rowOf bs
-    by (inl e) = rw (as-table 31 (rw e at n)) at (found-in-front (λ i. getD bs i 0) rest e)
-    by (inr e) = rw (as-table 13 (rw e at n)) at (given-in-front (λ i. getD bs i 0) rest e)
+    by : RowKind (kindOf bs) → rowOf (bs ++ rest) ≡ rowOf bs
+    by (one-set e) = rw (as-table 31 (rw e at n)) at (found-in-front (λ i. getD bs i 0) rest e)
+    by (survivals e) = rw (as-table 13 (rw e at n)) at (given-in-front (λ i. getD bs i 0) rest e)
+    by (two-sets e) = rw (as-table 55 (rw e at n)) at (second-in-front (λ i. getD bs i 0) rest e)
 
 pub longest-frame : (k : ℕ) → frameLength k ≤ placeWidth
 unfolding frameLength
-longest-frame k = by (eqb k 2) (eqb k 3)
+longest-frame k = by (eqb k 2) (eqb k 3) (eqb k 5)
   where
-    by : (t u : Bool) → cond t 31 (cond u 13 3) ≤ placeWidth
-    by true u = omega arith
-    by false true = omega arith
-    by false false = omega arith
+    by : (t u v : Bool) → cond t 31 (cond u 13 (cond v 55 3)) ≤ placeWidth
+    by true u v = omega arith
+    by false true v = omega arith
+    by false false true = omega arith
+    by false false false = omega arith
 
 -- ---- a line's bytes written to place i of a buffer that was
 

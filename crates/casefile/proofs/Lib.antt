@@ -6,6 +6,7 @@ pub mod LineJudging
 pub mod Limits
 pub mod Order
 pub mod Words
+pub mod RowKinds
 pub mod RowLayout
 pub mod HullLayout
 pub mod Passing

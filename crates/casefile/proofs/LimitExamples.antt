@@ -82,6 +82,11 @@ placed a n b H = rowFits twoZones (row 2 a n b H (found 0 0 0 (pos 0)))
 abbrev resulting : Finding → Bool
 resulting r = rowFits twoZones (row 2 1 1 800 18500 r)
 
+-- in a second set, after a first one that fits
+abbrev seconding : Finding → Finding → Finding → Bool
+seconding r s t =
+    rowFits twoZones (record { head = record { kind = 5; first = 1; count = 1; depth = 800; height = 18500 }; results = found 0 0 0 (pos 0) ∷ found 0 0 0 (pos 0) ∷ found 0 0 0 (pos 0) ∷ r ∷ s ∷ t ∷ [] })
+
 pub record Rows : Type 0 where
   pub first : Between 1 (λ a. placed a 1 800 18500) 1 2
   pub count : Between 1 (λ n. placed 1 n 800 18500) 1 2
@@ -94,6 +99,10 @@ pub record Rows : Type 0 where
   pub opening-above : UpTo (λ o. resulting (found 0 0 0 (pos o))) 30000
   pub opening-below : (resulting (found 0 0 0 (negsuc 0)) ≡ true) × (resulting (found 0 0 0 (negsuc 29999)) ≡ true) × (resulting (found 0 0 0 (negsuc 30000)) ≡ false)
   pub given : UpTo (λ s. resulting (survival s)) 10000
+  pub second : seconding (found 5000 9000 9000 (pos 30000)) (found 5000 9000 9000 (negsuc 29999)) (found 0 0 0 (pos 0)) ≡ true
+  pub second-lever : seconding (found 5001 0 0 (pos 0)) (found 0 0 0 (pos 0)) (found 0 0 0 (pos 0)) ≡ false
+  pub second-range : seconding (found 0 0 0 (pos 0)) (found 0 9001 0 (pos 0)) (found 0 0 0 (pos 0)) ≡ false
+  pub second-opening : seconding (found 0 0 0 (pos 0)) (found 0 0 0 (pos 0)) (found 0 0 0 (negsuc 30000)) ≡ false
 
 pub rows : Rows
 unfolding between headFits openingFits findingFits findingsFit rowFits
@@ -109,6 +118,10 @@ rows = record {
   opening-above = (refl, refl, refl);
   opening-below = (refl, refl, refl);
   given = (refl, refl, refl);
+  second = refl;
+  second-lever = refl;
+  second-range = refl;
+  second-opening = refl;
 }
 
 -- ---- the file: how many bytes, how many rows, and the end's count of them
@@ -123,8 +136,8 @@ abbrev atEnd : ℕ → ℕ
 atEnd count = firstHolds (endChecks twoZones (after 3) count)
 
 pub record Files : Type 0 where
-  pub bytes : (f : List ℕ) → length f ≡ 32768 → reading f ≡ readFrom begin 1 (lines f)
-  pub byte-more : (f : List ℕ) → length f ≡ 32769 → reading f ≡ refused 1 0
+  pub bytes : (f : List ℕ) → length f ≡ 65536 → reading f ≡ readFrom begin 1 (lines f)
+  pub byte-more : (f : List ℕ) → length f ≡ 65537 → reading f ≡ refused 1 0
   pub rows : (atRow 499 ≡ 0) × (atRow 500 ≡ 6)
   pub counted : (atEnd 2 ≡ 6) × (atEnd 3 ≡ 0) × (atEnd 4 ≡ 6)
 

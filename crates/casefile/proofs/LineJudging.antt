@@ -5,6 +5,7 @@ use mathlib.Core.Bool.{Bool, true, false, cond}
 use mathlib.Core.List.{List, [], _∷_}
 use lib.Dec.{eqb}
 use lib.ListN.{drop}
+use lib.Seq.{drop-drop}
 use borrow.Author.Tests.{eqb-true}
 use Rattle.laws.specs.Bytes.{Octets}
 use Rattle.laws.specs.Lists.{tabulate}
@@ -18,13 +19,14 @@ use Rattle.fields.proofs.Fields.{octets-drop, word-below, word-drop}
 use Rattle.fields.proofs.Signed.{unsigned-signed}
 use Rattle.casefile.specs.declared.Frame.{Frame}
 use Rattle.casefile.specs.declared.Progress.{Progress}
-use Rattle.casefile.specs.Layout.{kindOf, fieldsOf, isRow, hullOf, headOf, findingOf, resultsOf, rowOf, countOf, resultNumbers}
+use Rattle.casefile.specs.Layout.{kindOf, fieldsOf, isRow, hullOf, headOf, findingOf, setOf, resultsOf, rowOf, countOf, resultNumbers}
 use Rattle.casefile.specs.Table.{firstHolds, hullChecks, lineChecks}
 use Rattle.casefile.specs.Reading.{Stage, begin, inside, checks}
 use Rattle.casefile.specs.Answer.{numberOf, valuesOf, givenFirst, refusedFirst, unlessRefused, firstJudged, frameOf, judged, SaysTheLine, frameAt}
 use Rattle.casefile.proofs.Checks.{HullPasses, LinePasses, hull-passes, passes-first}
 use Rattle.casefile.proofs.Limits.{zones-are}
 use Rattle.casefile.proofs.HullLayout.{inner-words}
+use Rattle.casefile.proofs.RowKinds.{RowKind, one-set, survivals, two-sets, of-row-kind}
 use Rattle.casefile.proofs.Passing.{hull-frame, hull-zones, fits}
 
 -- ---- line 1
@@ -83,17 +85,19 @@ module _ (h : Hull) (p : Progress) (l : Line) where
 -- ---- what the answer says
 
 -- the results' numbers are those that stand after a, n, b and H
-results-read : (kind : ℕ) (f : List ℕ) → Octets f → resultNumbers kind (resultsOf kind f) ≡ tabulate (λ i. wordAt f (6 + 2 * i)) (cond (eqb kind 2) 12 3)
-unfolding resultsOf findingOf tabulate
-results-read kind f o = by (eqb kind 2) refl
+results-read : (kind : ℕ) (f : List ℕ) → Octets f → RowKind kind → resultNumbers kind (resultsOf kind f) ≡ tabulate (λ i. wordAt f (6 + 2 * i)) (cond (eqb kind 2) 12 (cond (eqb kind 5) 24 3))
+unfolding setOf resultsOf findingOf tabulate
+results-read kind f o = by
   where
     again : (k : ℕ) → unsigned (signedAt (drop k f) 6) ≡ wordAt (drop k f) 6
     again k = unsigned-signed (wordAt (drop k f) 6) (word-below (drop k f) 6 (octets-drop k f o))
 
-    by : (t : Bool) → eqb kind 2 ≡ t → resultNumbers kind (resultsOf kind f) ≡ tabulate (λ i. wordAt f (6 + 2 * i)) (cond (eqb kind 2) 12 3)
-    by true t =
+    by : RowKind kind → resultNumbers kind (resultsOf kind f) ≡ tabulate (λ i. wordAt f (6 + 2 * i)) (cond (eqb kind 2) 12 (cond (eqb kind 5) 24 3))
+    by (one-set t) =
         rw (
           t,
+          drop-drop 8 6 f,
+          drop-drop 16 6 f,
           again 6,
           again 14,
           again 22,
@@ -110,7 +114,45 @@ results-read kind f o = by (eqb kind 2) refl
           word-drop 22 4 f,
           word-drop 22 6 f,
         ) refl
-    by false t = rw (t, word-drop 6 0 f, word-drop 8 0 f, word-drop 10 0 f) refl
+    by (survivals t) = rw (t, drop-drop 2 6 f, drop-drop 4 6 f, word-drop 6 0 f, word-drop 8 0 f, word-drop 10 0 f) refl
+    by (two-sets t) =
+        rw (
+          t,
+          drop-drop 8 6 f,
+          drop-drop 16 6 f,
+          drop-drop 8 30 f,
+          drop-drop 16 30 f,
+          again 6,
+          again 14,
+          again 22,
+          again 30,
+          again 38,
+          again 46,
+          word-drop 6 0 f,
+          word-drop 6 2 f,
+          word-drop 6 4 f,
+          word-drop 6 6 f,
+          word-drop 14 0 f,
+          word-drop 14 2 f,
+          word-drop 14 4 f,
+          word-drop 14 6 f,
+          word-drop 22 0 f,
+          word-drop 22 2 f,
+          word-drop 22 4 f,
+          word-drop 22 6 f,
+          word-drop 30 0 f,
+          word-drop 30 2 f,
+          word-drop 30 4 f,
+          word-drop 30 6 f,
+          word-drop 38 0 f,
+          word-drop 38 2 f,
+          word-drop 38 4 f,
+          word-drop 38 6 f,
+          word-drop 46 0 f,
+          word-drop 46 2 f,
+          word-drop 46 4 f,
+          word-drop 46 6 f,
+        ) refl
 
 number-case : (k : ℕ) (f : Frame) (t : Bool) → eqb k 0 ≡ t → numberOf f ≡ 0 → numberOf (cond t f (Frame.Wrong k)) ≡ k
 number-case k f true e z = z ∙ sym (eqb-true k 0 e)
@@ -135,7 +177,7 @@ says-the-line = record {
   row = λ h p l e k.
       let kind : ℕ = kindOf (pairs (l .text)) in
       let f : List ℕ = fieldsOf (pairs (l .text)) in
-      ap (valuesOf h (resultsOf kind f)) (row-judged h p l e k) ∙ ap (λ ns. kind ∷ byteAt f 0 ∷ byteAt f 1 ∷ wordAt f 2 ∷ wordAt f 4 ∷ ns) (results-read kind f (octets-drop 1 (pairs (l .text)) (pairs-octets (l .text))));
+      ap (valuesOf h (resultsOf kind f)) (row-judged h p l e k) ∙ ap (λ ns. kind ∷ byteAt f 0 ∷ byteAt f 1 ∷ wordAt f 2 ∷ wordAt f 4 ∷ ns) (results-read kind f (octets-drop 1 (pairs (l .text)) (pairs-octets (l .text))) (of-row-kind kind k));
   end = λ h p l e k. ap (valuesOf h []) (end-judged h p l e k) ∙ ap (_∷ wordAt (fieldsOf (pairs (l .text))) 0 ∷ []) (end-kind h p l e k);
 }
 

@@ -1,16 +1,17 @@
 -- A line that passes is the line of the record that it is read as, and that record is valid. Assumes nothing.
 use Prim.Native.Nat.{ℕ, _+_, _*_, _≤_}
 use mathlib.Core.Path.{_≡_, refl, sym, _∙_, ap}
-use mathlib.Core.Bool.{true, false, not, _||_}
-use mathlib.Core.List.{List, _∷_}
-use mathlib.Core.Logic.{_⊎_, inl, inr, ⊎-elim}
+use mathlib.Core.Bool.{Bool, true, false, cond, not, _||_}
+use mathlib.Core.List.{List, [], _∷_, _++_}
+use mathlib.Core.Logic.{inl, inr}
 use native.Mathlib.Omega.{arith}
 use lib.Dec.{ltb, eqb}
-use lib.ListN.{length, length-drop}
+use lib.ListN.{length, drop, length-drop}
 use lib.Seq.{drop-cons}
 use borrow.Author.Tests.{ltb-false, eqb-true, not-false}
 use Rattle.laws.specs.Bytes.{Octets}
-use Rattle.laws.proofs.Tests.{neither, one-holds, proved}
+use Rattle.laws.specs.Lists.{Every}
+use Rattle.laws.proofs.Tests.{neither, proved}
 use Rattle.records.specs.declared.Hull.{Hull}
 use Rattle.lines.specs.Lines.{Line}
 use Rattle.lines.proofs.Lines.{written}
@@ -18,12 +19,13 @@ use Rattle.hexadecimal.specs.Hex.{pairs, proper, badlyWritten, lineOf}
 use Rattle.fields.specs.Fields.{byteAt}
 use Rattle.hexadecimal.proofs.Pairs.{hex-pairs, pairs-octets}
 use Rattle.fields.proofs.Fields.{octets-drop}
-use Rattle.casefile.specs.Layout.{kindOf, fieldsOf, isHull, isRow, isEnd, frameLength, hullLength, shortestHull, hullOf, headOf, findingOf, resultsOf, rowOf, countOf, hullBytes, rowBytes, endBytes}
+use Rattle.casefile.specs.Layout.{kindOf, fieldsOf, isHull, isRow, isEnd, frameLength, hullLength, shortestHull, hullOf, headOf, findingOf, setOf, resultsOf, rowOf, countOf, hullBytes, rowBytes, endBytes}
 use Rattle.casefile.specs.Limits.{sizesFit, zonesFit, rowFits}
 use Rattle.casefile.specs.Table.{wrongHullFrame, wrongFrame, wrongZones}
 use Rattle.casefile.specs.Valid.{ValidHull, Formed, found, given, ValidRow}
 use Rattle.casefile.proofs.Checks.{HullPasses}
 use Rattle.casefile.proofs.Limits.{Zones, zones-are}
+use Rattle.casefile.proofs.RowKinds.{RowKind, one-set, survivals, two-sets, of-row-kind}
 use Rattle.casefile.proofs.RowLayout.{row-bytes-again, end-bytes-again}
 use Rattle.casefile.proofs.HullLayout.{placed, hull-bytes-again}
 
@@ -93,16 +95,24 @@ module _ (l : Line) (w : badlyWritten l ≡ false) where
 
 -- ---- a row that is read has its kind's fields alone
 
-finding-formed : (kind : ℕ) (f : List ℕ) → (kind ≡ 2) ⊎ (kind ≡ 3) → Formed kind (findingOf kind f)
+finding-formed : (kind : ℕ) (f : List ℕ) → RowKind kind → Formed kind (findingOf kind f)
 unfolding findingOf
-finding-formed kind f (inl k) = found k (rw k refl)
-finding-formed kind f (inr k) = given k (rw k refl) (rw k refl) (rw k refl) (rw k refl)
+finding-formed kind f (one-set k) = found (inl k) (rw k refl)
+finding-formed kind f (survivals k) = given k (rw k refl) (rw k refl) (rw k refl) (rw k refl)
+finding-formed kind f (two-sets k) = found (inr k) (rw k refl)
 
-pub of-row-kind : (kind : ℕ) → isRow kind ≡ true → (kind ≡ 2) ⊎ (kind ≡ 3)
-of-row-kind kind e = ⊎-elim (λ t. inl (eqb-true kind 2 t)) (λ t. inr (eqb-true kind 3 t)) (one-holds (eqb kind 2) (eqb kind 3) e)
-
+-- and as many as its kind has
 pub row-valid : (h : Hull) (bs : List ℕ) → isRow (kindOf bs) ≡ true → rowFits h (rowOf bs) ≡ true → ValidRow h (rowOf bs)
-unfolding headOf resultsOf
-row-valid h bs k e =
-    let formed : (f : List ℕ) → Formed (kindOf bs) (findingOf (kindOf bs) f) = λ f. finding-formed (kindOf bs) f (of-row-kind (kindOf bs) k) in
-    record { limits = proved (rowFits h (rowOf bs)) e; three = refl; formed = (formed _, (formed _, (formed _, tt))) }
+unfolding headOf setOf resultsOf
+row-valid h bs k e = record { limits = proved (rowFits h (rowOf bs)) e; results = counted (eqb (kindOf bs) 5); formed = all (eqb (kindOf bs) 5) }
+  where
+    formed : (f : List ℕ) → Formed (kindOf bs) (findingOf (kindOf bs) f)
+    formed f = finding-formed (kindOf bs) f (of-row-kind (kindOf bs) k)
+
+    counted : (t : Bool) → length (setOf (kindOf bs) (drop 6 (fieldsOf bs)) ++ cond t (setOf (kindOf bs) (drop 30 (fieldsOf bs))) []) ≡ cond t 6 3
+    counted true = refl
+    counted false = refl
+
+    all : (t : Bool) → Every (Formed (kindOf bs)) (setOf (kindOf bs) (drop 6 (fieldsOf bs)) ++ cond t (setOf (kindOf bs) (drop 30 (fieldsOf bs))) [])
+    all true = (formed _, (formed _, (formed _, (formed _, (formed _, (formed _, tt))))))
+    all false = (formed _, (formed _, (formed _, tt)))

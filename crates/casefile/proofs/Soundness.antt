@@ -26,7 +26,8 @@ use Rattle.casefile.specs.Valid.{ClosesGroup, Follows, ValidRow, Valid}
 use Rattle.casefile.proofs.Checks.{LinePasses, HullPasses, RowPasses, EndPasses, hull-passes, passes-first, line-of-row, line-of-end}
 use Rattle.casefile.proofs.Steps.{not-too-long, too-long, line-passes, line-refused}
 use Rattle.casefile.proofs.Order.{follows, end-closes}
-use Rattle.casefile.proofs.Passing.{of-row-kind, hull-valid, hull-line, row-line, end-line, row-valid}
+use Rattle.casefile.proofs.RowKinds.{RowKind, one-set, survivals, two-sets, of-row-kind}
+use Rattle.casefile.proofs.Passing.{hull-valid, hull-line, row-line, end-line, row-valid}
 use Rattle.casefile.proofs.Chain.{OrderedFrom, Some, ordered}
 
 -- ---- the answers apart
@@ -84,10 +85,11 @@ module _ (h : Hull) (p : Progress) (l : Line) (ls : List Line) (q : LinePasses p
   after-another true e o c = inl (eqb-true (p .last .kind) 0 e)
   after-another false e o c = inr (follows h (p .last) (row .head) (rw e refl) o c)
 
-  is-some : (kindOf bs ≡ 2) ⊎ (kindOf bs ≡ 3) → Some row
+  is-some : RowKind (kindOf bs) → Some row
   unfolding headOf
-  is-some (inl k) e = omega arith
-  is-some (inr k) e = omega arith
+  is-some (one-set k) e = omega arith
+  is-some (survivals k) e = omega arith
+  is-some (two-sets k) e = omega arith
 
   row-first : isRow (kindOf bs) ≡ true → RowPasses h p row → (d : Case) → Accounts h (withRow p row) ls d → Accounts h p (l ∷ ls) (record { hull = d .hull; rows = row ∷ d .rows })
   unfolding rowLines

@@ -17,7 +17,7 @@ use rowlines::readers::frame_length;
 mod ends; // the end
 mod row; // a row
 
-// A frame after the hull: 02 and 03 are rows, 0f the end.
+// A frame after the hull: 02, 03 and 05 are rows, 0f the end.
 fn judge_frame(frame: &[u8], h: Hull, p: Progress) -> Frame
     requires { ⌜ 0 < length (now frame) ⌝ }
     ensures { λ r. ⌜ r ≡ frameJudged h p (now (frame .entry)) ⌝ }
@@ -27,7 +27,7 @@ fn judge_frame(frame: &[u8], h: Hull, p: Progress) -> Frame
         return Frame::Wrong(3);
     }
     match kind {
-        2 | 3 => row::judge_row(kind, &frame[1..], h, p),
+        2 | 3 | 5 => row::judge_row(kind, &frame[1..], h, p),
         15 => ends::judge_end(&frame[1..], h, p),
         _ => Frame::Wrong(3),
     }

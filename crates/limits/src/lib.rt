@@ -3,7 +3,7 @@ ghost use mathlib.Core.Path.{_≡_};
 ghost use mathlib.Core.Bool.{_&&_};
 ghost use Prim.Native.Nat.{_+_, _-_, _%_, _≤_};
 ghost use lib.Dec.{leb, eqb};
-ghost use Rattle.casefile.specs.Limits.{between, sizesFit, risingTo, zonesFit, headFits, openingFits, findingFits, rowFits};
+ghost use Rattle.casefile.specs.Limits.{between, sizesFit, risingTo, zonesFit, headFits, openingFits, findingFits, findingsFit};
 use records::Finding;
 use records::Hull;
 use records::RowHead;
@@ -79,7 +79,8 @@ fn group_fits(first: u64, count: u64, zones: usize) -> bool
     count - 1 <= m - first
 }
 
-fn head_fits(h: Hull, r: RowHead) -> bool
+// Refusal 7 is given where this does not hold of a row's head, or the next of a set of its results.
+pub fn head_fits(h: Hull, r: RowHead) -> bool
     ensures { λ b. ⌜ b ≡ headFits h r ⌝ }
 {
     group_fits(r.first, r.count, h.zones)
@@ -103,12 +104,12 @@ fn finding_fits(r: Finding) -> bool
         & (r.given <= 10000)
 }
 
-// Refusal 7 is given where this does not hold.
-pub fn row_fits(h: Hull, head: RowHead, results: [Finding; 3]) -> bool
-    ensures { λ r. ⌜ r ≡ rowFits h (record { head = head; results = results }) ⌝ }
+// A set of results, one at each draught.
+pub fn set_fits(results: [Finding; 3]) -> bool
+    ensures { λ r. ⌜ r ≡ findingsFit results ⌝ }
 {
     let deepest = results[0];
     let partial = results[1];
     let light = results[2];
-    head_fits(h, head) & (finding_fits(deepest) & (finding_fits(partial) & finding_fits(light)))
+    finding_fits(deepest) & (finding_fits(partial) & finding_fits(light))
 }

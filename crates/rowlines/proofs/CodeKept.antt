@@ -12,14 +12,14 @@ use Rattle.laws.proofs.Lists.{drop-take, getD-part}
 use Rattle.records.specs.declared.Finding.{Finding}
 use Rattle.records.specs.declared.RowHead.{RowHead}
 use Rattle.fields.specs.Fields.{byteAt}
-use Rattle.casefile.specs.Layout.{kindOf, fieldsOf, setLength, headOf, resultsOf}
+use Rattle.casefile.specs.Layout.{kindOf, fieldsOf, resultLength, headOf, setOf, resultsOf}
 use Rattle.casefile.specs.Kept.{placeWidth, keptRow}
 
--- the kind byte, a, n, b and H and three results of any kind go into a place
-pub longest-fields : (kind : ℕ) → 7 + 3 * setLength kind ≤ placeWidth
-longest-fields kind = by (eqb kind 2)
+-- a set of results of any kind goes into a place, after the kind byte, a, n, b and H
+pub longest-set : (kind : ℕ) → 7 + 3 * resultLength kind ≤ placeWidth
+longest-set kind = by (eqb kind 3)
   where
-    by : (t : Bool) → 7 + 3 * cond t 8 2 ≤ placeWidth
+    by : (t : Bool) → 7 + 3 * cond t 2 8 ≤ placeWidth
     by true = omega arith
     by false = omega arith
 
@@ -44,6 +44,19 @@ module _ (kept : List ℕ) (i : ℕ) where
   unfolding keptRow
   head-kept head e = rw (e, fields-after, kind-first) refl
 
-  pub results-kept : (results : List Finding) → results ≡ resultsOf (byteAt kept (placeWidth * i)) part → results ≡ keptRow kept i .results
-  unfolding keptRow
-  results-kept results e = rw (e, fields-after, kind-first) refl
+  -- what stands from byte 1 + a of the place to its end
+  part-from : (a : ℕ) → 1 + a ≤ placeWidth → take (placeWidth * i + placeWidth - (placeWidth * i + (1 + a))) (drop (placeWidth * i + (1 + a)) kept) ≡ drop a (fieldsOf frame)
+  part-from a l =
+      let n : placeWidth * i + placeWidth - (placeWidth * i + (1 + a)) ≡ placeWidth - (1 + a) = omega arith in
+      rw (n, drop-drop a 1 frame, drop-take (1 + a) placeWidth (drop (placeWidth * i) kept), drop-drop (1 + a) (placeWidth * i) kept) refl
+
+  -- the sets of the results, in turn
+  pub first-kept : (kind : ℕ) (rs : List Finding) → kind ≡ keptRow kept i .head .kind →
+      rs ≡ setOf kind (take (placeWidth * i + placeWidth - (placeWidth * i + 7)) (drop (placeWidth * i + 7) kept)) → rs ≡ take 3 (keptRow kept i .results)
+  unfolding keptRow headOf resultsOf setOf
+  first-kept kind rs k e = rw (e, k, part-from 6 (omega arith)) refl
+
+  pub second-kept : (rs : List Finding) → keptRow kept i .head .kind ≡ 5 →
+      rs ≡ setOf 5 (take (placeWidth * i + placeWidth - (placeWidth * i + 31)) (drop (placeWidth * i + 31) kept)) → rs ≡ drop 3 (keptRow kept i .results)
+  unfolding keptRow headOf resultsOf setOf
+  second-kept rs k e = rw (e, k, part-from 30 (omega arith)) refl

@@ -1,7 +1,7 @@
 // A kept row's records: the rows' frames stand one after the other in a buffer, each in the front of a place of its own.
 ghost use mathlib.Core.Path.{_≡_};
 ghost use Prim.Native.Nat.{_+_, _*_, _≤_};
-ghost use lib.ListN.{length};
+ghost use lib.ListN.{length, take, drop};
 ghost use Rattle.casefile.specs.Kept.{placeWidth, keptRow};
 use super::readers;
 use casefile::PLACE_WIDTH;
@@ -20,14 +20,24 @@ pub fn head_at(kept: &[u8], i: usize) -> RowHead
     readers::head(kind, &kept[after..next])
 }
 
-// Its three results.
-pub fn results_at(kept: &[u8], i: usize) -> [Finding; 3]
-    requires { ⌜ placeWidth * i + placeWidth ≤ length (now kept) ⌝ }
-    ensures { λ r. ⌜ r ≡ keptRow (now (kept .entry)) i .results ⌝ }
+// Its first set of results, of a row of that kind.
+pub fn first_at(kept: &[u8], i: usize, kind: u64) -> [Finding; 3]
+    requires { ⌜ (placeWidth * i + placeWidth ≤ length (now kept)) × (kind ≡ keptRow (now kept) i .head .kind) ⌝ }
+    ensures { λ r. ⌜ r ≡ take 3 (keptRow (now (kept .entry)) i .results) ⌝ }
 {
     let place = PLACE_WIDTH * i;
-    let after = place + 1;
+    let first = place + 7;
     let next = place + PLACE_WIDTH;
-    let kind = kept[place] as u64;
-    readers::results(kind, &kept[after..next])
+    readers::set(kind, &kept[first..next])
+}
+
+// The second set of a row of kind 05.
+pub fn second_at(kept: &[u8], i: usize) -> [Finding; 3]
+    requires { ⌜ (placeWidth * i + placeWidth ≤ length (now kept)) × (keptRow (now kept) i .head .kind ≡ 5) ⌝ }
+    ensures { λ r. ⌜ r ≡ drop 3 (keptRow (now (kept .entry)) i .results) ⌝ }
+{
+    let place = PLACE_WIDTH * i;
+    let second = place + 31;
+    let next = place + PLACE_WIDTH;
+    readers::set(5, &kept[second..next])
 }

@@ -2,7 +2,7 @@
 ghost use mathlib.Core.Path.{_≡_};
 ghost use Prim.Native.Nat.{_+_, _*_, _≤_};
 ghost use lib.ListN.{length};
-ghost use Rattle.casefile.specs.Layout.{frameLength, headOf, setLength, findingOf, resultsOf};
+ghost use Rattle.casefile.specs.Layout.{frameLength, headOf, resultLength, findingOf, setOf};
 use records::Finding;
 use records::RowHead;
 
@@ -21,47 +21,46 @@ pub fn head(kind: u64, f: &[u8]) -> RowHead
 
 // One draught's result, read from where it starts.
 fn finding(kind: u64, f: &[u8]) -> Finding
-    requires { ⌜ setLength kind ≤ length (now f) ⌝ }
+    requires { ⌜ resultLength kind ≤ length (now f) ⌝ }
     ensures { λ r. ⌜ r ≡ findingOf kind (now (f .entry)) ⌝ }
 {
-    if kind == 2 {
+    if kind == 3 {
         return Finding {
-            lever: fields::word_in(f, 0),
-            range: fields::word_in(f, 2),
-            heel: fields::word_in(f, 4),
-            opening: fields::signed_in(f, 6),
-            given: 0,
+            lever: 0,
+            range: 0,
+            heel: 0,
+            opening: 0,
+            given: fields::word_in(f, 0),
         };
     }
     Finding {
-        lever: 0,
-        range: 0,
-        heel: 0,
-        opening: 0,
-        given: fields::word_in(f, 0),
+        lever: fields::word_in(f, 0),
+        range: fields::word_in(f, 2),
+        heel: fields::word_in(f, 4),
+        opening: fields::signed_in(f, 6),
+        given: 0,
     }
 }
 
 // How many bytes a draught's result has.
-fn set_length(kind: u64) -> usize
-    ensures { λ r. ⌜ r ≡ setLength kind ⌝ }
+fn result_length(kind: u64) -> usize
+    ensures { λ r. ⌜ r ≡ resultLength kind ⌝ }
 {
-    if kind == 2 {
-        return 8;
+    if kind == 3 {
+        return 2;
     }
-    2
+    8
 }
 
-// The three draughts' results, in the order deepest, partial, light.
-pub fn results(kind: u64, f: &[u8]) -> [Finding; 3]
-    requires { ⌜ 6 + 3 * setLength kind ≤ length (now f) ⌝ }
-    ensures { λ r. ⌜ r ≡ resultsOf kind (now (f .entry)) ⌝ }
+// A set of results, one at each draught, in the order deepest, partial, light, read from where it starts.
+pub fn set(kind: u64, f: &[u8]) -> [Finding; 3]
+    requires { ⌜ 3 * resultLength kind ≤ length (now f) ⌝ }
+    ensures { λ r. ⌜ r ≡ setOf kind (now (f .entry)) ⌝ }
 {
-    let set = set_length(kind);
-    let partial = 6 + set;
-    let light = 6 + 2 * set;
+    let partial = result_length(kind);
+    let light = 2 * partial;
     [
-        finding(kind, &f[6..]),
+        finding(kind, f),
         finding(kind, &f[partial..]),
         finding(kind, &f[light..]),
     ]
@@ -74,6 +73,7 @@ pub fn frame_length(kind: u64) -> usize
     match kind {
         2 => 31,
         3 => 13,
+        5 => 55,
         _ => 3,
     }
 }

@@ -1,0 +1,60 @@
+-- A row's kind, case by case: 02 has one set of results, 03 given survivals, 05 two sets. Assumes nothing.
+use Prim.Native.Nat.{ℕ, _+_, _*_, _<_, _≤_}
+use mathlib.Core.Path.{_≡_, refl}
+use mathlib.Core.Bool.{Bool, true, false, cond, _||_}
+use mathlib.Core.List.{List, [], _∷_}
+use mathlib.Core.Logic.{_⊎_, inl, inr, ⊎-elim}
+use native.Mathlib.Omega.{arith}
+use lib.Dec.{eqb}
+use lib.ListN.{length}
+use borrow.Author.Tests.{eqb-true}
+use Rattle.laws.specs.Lists.{Every}
+use Rattle.laws.proofs.Tests.{one-holds}
+use Rattle.records.specs.declared.Finding.{Finding}
+use Rattle.casefile.specs.Layout.{isRow, frameLength, resultLength, resultCount}
+use Rattle.casefile.specs.Valid.{Formed, found, given}
+
+pub data RowKind (kind : ℕ) : Type 0 where
+  one-set : kind ≡ 2 → RowKind kind
+  survivals : kind ≡ 3 → RowKind kind
+  two-sets : kind ≡ 5 → RowKind kind
+
+pub of-row-kind : (kind : ℕ) → isRow kind ≡ true → RowKind kind
+of-row-kind kind e =
+    ⊎-elim (λ t. ⊎-elim (λ u. one-set (eqb-true kind 2 u)) (λ u. survivals (eqb-true kind 3 u)) (one-holds (eqb kind 2) (eqb kind 3) t)) (λ t. two-sets (eqb-true kind 5 t))
+    (one-holds (eqb kind 2 || eqb kind 3) (eqb kind 5) e)
+
+pub is-row : {kind : ℕ} → RowKind kind → isRow kind ≡ true
+is-row (one-set k) = rw k refl
+is-row (survivals k) = rw k refl
+is-row (two-sets k) = rw k refl
+
+pub small-kind : {kind : ℕ} → RowKind kind → kind < 256
+small-kind (one-set k) = omega arith
+small-kind (survivals k) = omega arith
+small-kind (two-sets k) = omega arith
+
+-- a row's frame: kind, a, n, b and H, and the results
+pub row-bytes-count : {kind : ℕ} → RowKind kind → frameLength kind ≡ 7 + resultCount kind * resultLength kind
+unfolding frameLength
+row-bytes-count (one-set k) = rw k refl
+row-bytes-count (survivals k) = rw k refl
+row-bytes-count (two-sets k) = rw k refl
+
+-- a row with results has the kind that they are formed by
+formed-one : {kind : ℕ} {r : Finding} → Formed kind r → RowKind kind
+formed-one (found (inl k) g) = one-set k
+formed-one (found (inr k) g) = two-sets k
+formed-one (given k a b c d) = survivals k
+
+pub formed-kind : {kind : ℕ} (rs : List Finding) → 0 < length rs → Every (Formed kind) rs → RowKind kind
+formed-kind [] l f = absurd (omega arith)
+formed-kind (r ∷ rs) l (f, fs) = formed-one f
+
+-- there are results
+pub some-results : (kind : ℕ) → 0 < resultCount kind
+some-results kind = by (eqb kind 5)
+  where
+    by : (t : Bool) → 0 < cond t 6 3
+    by true = omega arith
+    by false = omega arith

@@ -9,6 +9,7 @@ use lib.Dec.{eqb}
 use lib.ListN.{length}
 use borrow.Author.Tests.{eqb-true}
 use Rattle.laws.specs.Lists.{Every}
+use Rattle.laws.proofs.Choice.{split}
 use Rattle.laws.proofs.Tests.{one-holds}
 use Rattle.records.specs.declared.Finding.{Finding}
 use Rattle.casefile.specs.Layout.{isRow, frameLength, resultLength, resultCount}
@@ -23,6 +24,9 @@ pub of-row-kind : (kind : ℕ) → isRow kind ≡ true → RowKind kind
 of-row-kind kind e =
     ⊎-elim (λ t. ⊎-elim (λ u. one-set (eqb-true kind 2 u)) (λ u. survivals (eqb-true kind 3 u)) (one-holds (eqb kind 2) (eqb kind 3) t)) (λ t. two-sets (eqb-true kind 5 t))
     (one-holds (eqb kind 2 || eqb kind 3) (eqb kind 5) e)
+
+pub two-or-three : (kind : ℕ) → 2 ≤ kind → kind < 4 → RowKind kind
+two-or-three kind a b = split kind 2 (λ e. one-set (omega arith)) (λ e. survivals (omega arith))
 
 pub is-row : {kind : ℕ} → RowKind kind → isRow kind ≡ true
 is-row (one-set k) = rw k refl

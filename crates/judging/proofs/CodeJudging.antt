@@ -1,10 +1,11 @@
 -- A line's judging, step by step as the code goes: a row, the end, a frame, a line. Assumes nothing.
-use Prim.Native.Nat.{ℕ, _≤_, _<_}
-use mathlib.Core.Path.{_≡_, refl, _∙_}
-use mathlib.Core.Bool.{Bool, true, false, cond, not, or-true}
-use mathlib.Core.List.{List, _∷_}
+use Prim.Native.Nat.{ℕ, _+_, _-_, _*_, _≤_, _<_}
+use mathlib.Core.Path.{_≡_, refl, sym, _∙_}
+use mathlib.Core.Bool.{Bool, true, false, cond, not, _&&_, or-true, and-assoc}
+use mathlib.Core.List.{List, [], _∷_, _++_, append-nil}
 use native.Mathlib.Omega.{arith}
-use lib.ListN.{length}
+use lib.Dec.{eqb}
+use lib.ListN.{length, take, drop}
 use borrow.Author.Tests.{le-leb, lt-leb, eq-eqb, ne-eqb}
 use Rattle.laws.proofs.Lists.{rest-of}
 use Rattle.records.specs.declared.Finding.{Finding}
@@ -19,37 +20,67 @@ use Rattle.fields.specs.Fields.{wordAt}
 use Rattle.casefile.specs.declared.Frame.{Frame}
 use Rattle.casefile.specs.declared.Progress.{Progress}
 use Rattle.casefile.specs.Record.{Row}
-use Rattle.casefile.specs.Layout.{kindOf, isRow, frameLength, headOf, resultsOf, rowOf, countOf}
-use Rattle.casefile.specs.Limits.{rowFits}
+use Rattle.casefile.specs.Layout.{kindOf, isRow, frameLength, resultLength, resultCount, headOf, setOf, resultsOf, rowOf, countOf}
+use Rattle.casefile.specs.Limits.{headFits, findingFits, findingsFit, rowFits}
 use Rattle.casefile.specs.Order.{outOfOrder, leavesOpen, endsOpen}
 use Rattle.casefile.specs.Kept.{placeWidth}
 use Rattle.casefile.specs.Table.{_when_, firstHolds, wrongFrame, rowChecks, endChecks, lineChecks}
 use Rattle.casefile.specs.Answer.{unlessWrong, frameOf, judged}
-use Rattle.casefile.specs.Judging.{rowJudged, endJudged, frameJudged}
+use Rattle.casefile.specs.Judging.{rowNumber, rowJudged, endJudged, frameJudged}
 use Rattle.casefile.proofs.Checks.{first-passed}
-use Rattle.rowlines.proofs.CodeFrames.{row-kind, right-row, right-end, part, frame-too-long}
+use Rattle.casefile.proofs.RowKinds.{RowKind, is-row}
+use Rattle.rowlines.proofs.CodeFrames.{right-row, right-end, part, frame-too-long}
 
 -- ---- the number of a row
 
-module _ (h : Hull) (p : Progress) (r : Row) where
-  pub row-too-many : 500 ≤ p .rows → 6 ≡ firstHolds (rowChecks h p r)
-  unfolding firstHolds rowChecks
+pub both-fit : (h : Hull) (head : RowHead) (t fit u : Bool) → t ≡ headFits h head → (t && fit) ≡ u → (headFits h head && fit) ≡ u
+both-fit h head t fit u e f = rw (← e) f
+
+module _ (h : Hull) (p : Progress) (head : RowHead) (fit : Bool) where
+  pub row-too-many : 500 ≤ p .rows → 6 ≡ rowNumber h p head fit
+  unfolding firstHolds rowNumber
   row-too-many k = rw (le-leb 500 (p .rows) k) refl
 
   module _ (few : p .rows < 500) where
-    pub row-outside : rowFits h r ≡ false → 7 ≡ firstHolds (rowChecks h p r)
-    unfolding firstHolds rowChecks
+    pub row-outside : (headFits h head && fit) ≡ false → 7 ≡ rowNumber h p head fit
+    unfolding firstHolds rowNumber
     row-outside e = rw (lt-leb 500 (p .rows) few, e) refl
 
-    module _ (fits : rowFits h r ≡ true) where
-      pub row-disordered : outOfOrder h (p .last) (r .head) ≡ true → 8 ≡ firstHolds (rowChecks h p r)
-      unfolding firstHolds rowChecks
+    module _ (fits : (headFits h head && fit) ≡ true) where
+      pub row-disordered : outOfOrder h (p .last) head ≡ true → 8 ≡ rowNumber h p head fit
+      unfolding firstHolds rowNumber
       row-disordered e = rw (lt-leb 500 (p .rows) few, fits, e) refl
 
-      module _ (order : outOfOrder h (p .last) (r .head) ≡ false) where
-        pub row-by-closure : (t : Bool) → leavesOpen h (p .last) (r .head) ≡ t → cond t 9 0 ≡ firstHolds (rowChecks h p r)
-        unfolding firstHolds rowChecks
+      module _ (order : outOfOrder h (p .last) head ≡ false) where
+        pub row-by-closure : (t : Bool) → leavesOpen h (p .last) head ≡ t → cond t 9 0 ≡ rowNumber h p head fit
+        unfolding firstHolds rowNumber
         row-by-closure t e = rw (lt-leb 500 (p .rows) few, fits, order, e) refl
+
+-- results fit by their sets
+sets-fit : (rs ss : List Finding) → findingsFit (rs ++ ss) ≡ (findingsFit rs && findingsFit ss)
+unfolding findingsFit
+sets-fit [] ss = refl
+sets-fit (r ∷ rs) ss = rw (sets-fit rs ss) (sym (and-assoc (findingFits r) (findingsFit rs) (findingsFit ss)))
+
+-- and they go in: of every kind a first set, of kind 05 a second
+pub first-goes-in : (kind n : ℕ) → 6 + resultCount kind * resultLength kind ≤ n → 6 + 3 * resultLength kind ≤ n
+first-goes-in kind n = by (eqb kind 5)
+  where
+    by : (t : Bool) → 6 + cond t 6 3 * resultLength kind ≤ n → 6 + 3 * resultLength kind ≤ n
+    by true l = omega arith
+    by false l = l
+
+pub second-goes-in : (kind n : ℕ) → kind ≡ 5 → 6 + resultCount kind * resultLength kind ≤ n → 30 + 3 * resultLength kind ≤ n
+second-goes-in kind n k l = rw k (rw k at l)
+
+module _ (kind : ℕ) (f : List ℕ) (x : List Finding) (a : Bool) (e : x ≡ setOf kind (take (length f - 6) (drop 6 f))) (p : a ≡ findingsFit x) where
+  pub one-set-fits : (kind ≡ 5 → ⊥) → a ≡ findingsFit (resultsOf kind f)
+  unfolding resultsOf
+  one-set-fits k = rw (ne-eqb kind 5 k, append-nil) (p ∙ rw (e, rest-of f 6) refl)
+
+  pub two-sets-fit : kind ≡ 5 → (y : List Finding) (b : Bool) → y ≡ setOf kind (take (length f - 30) (drop 30 f)) → b ≡ findingsFit y → (a && b) ≡ findingsFit (resultsOf kind f)
+  unfolding resultsOf
+  two-sets-fit k y b g q = rw (eq-eqb kind 5 k, sets-fit (setOf kind (drop 6 f)) (setOf kind (drop 30 f)), p, q, e, g, rest-of f 6, rest-of f 30) refl
 
 -- ---- the number of the end
 
@@ -64,16 +95,17 @@ module _ (h : Hull) (p : Progress) (count : ℕ) where
 
 -- ---- a frame by its number
 
-module _ (h : Hull) (p : Progress) (head to : RowHead) (results from : List Finding) (k : ℕ) (e : head ≡ to) (f : results ≡ from)
-    (g : k ≡ firstHolds (rowChecks h p (record { head = head; results = results }))) where
-  given : k ≡ firstHolds (rowChecks h p (record { head = to; results = from }))
+module _ (h : Hull) (p : Progress) (head to : RowHead) (fit : Bool) (results : List Finding) (k : ℕ) (e : head ≡ to) (f : fit ≡ findingsFit results)
+    (g : k ≡ rowNumber h p head fit) where
+  given : k ≡ firstHolds (rowChecks h p (record { head = to; results = results }))
+  unfolding rowNumber rowChecks rowFits
   given = g ∙ rw (e, f) refl
 
-  pub row-wrong : (k ≡ 0 → ⊥) → Frame.Wrong k ≡ rowJudged h p (record { head = to; results = from })
+  pub row-wrong : (k ≡ 0 → ⊥) → Frame.Wrong k ≡ rowJudged h p (record { head = to; results = results })
   unfolding rowJudged
   row-wrong n = rw (← given, ne-eqb k 0 n) refl
 
-  pub row-right : k ≡ 0 → Frame.Row head ≡ rowJudged h p (record { head = to; results = from })
+  pub row-right : k ≡ 0 → Frame.Row head ≡ rowJudged h p (record { head = to; results = results })
   unfolding rowJudged
   row-right n = rw (← given, eq-eqb k 0 n, e) refl
 
@@ -92,9 +124,9 @@ module _ (h : Hull) (p : Progress) (count n : ℕ) (k : ℕ) (e : count ≡ n) (
 -- ---- a frame by its bytes, of kind k and with n of them
 
 module _ (bs : List ℕ) (k : ℕ) (e : k ≡ kindOf bs) (n : length bs ≡ frameLength k) (h : Hull) (p : Progress) (r : Frame) where
-  pub frame-row : 2 ≤ k → k ≤ 3 → r ≡ rowJudged h p (record { head = headOf k (part bs k e n); results = resultsOf k (part bs k e n) }) → r ≡ frameJudged h p bs
+  pub frame-row : RowKind k → r ≡ rowJudged h p (record { head = headOf k (part bs k e n); results = resultsOf k (part bs k e n) }) → r ≡ frameJudged h p bs
   unfolding frameJudged
-  frame-row a b g = g ∙ rw (right-row bs k e n a b, rest-of bs 1, e, rw e at (row-kind k a b)) refl
+  frame-row a g = g ∙ rw (right-row bs k e n a, rest-of bs 1, e, rw e at (is-row a)) refl
 
   pub frame-end : k ≡ 15 → r ≡ endJudged h p (wordAt (part bs k e n) 0) → r ≡ frameJudged h p bs
   unfolding frameJudged

@@ -11,8 +11,7 @@ use borrow.Author.Tests.{le-leb, lt-leb, leb-true}
 use Rattle.laws.proofs.Tests.{same-test}
 use Rattle.records.specs.declared.Finding.{Finding}
 use Rattle.records.specs.declared.Hull.{Hull}
-use Rattle.records.specs.declared.RowHead.{RowHead}
-use Rattle.casefile.specs.Limits.{between, risingTo, zonesFit, headFits, findingFits, findingsFit, rowFits}
+use Rattle.casefile.specs.Limits.{between, risingTo, zonesFit, findingFits, findingsFit}
 
 -- ---- the zones of a hull
 
@@ -74,8 +73,7 @@ three-fit (a ∷ b ∷ []) d e = absurd (omega arith)
 three-fit (a ∷ b ∷ c ∷ []) d e = rw (and-true (findingFits c)) refl
 three-fit (a ∷ b ∷ c ∷ x ∷ rs) d e = absurd (omega arith)
 
-pub row-of-three : (h : Hull) (head : RowHead) (rs : List Finding) (d : Finding) (f a b c : Bool) → length rs ≡ 3
-    → f ≡ headFits h head → a ≡ findingFits (getD rs 0 d) → b ≡ findingFits (getD rs 1 d) → c ≡ findingFits (getD rs 2 d)
-    → (f && (a && (b && c))) ≡ rowFits h (record { head = head; results = rs })
-unfolding rowFits
-row-of-three h head rs d f a b c n e p q r = rw (e, p, q, r, three-fit rs d n) refl
+pub set-of-three : (rs : List Finding) (d : Finding) (a b c : Bool) → length rs ≡ 3
+    → a ≡ findingFits (getD rs 0 d) → b ≡ findingFits (getD rs 1 d) → c ≡ findingFits (getD rs 2 d)
+    → (a && (b && c)) ≡ findingsFit rs
+set-of-three rs d a b c n p q r = rw (p, q, r) (three-fit rs d n)

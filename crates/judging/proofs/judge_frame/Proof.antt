@@ -1,10 +1,12 @@
 -- `judge_frame` meets its contract. Assumes nothing.
 use mathlib.Core.Path.{sym, _∙_}
+use mathlib.Core.Logic.{⊎-elim}
 use denote.Ref.{now}
-use Rattle.rowlines.proofs.CodeFrames.{wrong-length, wrong-kind, results-fit}
+use Rattle.casefile.proofs.RowKinds.{two-sets, two-or-three}
+use Rattle.rowlines.proofs.CodeFrames.{wrong-length, wrong-kind, results-go-in}
 use Rattle.judging.proofs.CodeJudging.{frame-wrong, frame-row, frame-end}
-use borrow.Author.Needs.{needs}
 use native.Mathlib.Omega.{arith}
+use borrow.Author.Needs.{needs}
 use Rattle.judging.proofs.judge_frame.Statement.{statement}
 use Rattle.judging.proofs.judge_frame.Tie as tie
 
@@ -39,19 +41,23 @@ part-judge-row-end : tie.Need-part-judge-row-end
 part-judge-row-end c = search needs
 
 judge-row-requires : tie.Need-judge-row-requires
-judge-row-requires c κs = results-fit (now (c .before .before .before .before .before .before .before .before .args .frame)) _ (c .before .before .before .before .before .before .byte-at .ensures .0) (c .before .before .before .before .if1 .left ∙ c .before .before .before .before .before .frame-length .ensures) (omega arith) (omega arith)
+judge-row-requires c κs =
+    results-go-in (now (c .before .before .before .before .before .before .args .frame)) _ (c .before .before .before .before .byte-at .ensures .0) (c .before .before .if1 .left ∙ c .before .before .before .frame-length .ensures)
+    (⊎-elim (λ m. two-sets (m .keys1)) (λ m. two-or-three _ (m .1 .left) (m .2 .taken)) (c .before .match .came))
 
 returns-2 : tie.Need-returns-2
-returns-2 c = frame-end (now (c .before .before .before .before .before .before .before .args .frame)) _ (c .before .before .before .before .before .byte-at .ensures .0) (c .before .before .before .if1 .left ∙ c .before .before .before .before .frame-length .ensures) _ _ _ (omega arith) (c .judge-end .ensures)
+returns-2 c = frame-end (now (c .before .before .before .before .before .before .before .args .frame)) _ (c .before .before .before .before .before .byte-at .ensures .0) (c .before .before .before .if1 .left ∙ c .before .before .before .before .frame-length .ensures) _ _ _ (c .before .before .match .keys2) (c .judge-end .ensures)
 
 returns-3 : tie.Need-returns-3
-returns-3 c = frame-row (now (c .before .before .before .before .before .before .before .before .before .args .frame)) _ (c .before .before .before .before .before .before .before .byte-at .ensures .0) (c .before .before .before .before .before .if1 .left ∙ c .before .before .before .before .before .before .frame-length .ensures) _ _ _ (omega arith) (omega arith) (c .judge-row .ensures)
+returns-3 c = frame-wrong _ _ _ (wrong-kind (now (c .before .before .before .before .before .before .args .frame)) _ (c .before .before .before .before .byte-at .ensures .0) (λ f. omega arith) (λ f. omega arith) (λ f. omega arith) (λ f. omega arith))
 
 returns-4 : tie.Need-returns-4
-returns-4 c = frame-wrong _ _ _ (wrong-kind (now (c .before .before .before .before .before .before .args .frame)) _ (c .before .before .before .before .byte-at .ensures .0) (λ f. omega arith) (λ f. omega arith) (λ f. omega arith))
+returns-4 c = frame-wrong _ _ _ (wrong-kind (now (c .before .before .before .before .before .before .before .args .frame)) _ (c .before .before .before .before .before .byte-at .ensures .0) (λ f. omega arith) (λ f. omega arith) (c .before .before .match .rest .0 .1) (c .before .before .match .rest .1))
 
 returns-5 : tie.Need-returns-5
-returns-5 c = frame-wrong _ _ _ (wrong-kind (now (c .before .before .before .before .before .before .before .args .frame)) _ (c .before .before .before .before .before .byte-at .ensures .0) (λ f. omega arith) (λ f. omega arith) (λ f. omega arith))
+returns-5 c =
+    frame-row (now (c .before .before .before .before .before .before .before .args .frame)) _ (c .before .before .before .before .before .byte-at .ensures .0) (c .before .before .before .if1 .left ∙ c .before .before .before .before .frame-length .ensures) _ _ _
+    (⊎-elim (λ m. two-sets (m .keys1)) (λ m. two-or-three _ (m .1 .left) (m .2 .taken)) (c .before .before .match .came)) (c .judge-row .ensures)
 
 pub judge-frame-spec : {M : Type 1} → statement M
 judge-frame-spec =

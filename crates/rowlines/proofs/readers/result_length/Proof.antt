@@ -1,7 +1,7 @@
--- `set_length` meets its contract. Assumes nothing.
+-- `result_length` meets its contract. Assumes nothing.
 use borrow.Author.Tests.{eq-eqb, ne-eqb}
-use Rattle.rowlines.proofs.readers.set_length.Statement.{statement}
-use Rattle.rowlines.proofs.readers.set_length.Tie as tie
+use Rattle.rowlines.proofs.readers.result_length.Statement.{statement}
+use Rattle.rowlines.proofs.readers.result_length.Tie as tie
 
 returns : tie.Need-returns
 returns c = simp (eq-eqb _ _ (c .if1 .taken))
@@ -9,5 +9,5 @@ returns c = simp (eq-eqb _ _ (c .if1 .taken))
 returns-2 : tie.Need-returns-2
 returns-2 c = simp (ne-eqb _ _ (c .if1 .left))
 
-pub set-length-spec : {M : Type 1} → statement M
-set-length-spec = tie.close (tie.spec returns returns-2)
+pub result-length-spec : {M : Type 1} → statement M
+result-length-spec = tie.close (tie.spec returns returns-2)

@@ -1,0 +1,61 @@
+-- `results_fit` meets its contract. Assumes nothing.
+use denote.Ref.{now}
+use native.Mathlib.Omega.{arith}
+use Rattle.rowlines.proofs.CodeReaders.{part-long}
+use Rattle.judging.proofs.CodeJudging.{first-goes-in, second-goes-in, one-set-fits, two-sets-fit}
+use borrow.Author.Needs.{needs}
+use Rattle.judging.proofs.row.results_fit.Statement.{statement}
+use Rattle.judging.proofs.row.results_fit.Tie as tie
+
+sub-set : tie.Need-sub-set
+sub-set c = search needs
+
+part-set-start : tie.Need-part-set-start
+part-set-start c = search needs
+
+part-set-end : tie.Need-part-set-end
+part-set-end c = search needs
+
+set-requires : tie.Need-set-requires
+set-requires c κs = part-long (now (c .before .before .args .f)) 6 _ (first-goes-in (c .before .before .args .kind) _ (c .before .before .pre))
+
+set-fits-requires : tie.Need-set-fits-requires
+set-fits-requires c κs = search needs
+
+sub-set-2 : tie.Need-sub-set-2
+sub-set-2 c = omega (arith, second-goes-in (c .before .before .before .before .before .args .kind) _ (c .if1 .taken) (c .before .before .before .before .before .pre))
+
+part-set-start-2 : tie.Need-part-set-start-2
+part-set-start-2 c = omega (arith, second-goes-in (c .before .before .before .before .before .args .kind) _ (c .if1 .taken) (c .before .before .before .before .before .pre))
+
+part-set-end-2 : tie.Need-part-set-end-2
+part-set-end-2 c = search needs
+
+set-requires-2 : tie.Need-set-requires-2
+set-requires-2 c κs = part-long (now (c .before .before .before .before .before .before .args .f)) 30 _ (second-goes-in (c .before .before .before .before .before .before .args .kind) _ (c .before .if1 .taken) (c .before .before .before .before .before .before .pre))
+
+set-fits-requires-2 : tie.Need-set-fits-requires-2
+set-fits-requires-2 c κs = search needs
+
+returns : tie.Need-returns
+returns c = two-sets-fit _ (now (c .before .before .before .before .before .before .before .before .args .f)) _ _ (c .before .before .before .before .before .set .ensures) (c .before .before .before .before .set-fits .ensures) (c .before .before .before .if1 .taken) _ _ (c .before .set2 .ensures) (c .set-fits2 .ensures)
+
+returns-2 : tie.Need-returns-2
+returns-2 c = one-set-fits _ (now (c .before .before .before .before .before .args .f)) _ _ (c .before .before .set .ensures) (c .before .set-fits .ensures) (c .if1 .left)
+
+pub results-fit-spec : {M : Type 1} → statement M
+results-fit-spec =
+    tie.close
+    (tie.spec
+    sub-set
+    part-set-start
+    part-set-end
+    set-requires
+    set-fits-requires
+    sub-set-2
+    part-set-start-2
+    part-set-end-2
+    set-requires-2
+    set-fits-requires-2
+    returns
+    returns-2)

@@ -4,14 +4,13 @@ use Prim.Native.Nat.{ℕ, _+_, _-_, _*_, _^_, _≤_, _<_}
 use mathlib.Core.List.{[]}
 use mathlib.Core.Path.{_≡_, refl, sym, _∙_}
 use mathlib.Core.Bool.{Bool, true, false, cond}
-use native.Mathlib.Nat.{mul-pos, mul-comm, mul-le-mul-right, mul-lt-mul-of-pos-right, lt-of-mul-lt-mul-right}
+use native.Mathlib.Nat.{le-antisymm, mul-pos, mul-comm, mul-le-mul-right, mul-lt-mul-of-pos-right, lt-of-mul-lt-mul-right}
 use native.Mathlib.Omega.{arith}
 use lib.Dec.{lit<}
 use Rattle.laws.specs.Fraction.{Fraction, den, _less_over_, _over_, whole, Is, _≈_, _≼_, _≺_, _≼?_, _⊝_, _⊛_}
-use Rattle.laws.proofs.Choice.{split}
 use Rattle.laws.proofs.Fraction.{positive, is-over, is-whole, is-nothing, is-self, is-shifted, is-⊝, is-⊛, is-widened, is-written, over-left, over-right, same, below, strictly-below, numerators-below, numerators-strictly-below, ≈-refl, ≈-sym, ⊛-≈, ≼-of-≈, ≼-trans, below-across}
 use Rattle.laws.proofs.FractionRing.{⊛-comm}
-use Rattle.laws.proofs.FractionOrder.{test-passes, test-fails}
+use Rattle.laws.proofs.FractionOrder.{ordered, test-passes, test-fails}
 use Rattle.laws.proofs.Polynomial.{_:*_, _:^_, _:=_, _⊢_, poly1}
 
 -- ---- two quotients over any two denominators
@@ -64,6 +63,9 @@ pub ⊛-keeps : {f g x : Fraction} → whole 0 ≼ x → f ≼ g → f ⊛ x ≼
     ≼-trans (≼-of-≈ (⊛-≈ (≈-refl f) e)) (≼-trans (⊛-rises (x .up - x .down) (positive x) l) (≼-of-≈ (⊛-≈ (≈-refl g) (≈-sym e))))
 
 -- ---- below and strictly below
+pub ≈-of-both : {f g : Fraction} → f ≼ g → g ≼ f → f ≈ g
+≈-of-both p q = record { cross = le-antisymm (p .cross) (q .cross) }
+
 pub ≼-of-≺ : {f g : Fraction} → f ≺ g → f ≼ g
 ≼-of-≺ l = record { cross = omega (arith, l .cross) }
 
@@ -84,10 +86,9 @@ below-then-strictly {f} {g} {h} p q =
 -- ---- what is asked of equal fractions has one answer
 pub test-same : {f f′ g g′ : Fraction} → f ≈ f′ → g ≈ g′ → (f ≼? g) ≡ (f′ ≼? g′)
 test-same {f} {f′} {g} {g′} p q =
-    split (f .up * den g + g .down * den f) (g .up * den f + f .down * den g)
-    (λ l. let m : f ≼ g = record { cross = l } in test-passes m ∙ sym (test-passes (≼-trans (≼-of-≈ (≈-sym p)) (≼-trans m (≼-of-≈ q)))))
-    (λ l. let m : g ≺ f = record { cross = omega (arith, l) } in
-    test-fails m ∙ sym (test-fails (below-then-strictly (≼-of-≈ (≈-sym q)) (strictly-then-below m (≼-of-≈ p)))))
+    ordered f g
+    (λ l. test-passes l ∙ sym (test-passes (≼-trans (≼-of-≈ (≈-sym p)) (≼-trans l (≼-of-≈ q)))))
+    (λ l. test-fails l ∙ sym (test-fails (below-then-strictly (≼-of-≈ (≈-sym q)) (strictly-then-below l (≼-of-≈ p)))))
 
 pub cond-≈ : (t : Bool) {f f′ g g′ : Fraction} → f ≈ f′ → g ≈ g′ → cond t f g ≈ cond t f′ g′
 cond-≈ true p q = p

@@ -19,6 +19,11 @@ pub test-fails : {f g : Fraction} → g ≺ f → (f ≼? g) ≡ false
 unfolding _≼?_
 test-fails {f} {g} h = lt-leb (f .up * den g + g .down * den f) (g .up * den f + f .down * den g) (h .cross)
 
+-- f is at most g, or above it
+pub ordered : {P : Type 0} (f g : Fraction) → (f ≼ g → P) → (g ≺ f → P) → P
+ordered f g h k =
+    split (f .up * den g + g .down * den f) (g .up * den f + f .down * den g) (λ l. h (record { cross = l })) (λ l. k (record { cross = omega (arith, l) }))
+
 -- (a - b)/d, whichever way a test goes
 pub is-chosen : {f g : Fraction} {a b d : ℕ} (m n : ℕ) → (m ≤ n → Is f a b d) → (n < m → Is g a b d) → Is (cond (leb m n) f g) a b d
 is-chosen {a = a} {b} {d} m n h k = chosen (λ f. Is f a b d) m n h k

@@ -1,6 +1,5 @@
--- Ten-thousandths of a fourth root: 10¹⁶ times a fraction in thirds, its bounds, and survivals kind by kind, with a dry opening and with an immersed one.
--- Assumes nothing.
-use Prim.Native.Nat.{ℕ, _+_, _*_, _/_, _^_, _≤_, _<_}
+-- Multiples of a fraction that is at most one, and survivals kind by kind, with a dry opening and with an immersed one. Assumes nothing.
+use Prim.Native.Nat.{ℕ, _*_, _/_, _^_, _≤_, _<_}
 use mathlib.Core.Bool.{Bool, true, false, cond}
 use mathlib.Core.Path.{_≡_, refl, ap, _∙_}
 use native.Mathlib.Nat.{div-le-of-le-mul, mul-le-mul-left}
@@ -10,32 +9,17 @@ use lib.IntN.{ℤ}
 use borrow.Author.Tests.{eq-eqb, ne-eqb}
 use Rattle.laws.specs.Fraction.{Fraction, whole}
 use Rattle.laws.specs.Rounding.{ceil}
-use Rattle.laws.proofs.Equal.{same-floor, same-ceil}
 use Rattle.laws.proofs.Fraction.{is-whole, below}
-use Rattle.laws.proofs.Rounding.{ceil-least, floor-not-above-ceil, ceil-near-floor}
+use Rattle.laws.proofs.Rounding.{ceil-least}
 use Rattle.records.specs.declared.Finding.{Finding}
 use Rattle.solas.specs.Survival.{s⁴, immersed, unlessImmersed}
 use Rattle.solas.proofs.Survival.{s⁴-not-negative, s⁴-at-most-one, lost-if-immersed, kept-if-dry, either-way}
 use Rattle.numbers.specs.Ratio.{ratioOf}
-use Rattle.survival.specs.Caps.{Capped}
 use Rattle.survival.specs.Marks.{foundMarks, unmarked, marksOf}
-use Rattle.survival.specs.Survival.{root, given, fourthOf, Sensible, factorOf, scaledOf, roundedOf, marked, survivalOf}
-use Rattle.records.specs.declared.Ratio.{Ratio}
+use Rattle.survival.specs.Survival.{root, given, fourthOf, Sensible, factorOf, roundedOf, marked, survivalOf}
 use Rattle.survival.specs.declared.finding.Multiple.{Multiple}
 use Rattle.survival.specs.declared.finding.Roots.{Roots}
-use Rattle.survival.proofs.Ratios.{caps-positive}
 use Rattle.survival.proofs.Values.{none}
-
--- ---- 10¹⁶ times n/d in thirds, where d goes into 3·10¹⁶
-module _ (t n d : ℕ) (e : t * d ≡ 3 * 10 ^ 16) (hd : 0 < d) where
-  same : t * n * d ≡ 10 ^ 16 * n * 3
-  same = omega (arith, ap (λ z. z * n) e)
-
-  pub thirds-down : t * n / 3 ≡ 10 ^ 16 * n / d
-  thirds-down = same-floor (t * n) (10 ^ 16 * n) (lit< tt) hd same
-
-  pub thirds-up : ceil (t * n) 3 ≡ ceil (10 ^ 16 * n) d
-  thirds-up = same-ceil (t * n) (10 ^ 16 * n) (lit< tt) hd same
 
 -- ---- s times n/d is at most s where n/d is at most one
 module _ (s : ℕ) {n d : ℕ} (hd : 0 < d) (h : n ≤ d) where
@@ -47,19 +31,6 @@ module _ (s : ℕ) {n d : ℕ} (hd : 0 < d) (h : n ≤ d) where
 
 pub same-multiple : {a b c d : ℕ} → a ≡ c → b ≡ d → _≡_ {A = Multiple} (record { down = a; up = b }) (record { down = c; up = d })
 same-multiple p q = cc
-
--- what is rounded down and what is rounded up are at most one apart, and at most 10¹⁶
-module _ {f : Ratio} (p : Capped f) where
-  pub scaled-near : (scaledOf f .down ≤ scaledOf f .up) × (scaledOf f .up ≤ scaledOf f .down + 1)
-  unfolding scaledOf
-  scaled-near =
-      (floor-not-above-ceil (10 ^ 16 * f .num) (f .den), ceil-near-floor (10 ^ 16 * f .num) (f .den) (caps-positive (p .of-caps)))
-
-  pub scaled-fits : (scaledOf f .down ≤ 10 ^ 16) × (scaledOf f .up ≤ 10 ^ 16)
-  unfolding scaledOf
-  scaled-fits =
-      let hd = caps-positive (p .of-caps) in
-      (times-down (10 ^ 16) hd (p .at-most-one), times-up (10 ^ 16) hd (p .at-most-one))
 
 pub same-roots : {a b c d : ℕ} → a ≡ c → b ≡ d → _≡_ {A = Roots} (record { bottom = a; top = b }) (record { bottom = c; top = d })
 same-roots p q = cc
@@ -90,16 +61,19 @@ pub as-dry : (kind : ℕ) (f : Finding) → (kind ≡ 3 → ⊥) → immersed (f
     survivalOf kind f ≡ marked (roundedOf (ratioOf (s⁴ (f .lever) (f .range) (f .heel)))) (foundMarks (f .lever) (f .range) (f .heel) (f .opening))
 as-dry kind f n i = as-found kind f n ∙ ap (λ r. marked r (foundMarks (f .lever) (f .range) (f .heel) (f .opening))) (dry-roots (f .opening) (s⁴ (f .lever) (f .range) (f .heel)) i)
 
--- what was found and what is given are from 0 to 1
-pub found-sensible : (kind : ℕ) (f : Finding) → f .given ≤ 10 ^ 4 → Sensible (factorOf kind f)
-unfolding factorOf
-found-sensible kind f h = chosen (eqb kind 3)
+-- what was found is from 0 to 1, and so is what is given
+pub fourth-sensible : (f : Finding) → Sensible (root (fourthOf f))
+fourth-sensible f =
+    either-way (f .opening) (s⁴ (f .lever) (f .range) (f .heel)) (λ x. Sensible (root x)) zero
+    (s⁴-not-negative (f .lever) (f .range) (f .heel), s⁴-at-most-one (f .lever) (f .range) (f .heel))
   where
     zero : Sensible (root (whole 0))
     zero = (below {d = 1} (lit< tt) (is-whole 0 (lit< tt)) (is-whole 0 (lit< tt)) (omega arith), below {d = 1} (lit< tt) (is-whole 0 (lit< tt)) (is-whole 1 (lit< tt)) (omega arith))
 
+pub found-sensible : (kind : ℕ) (f : Finding) → f .given ≤ 10 ^ 4 → Sensible (factorOf kind f)
+unfolding factorOf
+found-sensible kind f h = chosen (eqb kind 3)
+  where
     chosen : (b : Bool) → Sensible (cond b (given (f .given)) (root (fourthOf f)))
     chosen true = h
-    chosen false =
-        either-way (f .opening) (s⁴ (f .lever) (f .range) (f .heel)) (λ x. Sensible (root x)) zero
-        (s⁴-not-negative (f .lever) (f .range) (f .heel), s⁴-at-most-one (f .lever) (f .range) (f .heel))
+    chosen false = fourth-sensible f

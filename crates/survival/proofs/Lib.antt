@@ -1,5 +1,6 @@
-pub mod Ratios
 pub mod Factors
+pub mod Thirds
 pub mod Bounds
 pub mod Values
 pub mod Telling
+pub mod Worse

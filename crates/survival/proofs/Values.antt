@@ -1,9 +1,10 @@
 -- Survivals that refuse a slip in this crate at once; document 01's own table is crates/promises/specs/Values.antt. Assumes nothing.
 use Prim.Native.Nat.{ℕ, _*_, _^_}
 use mathlib.Core.Bool.{Bool, true, false}
+use mathlib.Core.List.{[], _∷_}
 use mathlib.Core.Path.{_≡_, refl}
 use lib.IntN.{ℤ, pos, negsuc}
-use Rattle.laws.specs.Fraction.{whole, _less_over_, _⊛_}
+use Rattle.laws.specs.Fraction.{whole, _≼?_, _less_over_, _⊛_}
 use Rattle.laws.specs.Rounding.{ceil}
 use Rattle.roots.specs.Root.{withDigits, rootDown, rootUp}
 use Rattle.records.specs.declared.Finding.{Finding}
@@ -12,7 +13,7 @@ use Rattle.records.specs.declared.Survival.{Survival}
 use Rattle.solas.specs.Survival.{k, s⁴, unlessImmersed}
 use Rattle.numbers.specs.Ratio.{ratioOf}
 use Rattle.survival.specs.Marks.{foundMarks, marksOf}
-use Rattle.survival.specs.Survival.{root, ends, factorOf, scaledOf, roundedOf, survivalOf}
+use Rattle.survival.specs.Survival.{root, ends, factorOf, scaledOf, roundedOf, survivalOf, worseOf, countsAt, survivalsOf}
 
 abbrev found : ℕ → ℕ → ℕ → ℤ → Finding
 found lever range heel opening = record { lever = lever; range = range; heel = heel; opening = opening; given = 0 }
@@ -45,6 +46,17 @@ pub nearly :
     × (survivalOf 2 (found 120 1600 2500 (pos 0)) ≡ s 10000 10000 false false false false)
 unfolding survivalOf factorOf marksOf foundMarks unlessImmersed s⁴ k ratioOf scaledOf roundedOf rootDown rootUp withDigits ceil _⊛_ _less_over_
 nearly = (refl, refl, refl, refl, refl)
+
+-- second sets, at three draughts each: both sets round to the same ends, and the exact s⁴ tells which counts, the one or the other; equal s⁴, where the
+-- first set counts, and so its marks; an opening that is immersed in one set alone
+pub second-sets :
+    (survivalsOf 5 (found 120 1587 0 (pos 0) ∷ found 60 1600 0 (pos 0) ∷ found 120 1600 0 (pos 0) ∷ found 119 1600 0 (pos 0) ∷ found 120 800 0 (pos 0) ∷ found 120 1600 0 (negsuc 0) ∷ [])
+    ≡ s 9979 9980 true false false false ∷ s 8408 8409 true false false false ∷ s 0 0 false false false true ∷ [])
+    × (survivalsOf 5 (found 119 1600 0 (pos 0) ∷ found 120 800 0 (pos 0) ∷ found 120 1600 0 (negsuc 0) ∷ found 120 1587 0 (pos 0) ∷ found 60 1600 0 (pos 0) ∷ found 120 1600 0 (pos 0) ∷ [])
+    ≡ s 9979 9980 true false false false ∷ s 8408 8409 false true false false ∷ s 0 0 false false false true ∷ [])
+    × (survivalOf 5 (found 120 1587 0 (pos 0)) ≡ s 9979 9980 false true false false)
+unfolding survivalsOf countsAt worseOf survivalOf factorOf marksOf foundMarks unlessImmersed s⁴ k ratioOf scaledOf roundedOf rootDown rootUp withDigits ceil _≼?_ _⊛_ _less_over_
+second-sets = (refl, refl, refl)
 
 -- at the cap, and one below or above it; where survival is 0 for another reason the rest is still told
 pub edges :

@@ -1,4 +1,5 @@
-pub mod Caps
+pub mod Thirds
 pub mod Marks
 pub mod Survival
 pub mod Telling
+pub mod Worse

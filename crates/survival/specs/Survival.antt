@@ -1,6 +1,6 @@
 -- Document 01, "Height and survival": what a survival is exactly, its bottom and top in ten-thousandths, and document 02's openings, marks and second sets with them.
 -- Assumes nothing.
-use Prim.Native.Nat.{ℕ, _*_, _/_, _^_, _≤_}
+use Prim.Native.Nat.{ℕ, _+_, _*_, _/_, _^_, _≤_}
 use mathlib.Core.Bool.{cond}
 use mathlib.Core.List.{List, [], _∷_}
 use lib.Dec.{eqb}

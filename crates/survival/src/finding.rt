@@ -1,19 +1,20 @@
-// The survival of a row's results: s⁴ as one fraction, from it the bottom and the top in ten-thousandths, and the marks; nothing of it is left
-// where an opening is immersed.
+// The survival of a row's results: s⁴ as one whole number, from it the bottom and the top in ten-thousandths, and the marks; nothing of it is left
+// where an opening is immersed. Of two results at a draught the worse counts, by that number.
+use numbers::above;
 use numbers::ceiling;
 use records::Finding;
 use records::Marks;
-use records::Ratio;
 use records::Survival;
 use roots::root_down;
 use roots::root_up;
 ghost use mathlib.Core.Path.{_≡_};
-ghost use Prim.Native.Nat.{_*_, _^_, min};
-ghost use Rattle.solas.specs.Survival.{k, s⁴, immersed, unlessImmersed};
+ghost use mathlib.Core.List.{_++_};
+ghost use Prim.Native.Nat.{_*_, _^_, _≤_, min};
+ghost use Rattle.solas.specs.Survival.{s⁴, immersed, unlessImmersed};
 ghost use Rattle.numbers.specs.Ratio.{ratioOf};
-ghost use Rattle.survival.specs.Caps.{Capped, OfCaps};
+ghost use Rattle.survival.specs.Thirds.{InThirds, thirds};
 ghost use Rattle.survival.specs.Marks.{foundMarks};
-ghost use Rattle.survival.specs.Survival.{scaledOf, roundedOf, survivalOf, survivalsOf};
+ghost use Rattle.survival.specs.Survival.{scaledOf, roundedOf, marked, survivalOf, worseOf, survivalsOf};
 
 // The caps of lever (mm) and range (hundredths of a degree), and the heels between which survival falls to nothing.
 const LEVER: u64 = 120;
@@ -29,8 +30,10 @@ const CAPS: u64 = LEVER * RANGE;
 
 const FALL: u64 = (LOST - UPRIGHT) * (LOST - UPRIGHT);
 
-// 3·10¹⁶, into which either denominator goes without a rest.
+// One in thirds of 10⁻¹⁶, of which each s⁴ is a whole number: that divides it without a rest.
 const THIRDS: u64 = 30_000_000_000_000_000;
+
+const PART: u64 = THIRDS / (CAPS * FALL);
 
 // 10¹⁶ times a fraction, rounded down and up.
 struct Multiple {
@@ -50,76 +53,45 @@ fn lesser(a: u64, b: u64) -> u64
     if a <= b { a } else { b }
 }
 
-// k of a heel in hundredths of a degree.
-fn heel_factor(heel: u64) -> Ratio
-    ensures { λ r. ⌜ r ≡ ratioOf (k heel) ⌝ }
+// Whether an opening at a height above the final waterline in millimetres is immersed: at 0 it is not yet.
+fn is_immersed(opening: i64) -> bool
+    ensures { λ r. ⌜ r ≡ immersed opening ⌝ }
 {
-    if heel <= UPRIGHT {
-        return Ratio { num: 1, den: 1 };
-    }
-    if heel >= LOST {
-        return Ratio { num: 0, den: 1 };
-    }
-    let left = LOST - heel;
-    Ratio {
-        num: left * left,
-        den: FALL,
-    }
+    opening < 0
 }
 
-// s⁴ of lever, range and heel.
-fn fourth(lever: u64, range: u64, heel: u64) -> Ratio
-    ensures { λ r. ⌜ r ≡ ratioOf (s⁴ lever range heel) ⌝ }
+// s⁴ of what was found, in thirds of 10⁻¹⁶: nothing where the opening is immersed.
+fn fourth(lever: u64, range: u64, heel: u64, opening: i64) -> u64
+    ensures { λ r. ⌜ InThirds (unlessImmersed opening (s⁴ lever range heel)) r ⌝ }
 {
+    if is_immersed(opening) {
+        return 0;
+    }
     let g = lesser(lever, LEVER);
     let t = lesser(range, RANGE);
-    let k = heel_factor(heel);
-    Ratio {
-        num: g * t * k.num,
-        den: CAPS * k.den,
-    }
+    let left = lesser(LOST - UPRIGHT, above(LOST, heel));
+    g * t * (left * left) * PART
 }
 
-// How often a denominator goes into 3·10¹⁶.
-fn thirds(den: u64) -> u64
-    requires { ⌜ OfCaps den ⌝ }
-    ensures { λ r. ⌜ r * den ≡ 3 * 10 ^ 16 ⌝ }
+// 10¹⁶ times so many thirds of 10⁻¹⁶.
+fn scaled(n: u64) -> Multiple
+    ensures { λ r. ⌜ r ≡ scaledOf (thirds n) ⌝ }
 {
-    if den == CAPS {
-        THIRDS / CAPS
-    } else {
-        THIRDS / (CAPS * FALL)
-    }
-}
-
-// In whole thirds, so that nothing is divided by the denominator.
-fn scaled(f: Ratio) -> Multiple
-    requires { ⌜ Capped f ⌝ }
-    ensures { λ r. ⌜ r ≡ scaledOf f ⌝ }
-{
-    let n = thirds(f.den) * f.num;
     Multiple {
         down: n / 3,
         up: ceiling(n, 3),
     }
 }
 
-// The fourth root of a fraction in ten-thousandths: the greatest not above it, the least not below.
-fn rounded(f: Ratio) -> Roots
-    requires { ⌜ Capped f ⌝ }
-    ensures { λ r. ⌜ r ≡ roundedOf f ⌝ }
+// The fourth root in ten-thousandths: the greatest not above it, the least not below.
+fn rounded(n: u64) -> Roots
+    requires { ⌜ n ≤ 3 * 10 ^ 16 ⌝ }
+    ensures { λ r. ⌜ r ≡ roundedOf (thirds n) ⌝ }
 {
-    let s = scaled(f);
+    let s = scaled(n);
     let bottom = root_down(s.down);
     let top = root_up(bottom, s.up);
     Roots { bottom, top }
-}
-
-// Whether an opening at a height above the final waterline in millimetres is immersed: at 0 it is not yet.
-fn is_immersed(opening: i64) -> bool
-    ensures { λ r. ⌜ r ≡ immersed opening ⌝ }
-{
-    opening < 0
 }
 
 // What holds the survival of what was found down: lever and range below their caps, the heel above that from which k falls, an immersed opening.
@@ -134,17 +106,21 @@ fn marks(lever: u64, range: u64, heel: u64, opening: i64) -> Marks
     }
 }
 
-// The bottom and the top of what was found: zero where the opening is immersed.
-fn found(lever: u64, range: u64, heel: u64, opening: i64) -> Roots
-    ensures { λ r. ⌜ r ≡ roundedOf (ratioOf (unlessImmersed opening (s⁴ lever range heel))) ⌝ }
+// The survival of what was found, from its s⁴.
+fn found(s: u64, lever: u64, range: u64, heel: u64, opening: i64) -> Survival
+    requires { ⌜ InThirds (unlessImmersed opening (s⁴ lever range heel)) s ⌝ }
+    ensures { λ r. ⌜ r ≡ marked (roundedOf (ratioOf (unlessImmersed opening (s⁴ lever range heel)))) (foundMarks lever range heel opening) ⌝ }
 {
-    if is_immersed(opening) {
-        return Roots { bottom: 0, top: 0 };
+    let r = rounded(s);
+    let marks = marks(lever, range, heel, opening);
+    Survival {
+        bottom: r.bottom,
+        top: r.top,
+        marks,
     }
-    rounded(fourth(lever, range, heel))
 }
 
-// The survival of a result by its numbers: of a row of kind 2 from what was found, of kind 3 as it is given, with no mark.
+// The survival of a result by its numbers: of a row of kind 3 as it is given, with no mark; of another from what was found.
 pub fn survival(kind: u64, lever: u64, range: u64, heel: u64, opening: i64, given: u64) -> Survival
     ensures { λ r. ⌜ r ≡ survivalOf kind (record { lever = lever; range = range; heel = heel; opening = opening; given = given }) ⌝ }
 {
@@ -161,17 +137,13 @@ pub fn survival(kind: u64, lever: u64, range: u64, heel: u64, opening: i64, give
             marks,
         };
     }
-    let s = found(lever, range, heel, opening);
-    let marks = marks(lever, range, heel, opening);
-    Survival {
-        bottom: s.bottom,
-        top: s.top,
-        marks,
-    }
+    let s = fourth(lever, range, heel, opening);
+    found(s, lever, range, heel, opening)
 }
 
-// The survivals of a row's three results.
+// The survivals of a row's three results, where it has no second set.
 pub fn survivals(kind: u64, fs: [Finding; 3]) -> [Survival; 3]
+    requires { ⌜ (kind ≡ 5 → ⊥) ⌝ }
     ensures { λ r. ⌜ r ≡ survivalsOf kind fs ⌝ }
 {
     let deepest = fs[0];
@@ -202,5 +174,34 @@ pub fn survivals(kind: u64, fs: [Finding; 3]) -> [Survival; 3]
             light.opening,
             light.given,
         ),
+    ]
+}
+
+// Of two results at one draught the survival of the worse, by the exact s⁴; the first's when they are equal.
+fn worse(f: Finding, g: Finding) -> Survival
+    ensures { λ r. ⌜ r ≡ survivalOf 5 (worseOf f g) ⌝ }
+{
+    let a = fourth(f.lever, f.range, f.heel, f.opening);
+    let b = fourth(g.lever, g.range, g.heel, g.opening);
+    if a <= b {
+        return found(a, f.lever, f.range, f.heel, f.opening);
+    }
+    found(b, g.lever, g.range, g.heel, g.opening)
+}
+
+// The survivals of a row of kind 5, from its two sets of results: at each draught the lower.
+pub fn worse_survivals(first: [Finding; 3], second: [Finding; 3]) -> [Survival; 3]
+    ensures { λ r. ⌜ r ≡ survivalsOf 5 (first ++ second) ⌝ }
+{
+    let deepest = first[0];
+    let partial = first[1];
+    let light = first[2];
+    let deepest_again = second[0];
+    let partial_again = second[1];
+    let light_again = second[2];
+    [
+        worse(deepest, deepest_again),
+        worse(partial, partial_again),
+        worse(light, light_again),
     ]
 }

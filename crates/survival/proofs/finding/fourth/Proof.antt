@@ -1,16 +1,24 @@
--- `survival::finding::fourth` meets its contract: no product wraps, and s⁴ is the three factors' product. Assumes nothing.
+-- `survival::finding::fourth` meets its contract: no product wraps, and together they are s⁴; with the opening immersed nothing is. Assumes nothing.
 use borrow.Author.Needs.{needs}
-use mathlib.Core.Logic.{⊎-elim}
-use mathlib.Core.Path.{_≡_, sym}
-use Prim.Native.Nat.{ℕ, _≤_}
+use Prim.Native.Nat.{ℕ, _*_, _≤_}
+use mathlib.Core.Path.{sym, _∙_}
 use native.Mathlib.Nat.{mul-le-mul}
 use native.Mathlib.Omega.{arith}
-use Rattle.solas.specs.Survival.{k}
-use Rattle.numbers.specs.Ratio.{ratioOf}
-use Rattle.records.specs.declared.Ratio.{Ratio}
-use Rattle.survival.proofs.Ratios.{k-bounds, fourth-ratio}
+use mir.Syntax.{w64}
+use mir.ValLaws.{toZ-ofZ}
+use Rattle.solas.proofs.Survival.{lost-if-immersed, kept-if-dry}
+use Rattle.survival.proofs.Thirds.{fourth-thirds, nothing-thirds}
 use Rattle.survival.proofs.finding.fourth.Statement.{statement}
 use Rattle.survival.proofs.finding.fourth.Tie as tie
+
+is-immersed-requires : tie.Need-is-immersed-requires
+is-immersed-requires c κs = search needs
+
+returns : tie.Need-returns
+returns c =
+    let s = c .before .before in
+    let i = rw (toZ-ofZ w64 (s .args .opening) (s .fits .opening)) at (c .before .is-immersed .ensures) in
+    rw (lost-if-immersed (s .args .opening) _ (sym i ∙ c .if1 .taken)) nothing-thirds
 
 lesser-requires : tie.Need-lesser-requires
 lesser-requires c κs = search needs
@@ -18,35 +26,61 @@ lesser-requires c κs = search needs
 lesser-requires-2 : tie.Need-lesser-requires-2
 lesser-requires-2 c κs = search needs
 
-heel-factor-requires : tie.Need-heel-factor-requires
-heel-factor-requires c κs = search needs
+sub-lesser : tie.Need-sub-lesser
+sub-lesser c = search needs
 
-heeled : (e : ℕ) {r : Ratio} → r ≡ ratioOf (k e) → (r .num ≤ 250000) × (r .den ≤ 250000)
-heeled e h = let b = k-bounds e in rw h (⊎-elim (λ d. omega (arith, b .0)) (λ d. omega (arith, b .0)) (b .1))
+above-requires : tie.Need-above-requires
+above-requires c κs = search needs
 
-mul-t7 : tie.Need-mul-t7
-mul-t7 c =
-    let g : c .before .before .lesser .result ≤ 10000 = omega arith in
-    let t : c .before .lesser2 .result ≤ 10000 = omega arith in
-    omega (arith, mul-le-mul g t)
+lesser-requires-3 : tie.Need-lesser-requires-3
+lesser-requires-3 c κs = search needs
 
-mul-t8 : tie.Need-mul-t8
-mul-t8 c =
-    let s = c .before in
-    let g : s .before .before .lesser .result ≤ 10000 = omega arith in
-    let t : s .before .lesser2 .result ≤ 10000 = omega arith in
-    omega (arith, mul-le-mul (mul-le-mul g t) (heeled _ (s .heel-factor .ensures) .0))
+-- lever, range and what is left of the heel, each at most its cap, multiplied
+record Bounded (g t l : ℕ) : Type 0 where
+  pair : g * t ≤ 120 * 1600
+  square : l * l ≤ 500 * 500
+  all : g * t * (l * l) ≤ 120 * 1600 * (500 * 500)
 
-mul-t9 : tie.Need-mul-t9
-mul-t9 c = omega (arith, heeled _ (c .before .before .heel-factor .ensures) .1)
+bounded : (c : tie.After-lesser3) → Bounded (c .before .before .before .lesser .result) (c .before .before .lesser2 .result) (c .lesser3 .result)
+bounded c =
+    let g : c .before .before .before .lesser .result ≤ 120 = omega arith in
+    let t : c .before .before .lesser2 .result ≤ 1600 = omega arith in
+    let l : c .lesser3 .result ≤ 500 = omega arith in
+    record { pair = mul-le-mul g t; square = mul-le-mul l l; all = mul-le-mul (mul-le-mul g t) (mul-le-mul l l) }
 
-returns : tie.Need-returns
-returns c =
-    let s = c .before .before in
-    let a = s .before .before .before .args in
-    rw (s .before .before .lesser .ensures, s .before .lesser2 .ensures, s .heel-factor .ensures) (sym (fourth-ratio (a .lever) (a .range) (a .heel)))
+mul-result : tie.Need-mul-result
+mul-result c = omega (arith, bounded c .pair)
+
+mul-result-2 : tie.Need-mul-result-2
+mul-result-2 c = omega (arith, bounded c .square)
+
+mul-result-3 : tie.Need-mul-result-3
+mul-result-3 c = omega (arith, bounded c .all)
+
+mul-result-4 : tie.Need-mul-result-4
+mul-result-4 c = omega (arith, bounded c .all)
+
+returns-2 : tie.Need-returns-2
+returns-2 c =
+    let dry = c .before .before .before .before in
+    let s = dry .before .before in
+    let i = rw (toZ-ofZ w64 (s .args .opening) (s .fits .opening)) at (dry .before .is-immersed .ensures) in
+    rw (kept-if-dry (s .args .opening) _ (sym i ∙ dry .if1 .left), c .before .before .before .lesser .ensures, c .before .before .lesser2 .ensures, c .lesser3 .ensures, c .before .above .ensures)
+    (fourth-thirds (s .args .lever) (s .args .range) (s .args .heel))
 
 pub fourth-spec : {M : Type 1} → statement M
 fourth-spec =
     tie.close
-    (tie.spec lesser-requires lesser-requires-2 heel-factor-requires mul-t7 mul-t8 mul-t9 returns)
+    (tie.spec
+    is-immersed-requires
+    returns
+    lesser-requires
+    lesser-requires-2
+    sub-lesser
+    above-requires
+    lesser-requires-3
+    mul-result
+    mul-result-2
+    mul-result-3
+    mul-result-4
+    returns-2)

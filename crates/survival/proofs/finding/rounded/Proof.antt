@@ -1,10 +1,11 @@
--- `survival::finding::rounded` meets its contract: the roots are those of 10¹⁶ times the fraction, rounded the same way. Assumes nothing.
+-- `survival::finding::rounded` meets its contract: the roots are those of 10¹⁶ times the number, rounded the same way. Assumes nothing.
 use borrow.Author.Needs.{needs}
 use native.Mathlib.Omega.{arith}
 use Rattle.roots.proofs.Root.{below-next}
 use Rattle.roots.proofs.RootValue.{down-value, up-value}
 use Rattle.survival.specs.Survival.{roundedOf}
-use Rattle.survival.proofs.Factors.{scaled-fits, scaled-near, same-roots}
+use Rattle.survival.proofs.Factors.{same-roots}
+use Rattle.survival.proofs.Thirds.{scaled-fits, scaled-near}
 use Rattle.survival.proofs.finding.rounded.Statement.{statement}
 use Rattle.survival.proofs.finding.rounded.Tie as tie
 

@@ -12,6 +12,7 @@ use Rattle.laws.proofs.Lists.{three-same}
 use Rattle.records.specs.declared.Finding.{Finding}
 use Rattle.records.specs.declared.Survival.{Survival}
 use Rattle.survival.specs.Survival.{nothing, survivalOf, survivalsOf}
+use Rattle.survival.proofs.Worse.{counts-alone}
 use Rattle.survival.proofs.finding.survivals.Statement.{statement}
 use Rattle.survival.proofs.finding.survivals.Tie as tie
 
@@ -38,10 +39,10 @@ of-record : (kind : ℕ) (f : Finding) {s : Survival} → mag (f .opening) < 2 ^
     s ≡ survivalOf kind (record { lever = f .lever; range = f .range; heel = f .heel; opening = toZ w64 (ofZ w64 (f .opening)); given = f .given }) → s ≡ survivalOf kind f
 of-record kind f h e = let back = toZ-ofZ w64 (f .opening) (record { sfits = h }) in rw back at e
 
-in-order : (kind : ℕ) (fs : List Finding) {s p l : Survival} →
+in-order : (kind : ℕ) (fs : List Finding) {s p l : Survival} → (kind ≡ 5 → ⊥) →
     s ≡ survivalOf kind (getD fs 0 nothing) → p ≡ survivalOf kind (getD fs 1 nothing) → l ≡ survivalOf kind (getD fs 2 nothing) → (s ∷ p ∷ l ∷ []) ≡ survivalsOf kind fs
 unfolding survivalsOf
-in-order kind fs e f g = three-same e f g
+in-order kind fs n e f g = rw (counts-alone kind fs 0 n, counts-alone kind fs 1 n, counts-alone kind fs 2 n) (three-same e f g)
 
 returns : tie.Need-returns
 returns c =
@@ -49,7 +50,7 @@ returns c =
     let partial = light .before .before in
     let deepest = partial .before .before in
     let a = deepest .before .before .before .before .args in
-    in-order (a .kind) (a .t2)
+    in-order (a .kind) (a .t2) (deepest .before .before .before .before .pre)
     (of-record (a .kind) (getD (a .t2) 0 nothing) (deepest .struct-told .given .1 .1 .1 .0 .1) (partial .before .survival .ensures))
     (of-record (a .kind) (getD (a .t2) 1 nothing) (partial .struct-told2 .given .1 .1 .1 .0 .1) (light .before .survival2 .ensures))
     (of-record (a .kind) (getD (a .t2) 2 nothing) (light .struct-told3 .given .1 .1 .1 .0 .1) (c .survival3 .ensures))

@@ -1,0 +1,71 @@
+-- `survival::finding::worse_survivals` meets its contract, draught by draught. Assumes nothing.
+use borrow.Author.Needs.{needs}
+use Prim.Native.Nat.{ℕ}
+use mathlib.Core.Path.{_≡_, refl}
+use mathlib.Core.List.{List, [], _∷_, _++_}
+use lib.Dec.{lit<}
+use lib.ListN.{length, getD}
+use Rattle.laws.proofs.Lists.{three-same}
+use Rattle.records.specs.declared.Finding.{Finding}
+use Rattle.records.specs.declared.Survival.{Survival}
+use Rattle.survival.specs.Survival.{nothing, survivalOf, worseOf, survivalsOf}
+use Rattle.survival.proofs.Worse.{counts-of-two}
+use Rattle.survival.proofs.finding.worse_survivals.Statement.{statement}
+use Rattle.survival.proofs.finding.worse_survivals.Tie as tie
+
+array-copy-out-deepest : tie.Need-array-copy-out-deepest
+array-copy-out-deepest c = search needs
+
+array-copy-out-partial : tie.Need-array-copy-out-partial
+array-copy-out-partial c = search needs
+
+array-copy-out-light : tie.Need-array-copy-out-light
+array-copy-out-light c = search needs
+
+array-copy-out-deepest-again : tie.Need-array-copy-out-deepest-again
+array-copy-out-deepest-again c = search needs
+
+array-copy-out-partial-again : tie.Need-array-copy-out-partial-again
+array-copy-out-partial-again c = search needs
+
+array-copy-out-light-again : tie.Need-array-copy-out-light-again
+array-copy-out-light-again c = search needs
+
+worse-requires : tie.Need-worse-requires
+worse-requires c κs = search needs
+
+worse-requires-2 : tie.Need-worse-requires-2
+worse-requires-2 c κs = search needs
+
+worse-requires-3 : tie.Need-worse-requires-3
+worse-requires-3 c κs = search needs
+
+module _ (first second : List Finding) (n : length first ≡ 3) where
+  -- at draught j
+  abbrev worseAt : ℕ → Survival
+  worseAt j = survivalOf 5 (worseOf (getD first j nothing) (getD second j nothing))
+
+  in-order : {s p l : Survival} → s ≡ worseAt 0 → p ≡ worseAt 1 → l ≡ worseAt 2 → (s ∷ p ∷ l ∷ []) ≡ survivalsOf 5 (first ++ second)
+  unfolding survivalsOf
+  in-order e f g =
+      rw (counts-of-two first second 0 n (lit< tt), counts-of-two first second 1 n (lit< tt), counts-of-two first second 2 n (lit< tt)) (three-same e f g)
+
+returns : tie.Need-returns
+returns c =
+    let start = c .before .before .before .before .before .before .before .before .before in
+    in-order (start .args .t1) (start .args .t2) (start .good .0 .1 .0 .1) (c .before .before .worse .ensures) (c .before .worse2 .ensures) (c .worse3 .ensures)
+
+pub worse-survivals-spec : {M : Type 1} → statement M
+worse-survivals-spec =
+    tie.close
+    (tie.spec
+    array-copy-out-deepest
+    array-copy-out-partial
+    array-copy-out-light
+    array-copy-out-deepest-again
+    array-copy-out-partial-again
+    array-copy-out-light-again
+    worse-requires
+    worse-requires-2
+    worse-requires-3
+    returns)

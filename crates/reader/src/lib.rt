@@ -135,7 +135,7 @@ pub fn judge(input: &[u8], kept: &mut [u8]) -> Judgement
     ensures rows { λ r. ⌜ Keeps (reading (now (input .entry))) (now (kept .exit)) ⌝ }
 {
     let n = input.len();
-    if 32768 < n {
+    if 65536 < n {
         return refusal(1, 0);
     }
     if n == 0 {

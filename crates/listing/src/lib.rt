@@ -8,7 +8,7 @@ ghost use Rattle.casefile.specs.Kept.{placeWidth, keptRows};
 ghost use Rattle.listing.specs.Survivals.{threeNumbers, survivalNumbers, survivalsFrom};
 use printing::mark_byte;
 use records::Survival;
-use survival::finding::survivals;
+use rows::survivals::survivals_at;
 
 fn put_three(first: u64, second: u64, third: u64, out: &mut [u64], at: usize)
     requires { ⌜ at + 3 ≤ length (now out) ⌝ }
@@ -48,8 +48,7 @@ pub fn list(kept: &[u8], rows: usize, out: &mut [u64])
     let mut i: usize = 0;
     while i < rows {
         let head = rowlines::kept::head_at(kept, i);
-        let results = rowlines::kept::results_at(kept, i);
-        let ss = survivals(head.kind, results);
+        let ss = survivals_at(kept, i, head.kind);
         put_survivals(ss, out, 9 * i);
         i += 1;
     }

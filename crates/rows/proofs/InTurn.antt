@@ -3,9 +3,8 @@ use Prim.Native.Nat.{ℕ, suc, _+_, _-_, _*_, _^_, _≤_, _<_}
 use mathlib.Core.Path.{_≡_, refl, sym, _∙_, ap, subst}
 use mathlib.Core.List.{List, [], _∷_, _++_, append-assoc, append-nil}
 use native.Mathlib.Omega.{arith}
+use lib.ListN.{length}
 use Rattle.records.specs.declared.Hull.{Hull}
-use Rattle.records.specs.declared.Finding.{Finding}
-use Rattle.records.specs.declared.RowHead.{RowHead}
 use Rattle.records.specs.declared.Trio.{Trio}
 use Rattle.solas.specs.Count.{added, taken}
 use Rattle.solas.specs.Index.{draughts}
@@ -16,7 +15,7 @@ use Rattle.indices.specs.Index.{partials, plus, Share, Given, Within}
 use Rattle.indices.proofs.Rows.{row-weights}
 use Rattle.indices.proofs.Sums.{partials-snoc, row-within, plus-within, none-within, within-wider}
 use Rattle.casefile.specs.Record.{Row}
-use Rattle.casefile.specs.Kept.{keptRow, keptRows}
+use Rattle.casefile.specs.Kept.{placeWidth, keptRow, keptRows}
 use Rattle.rows.specs.declared.Standing.{Standing}
 use Rattle.rows.specs.declared.Running.{Running}
 use Rattle.rows.specs.Standing.{nowhere, stands}
@@ -95,18 +94,21 @@ module _ (h : Hull) (kept : List ℕ) (rows : ℕ) where
     pub may-stand : Stood h there × Given (row .results) × Follow h there others
     may-stand = subst (Follow h (s .standing)) next-is (g .follow)
 
-    pub may-enter : {t ds : List ℕ} {head : RowHead} {results : List Finding} → Ready h t → ds ≡ draughts (h .deepest) (h .light) → head ≡ row .head → results ≡ row .results → rows ≤ 500 →
-        Ready h t × (ds ≡ draughts (h .deepest) (h .light)) × Stood h (stands (s .standing) head) × Given results × (s .part ≡ partAt h (s .standing)) × Few (s .part .group) × Within (2 ^ 61) (s .sums)
-    may-enter r d e f few =
-        (r, d, rw e (may-stand .0), rw f (may-stand .1), g .part, g .few, within-wider (omega arith) (g .small))
+    pub may-enter : {t ds : List ℕ} → Ready h t → ds ≡ draughts (h .deepest) (h .light) → rows ≤ 500 → placeWidth * rows ≤ length kept →
+        Ready h t
+        × (ds ≡ draughts (h .deepest) (h .light))
+        × (placeWidth * i + placeWidth ≤ length kept)
+        × Stood h there
+        × Given (row .results)
+        × (s .part ≡ partAt h (s .standing))
+        × Few (s .part .group)
+        × Within (2 ^ 61) (s .sums)
+    may-enter r d few room =
+        (r, d, omega arith, may-stand .0, may-stand .1, g .part, g .few, within-wider (omega arith) (g .small))
 
-    module _ (ready : (y : Standing) → Stood h y → Share (shareAt h y)) {head : RowHead} {results : List Finding} {t : Running}
-        (here : head ≡ row .head) (found : results ≡ row .results) (step : t ≡ entered h s head results) (still : Few (t .part .group)) where
+    module _ (ready : (y : Standing) → Stood h y → Share (shareAt h y)) {t : Running} (after : t ≡ entered h s (row .head) (row .results)) (still : Few (t .part .group)) where
       abbrev adds : Trio
       adds = addsAt h there (row .results)
-
-      after : t ≡ entered h s (row .head) (row .results)
-      after = rw (← here, ← found) step
 
       pub stands-there : t .standing ≡ there
       unfolding entered

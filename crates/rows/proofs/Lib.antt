@@ -1,5 +1,6 @@
 pub mod Stands
 pub mod Parts
+pub mod OfSets
 pub mod Entering
 pub mod InTurn
 pub mod OnSheet

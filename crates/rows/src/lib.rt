@@ -8,6 +8,7 @@ use records::Trio;
 pub mod lines; // the rows in turn: their lines in a report
 mod row; // a row after those before it
 pub mod sheet; // the rows in turn: their shares on the sheet
+pub mod survivals; // the survivals of a row as it is kept
 
 // A row's head, the penetration of the layer before its own (0 in the group's first), and the height of the row below it (0 in
 // the layer's first).

@@ -24,9 +24,7 @@ pub fn print(kept: &[u8], rows: usize, h: Hull, t: &[u64], out: &mut [u8], from:
     let mut s = begin();
     let mut i: usize = 0;
     while i < rows {
-        let head = rowlines::kept::head_at(kept, i);
-        let results = rowlines::kept::results_at(kept, i);
-        s = enter(t, h, at, s, head, results);
+        s = enter(t, h, at, s, kept, i);
         let part = s.part;
         let share = part.share;
         let survivals = s.survivals;

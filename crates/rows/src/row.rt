@@ -1,11 +1,13 @@
 // A row after those before it: where it stands, its share, its survivals, and what it adds.
 ghost use mathlib.Core.Path.{_≡_};
-ghost use Prim.Native.Nat.{_^_};
+ghost use Prim.Native.Nat.{_+_, _*_, _^_, _≤_};
+ghost use lib.ListN.{length};
 ghost use Rattle.solas.specs.Index.{draughts};
 ghost use Rattle.spans.specs.Hull.{Hulled};
 ghost use Rattle.spans.specs.Table.{tableOf};
 ghost use Rattle.indices.specs.Index.{Given, Within};
 ghost use Rattle.rows.specs.Standing.{stands};
+ghost use Rattle.casefile.specs.Kept.{placeWidth, keptRow};
 ghost use Rattle.casefile.specs.Order.{sameLayer};
 ghost use Rattle.chances.specs.Share.{Few};
 ghost use Rattle.rows.specs.Work.{sumsAt, partAt};
@@ -14,17 +16,17 @@ ghost use Rattle.rows.specs.Running.{Stood, Ready, begun, entered};
 use super::Part;
 use super::Running;
 use super::Standing;
+use super::survivals::survivals_at;
 use chances::Sums;
 use chances::row_ends;
 use groups::sums_at;
 use records::Ends;
-use records::Finding;
 use records::Hull;
 use records::Marks;
 use records::RowHead;
 use records::Survival;
 use records::Trio;
-use survival::finding::survivals;
+use rowlines::kept::head_at;
 
 // Where a row stands after one that stood at y.
 fn next(y: Standing, r: RowHead) -> Standing
@@ -133,25 +135,26 @@ pub fn begin() -> Running
     }
 }
 
-// One row more.
+// One row more: the one that is kept at place i.
 pub fn enter(
     t: &[u64],
     h: Hull,
     at: [u64; 3],
     s: Running,
-    head: RowHead,
-    results: [Finding; 3],
+    kept: &[u8],
+    i: usize,
 ) -> Running
-    requires { ⌜ Ready h (now t) × (at ≡ draughts (h .deepest) (h .light)) × Stood h (stands (s .standing) head) × Given results × (s .part ≡ partAt h (s .standing)) × Few (s .part .group) × Within (2 ^ 61) (s .sums) ⌝ }
-    ensures { λ r. ⌜ (r ≡ entered h s head results) × Few (r .part .group) ⌝ }
+    requires { ⌜ Ready h (now t) × (at ≡ draughts (h .deepest) (h .light)) × (placeWidth * i + placeWidth ≤ length (now kept)) × Stood h (stands (s .standing) (keptRow (now kept) i .head)) × Given (keptRow (now kept) i .results) × (s .part ≡ partAt h (s .standing)) × Few (s .part .group) × Within (2 ^ 61) (s .sums) ⌝ }
+    ensures { λ r. ⌜ (r ≡ entered h s (keptRow (now (kept .entry)) i .head) (keptRow (now (kept .entry)) i .results)) × Few (r .part .group) ⌝ }
 {
+    let head = head_at(kept, i);
     let y = s.standing;
     let last = s.part;
     let so_far = s.sums;
     let z = next(y, head);
     let part = part_after(t, h, y, last, z);
     let share = part.share;
-    let survivals = survivals(head.kind, results);
+    let survivals = survivals_at(kept, i, head.kind);
     let adds = sums::row(share, z.below, head.height, at, survivals);
     let sums = sums::sum(so_far, adds);
     Running {

@@ -22,9 +22,7 @@ pub fn fill(kept: &[u8], rows: usize, h: Hull, t: &[u64], sheet: &mut [u64]) -> 
     let mut s = begin();
     let mut i: usize = 0;
     while i < rows {
-        let head = rowlines::kept::head_at(kept, i);
-        let results = rowlines::kept::results_at(kept, i);
-        s = enter(t, h, at, s, head, results);
+        s = enter(t, h, at, s, kept, i);
         let part = s.part;
         let share = part.share;
         let k = 2 * i;

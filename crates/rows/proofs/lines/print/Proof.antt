@@ -30,62 +30,54 @@ loop-holds c =
       no-line (r .args .h) (r .args .kept .now) (r .args .rows) (r .args .from) (r .args .out .now) (unfold begun in ap (λ (s : Running). s .standing) (c .begin .ensures)),
     )
 
-head-at-requires : tie.Need-head-at-requires Inv-loop μ-loop
-head-at-requires c κs = omega (arith, c .loop-test .taken, c .before .before .before .before .before .before .before .pre .3)
-
-results-at-requires : tie.Need-results-at-requires Inv-loop μ-loop
-results-at-requires c κs = omega (arith, c .before .loop-test .taken, c .before .before .before .before .before .before .before .before .pre .3)
-
 enter-requires : tie.Need-enter-requires Inv-loop μ-loop
 enter-requires c κs =
-    let l = c .before .before .before in
+    let l = c .before in
     let r = l .before .before .before .before .before .before in
-    may-enter (r .args .h) (r .args .kept .now) (r .args .rows) (l .loop .s) (l .loop .i) (l .loop .inv .0) (c .before .before .loop-test .taken) (r .pre .0) (l .before .before .three-draughts .ensures) (c .before .head-at .ensures) (c .results-at .ensures) (r .pre .2)
+    may-enter (r .args .h) (r .args .kept .now) (r .args .rows) (l .loop .s) (l .loop .i) (l .loop .inv .0) (c .loop-test .taken) (r .pre .0) (l .before .before .three-draughts .ensures) (r .pre .2) (r .pre .3)
 
 mul-put-row : tie.Need-mul-put-row Inv-loop μ-loop
 mul-put-row c =
-    let t = c .before .before .before .before .before .before .before in
+    let t = c .before .before .before .before .before in
     let r = t .before .before .before .before .before .before .before in
     omega (arith, t .loop-test .taken, r .pre .2)
 
 add-put-row : tie.Need-add-put-row Inv-loop μ-loop
 add-put-row c =
-    let t = c .before .before .before .before .before .before .before in
+    let t = c .before .before .before .before .before in
     let r = t .before .before .before .before .before .before .before in
     omega (arith, t .loop-test .taken, r .pre .4, t .before .loop .inv .1 .long)
 
 put-row-requires : tie.Need-put-row-requires Inv-loop μ-loop
 put-row-requires c κs =
-    let t = c .before .before .before .before .before .before .before in
+    let t = c .before .before .before .before .before in
     let r = t .before .before .before .before .before .before .before in
     omega (arith, t .loop-test .taken, r .pre .4, t .before .loop .inv .1 .long)
 
 add-i : tie.Need-add-i Inv-loop μ-loop
 add-i c =
-    let t = c .before .before .before .before .before .before .before .before .before .before in
+    let t = c .before .before .before .before .before .before .before .before in
     let r = t .before .before .before .before .before .before .before in
     omega (arith, t .loop-test .taken, r .pre .2)
 
 loop-less : tie.Need-loop-less Inv-loop μ-loop
-loop-less c = omega (arith, c .before .before .before .before .before .before .before .before .before .before .loop-test .taken)
+loop-less c = omega (arith, c .before .before .before .before .before .before .before .before .loop-test .taken)
 
 loop-again : tie.Need-loop-again Inv-loop μ-loop
 loop-again c =
     let put = c .before .before in
     let enter = put .before .before .before .before .before in
-    let t = enter .before .before .before in
+    let t = enter .before in
     let l = t .before in
     let r = l .before .before .before .before .before .before in
     let more = t .loop-test .taken in
-    let here = enter .before .before .head-at .ensures in
-    let found = enter .before .results-at .ensures in
     let step = enter .enter .ensures in
     let g = l .loop .inv .0 in (
-      goes-on (r .args .h) (r .args .kept .now) (r .args .rows) (l .loop .s) (l .loop .i) g more (r .pre .0 .shares) here found (step .0) (step .1),
+      goes-on (r .args .h) (r .args .kept .now) (r .args .rows) (l .loop .s) (l .loop .i) g more (r .pre .0 .shares) (step .0) (step .1),
       one-line-more (r .args .h) (r .args .kept .now) (r .args .rows) (r .args .from) (r .args .out .now) (l .loop .s .standing) (l .loop .i) (l .loop .inv .1) more
-          (stands-there (r .args .h) (r .args .kept .now) (r .args .rows) (l .loop .s) (l .loop .i) g more (r .pre .0 .shares) here found (step .0) (step .1))
-          (part-there (r .args .h) (r .args .kept .now) (r .args .rows) (l .loop .s) (l .loop .i) g more (r .pre .0 .shares) here found (step .0) (step .1))
-          (survivals-there (r .args .h) (r .args .kept .now) (r .args .rows) (l .loop .s) (l .loop .i) g more (r .pre .0 .shares) here found (step .0) (step .1))
+          (stands-there (r .args .h) (r .args .kept .now) (r .args .rows) (l .loop .s) (l .loop .i) g more (r .pre .0 .shares) (step .0) (step .1))
+          (part-there (r .args .h) (r .args .kept .now) (r .args .rows) (l .loop .s) (l .loop .i) g more (r .pre .0 .shares) (step .0) (step .1))
+          (survivals-there (r .args .h) (r .args .kept .now) (r .args .rows) (l .loop .s) (l .loop .i) g more (r .pre .0 .shares) (step .0) (step .1))
           (put .put-row .ensures),
     )
 
@@ -113,8 +105,6 @@ print-spec =
     three-draughts-requires
     begin-requires
     loop-holds
-    head-at-requires
-    results-at-requires
     enter-requires
     mul-put-row
     add-put-row

@@ -31,55 +31,47 @@ loop-holds c =
       none-on-sheet (r .args .h) (r .args .kept .now) (r .args .rows) (r .args .sheet .now) (unfold begun in ap (λ (s : Running). s .standing) (c .begin .ensures)),
     )
 
-head-at-requires : tie.Need-head-at-requires Inv-loop μ-loop
-head-at-requires c κs = omega (arith, c .loop-test .taken, c .before .before .before .before .before .before .before .pre .3)
-
-results-at-requires : tie.Need-results-at-requires Inv-loop μ-loop
-results-at-requires c κs = omega (arith, c .before .loop-test .taken, c .before .before .before .before .before .before .before .before .pre .3)
-
 enter-requires : tie.Need-enter-requires Inv-loop μ-loop
 enter-requires c κs =
-    let r = c .before .before .before .before .before .before .before .before .before in
-    let l = c .before .before .before in
-    may-enter (r .args .h) (r .args .kept .now) (r .args .rows) (l .loop .s) (l .loop .i) (l .loop .inv .0) (c .before .before .loop-test .taken) (r .pre .0) (l .before .before .three-draughts .ensures) (c .before .head-at .ensures) (c .results-at .ensures) (r .pre .2)
+    let l = c .before in
+    let r = l .before .before .before .before .before .before in
+    may-enter (r .args .h) (r .args .kept .now) (r .args .rows) (l .loop .s) (l .loop .i) (l .loop .inv .0) (c .loop-test .taken) (r .pre .0) (l .before .before .three-draughts .ensures) (r .pre .2) (r .pre .3)
 
 mul-k : tie.Need-mul-k Inv-loop μ-loop
-mul-k c = omega (arith, c .before .before .before .before .before .loop-test .taken, c .before .before .before .before .before .before .before .before .before .before .before .before .pre .2)
+mul-k c = omega (arith, c .before .before .before .loop-test .taken, c .before .before .before .before .before .before .before .before .before .before .pre .2)
 
 mul-sheet : tie.Need-mul-sheet Inv-loop μ-loop
-mul-sheet c = omega (arith, c .before .before .before .before .before .loop-test .taken, c .before .before .before .before .before .before .before .before .before .before .before .before .pre .2)
+mul-sheet c = omega (arith, c .before .before .before .loop-test .taken, c .before .before .before .before .before .before .before .before .before .before .pre .2)
 
 slice-write-sheet : tie.Need-slice-write-sheet Inv-loop μ-loop
-slice-write-sheet c = omega (arith, c .before .before .before .before .before .loop-test .taken, c .before .before .before .before .before .before .before .before .before .before .before .before .pre .4, c .before .before .before .before .before .before .loop .inv .1 .long)
+slice-write-sheet c = omega (arith, c .before .before .before .loop-test .taken, c .before .before .before .before .before .before .before .before .before .before .pre .4, c .before .before .before .before .loop .inv .1 .long)
 
 add-sheet : tie.Need-add-sheet Inv-loop μ-loop
-add-sheet c = omega (arith, c .before .before .before .before .before .loop-test .taken, c .before .before .before .before .before .before .before .before .before .before .before .before .pre .2)
+add-sheet c = omega (arith, c .before .before .before .loop-test .taken, c .before .before .before .before .before .before .before .before .before .before .pre .2)
 
 mul-sheet-2 : tie.Need-mul-sheet-2 Inv-loop μ-loop
-mul-sheet-2 c = omega (arith, c .before .before .before .before .before .loop-test .taken, c .before .before .before .before .before .before .before .before .before .before .before .before .pre .2)
+mul-sheet-2 c = omega (arith, c .before .before .before .loop-test .taken, c .before .before .before .before .before .before .before .before .before .before .pre .2)
 
 slice-write-sheet-2 : tie.Need-slice-write-sheet-2 Inv-loop μ-loop
-slice-write-sheet-2 c = lt-length-set (c .before .before .before .before .before .before .loop .sheet) _ _ (omega (arith, c .before .before .before .before .before .loop-test .taken, c .before .before .before .before .before .before .before .before .before .before .before .before .pre .4, c .before .before .before .before .before .before .loop .inv .1 .long))
+slice-write-sheet-2 c = lt-length-set (c .before .before .before .before .loop .sheet) _ _ (omega (arith, c .before .before .before .loop-test .taken, c .before .before .before .before .before .before .before .before .before .before .pre .4, c .before .before .before .before .loop .inv .1 .long))
 
 add-i : tie.Need-add-i Inv-loop μ-loop
-add-i c = omega (arith, c .before .before .before .before .before .loop-test .taken, c .before .before .before .before .before .before .before .before .before .before .before .before .pre .2)
+add-i c = omega (arith, c .before .before .before .loop-test .taken, c .before .before .before .before .before .before .before .before .before .before .pre .2)
 
 loop-less : tie.Need-loop-less Inv-loop μ-loop
-loop-less c = omega (arith, c .before .before .before .before .before .loop-test .taken)
+loop-less c = omega (arith, c .before .before .before .loop-test .taken)
 
 loop-again : tie.Need-loop-again Inv-loop μ-loop
 loop-again c =
-    let r = c .before .before .before .before .before .before .before .before .before .before .before .before in
-    let l = c .before .before .before .before .before .before in
-    let more = c .before .before .before .before .before .loop-test .taken in
-    let here = c .before .before .before .before .head-at .ensures in
-    let found = c .before .before .before .results-at .ensures in
+    let r = c .before .before .before .before .before .before .before .before .before .before in
+    let l = c .before .before .before .before in
+    let more = c .before .before .before .loop-test .taken in
     let step = c .before .before .enter .ensures in
     let g = l .loop .inv .0 in (
-      goes-on (r .args .h) (r .args .kept .now) (r .args .rows) (l .loop .s) (l .loop .i) g more (r .pre .0 .shares) here found (step .0) (step .1),
+      goes-on (r .args .h) (r .args .kept .now) (r .args .rows) (l .loop .s) (l .loop .i) g more (r .pre .0 .shares) (step .0) (step .1),
       more-on-sheet (r .args .h) (r .args .kept .now) (r .args .rows) (r .args .sheet .now) (l .loop .s .standing) (l .loop .i) (l .loop .inv .1) more
-          (stands-there (r .args .h) (r .args .kept .now) (r .args .rows) (l .loop .s) (l .loop .i) g more (r .pre .0 .shares) here found (step .0) (step .1))
-          (part-there (r .args .h) (r .args .kept .now) (r .args .rows) (l .loop .s) (l .loop .i) g more (r .pre .0 .shares) here found (step .0) (step .1))
+          (stands-there (r .args .h) (r .args .kept .now) (r .args .rows) (l .loop .s) (l .loop .i) g more (r .pre .0 .shares) (step .0) (step .1))
+          (part-there (r .args .h) (r .args .kept .now) (r .args .rows) (l .loop .s) (l .loop .i) g more (r .pre .0 .shares) (step .0) (step .1))
           refl,
     )
 
@@ -107,8 +99,6 @@ fill-spec =
     three-draughts-requires
     begin-requires
     loop-holds
-    head-at-requires
-    results-at-requires
     enter-requires
     mul-k
     mul-sheet

@@ -6,8 +6,6 @@ use native.Mathlib.Omega.{arith}
 use lib.ListN.{length, getD, set, drop, length-append}
 use lib.Seq.{sets}
 use Rattle.laws.proofs.Pieces.{Put, put-none, put-more, put-all, put-in-front}
-use Rattle.records.specs.declared.Finding.{Finding}
-use Rattle.records.specs.declared.RowHead.{RowHead}
 use Rattle.records.specs.declared.Survival.{Survival}
 use Rattle.printing.specs.Marks.{markByte}
 use Rattle.survival.specs.Survival.{noSurvival, survivalsOf}
@@ -16,7 +14,7 @@ use Rattle.casefile.specs.Kept.{keptRow}
 use Rattle.casefile.proofs.Kept.{length-kept}
 use Rattle.listing.specs.Survivals.{threeNumbers, survivalNumbers, survivalsFrom}
 -- checked first, so that a definition that tells other numbers is refused there
-use Rattle.listing.proofs.Values.{three-rows}
+use Rattle.listing.proofs.Values.{four-rows}
 use Rattle.rows.proofs.InTurn.{left, all, all-left, one-of-them, none-left}
 
 pub length-survival : (ss : List Survival) → length (survivalNumbers ss) ≡ 9
@@ -58,16 +56,16 @@ module _ (kept : List ℕ) (rows : ℕ) (first : List ℕ) where
   pub no-number : AsNumbers first 0
   no-number = rw (all-left kept rows) (put-none 9 0 first whole)
 
-  pub nine-more : (i : ℕ) {out next : List ℕ} {head : RowHead} {results : List Finding} {ss : List Survival} → AsNumbers out i → i < rows →
-      head ≡ keptRow kept i .head → results ≡ keptRow kept i .results → ss ≡ survivalsOf (head .kind) results → next ≡ sets out (9 * i) (survivalNumbers ss) → AsNumbers next (i + 1)
+  pub nine-more : (i : ℕ) {out next : List ℕ} {ss : List Survival} → AsNumbers out i → i < rows →
+      ss ≡ survivalsOf (keptRow kept i .head .kind) (keptRow kept i .results) → next ≡ sets out (9 * i) (survivalNumbers ss) → AsNumbers next (i + 1)
   unfolding survivalsFrom
-  nine-more i {out} p more e f q put =
+  nine-more i {out} p more q put =
       let row = keptRow kept i in
       let ss = survivalsOf (row .head .kind) (row .results) in
       let place : 0 + 9 * i ≡ 9 * i = omega arith in
       put-more 9 0 first whole (survivalNumbers ss)
       (subst (λ rs. Put 9 0 first whole out (survivalsFrom rs) i) (one-of-them kept rows i more) p)
-      (length-survival ss) (put ∙ rw (q, e, f, place) refl)
+      (length-survival ss) (put ∙ rw (q, place) refl)
 
   pub all-numbers : (i : ℕ) {out : List ℕ} → AsNumbers out i → rows ≤ i → 9 * rows ≤ length first → out ≡ whole ++ drop (9 * rows) first
   unfolding survivalsFrom

@@ -1,7 +1,9 @@
 -- `listing::list` meets its contract: the numbers of the rows done, with those of the rows left, are those of all. Assumes nothing.
 use Prim.Native.Nat.{_-_}
+use mathlib.Core.Path.{ap}
 use borrow.Author.Needs.{needs}
 use native.Mathlib.Omega.{arith}
+use Rattle.records.specs.declared.RowHead.{RowHead}
 use Rattle.listing.proofs.AsNumbers.{AsNumbers, no-number, nine-more, all-numbers}
 use Rattle.listing.proofs.list.Statement.{statement}
 use Rattle.listing.proofs.list.Tie as tie
@@ -18,44 +20,39 @@ loop-holds c = let r = c .before .before in no-number (r .args .kept .now) (r .a
 head-at-requires : tie.Need-head-at-requires Inv-loop μ-loop
 head-at-requires c κs = omega (arith, c .loop-test .taken, c .before .before .before .before .pre .0)
 
-results-at-requires : tie.Need-results-at-requires Inv-loop μ-loop
-results-at-requires c κs = omega (arith, c .before .loop-test .taken, c .before .before .before .before .before .pre .0)
-
-survivals-requires : tie.Need-survivals-requires Inv-loop μ-loop
-survivals-requires c κs = search needs
+survivals-at-requires : tie.Need-survivals-at-requires Inv-loop μ-loop
+survivals-at-requires c κs = (omega (arith, c .before .loop-test .taken, c .before .before .before .before .before .pre .0), ap (λ (h : RowHead). h .kind) (c .head-at .ensures))
 
 mul-put-survivals : tie.Need-mul-put-survivals Inv-loop μ-loop
 mul-put-survivals c =
-    let t = c .before .before .before .before in
+    let t = c .before .before .before in
     let r = t .before .before .before .before in
     omega (arith, t .loop-test .taken, r .pre .1, t .before .loop .inv .long)
 
 put-survivals-requires : tie.Need-put-survivals-requires Inv-loop μ-loop
 put-survivals-requires c κs =
-    let t = c .before .before .before .before in
+    let t = c .before .before .before in
     let r = t .before .before .before .before in
     omega (arith, t .loop-test .taken, r .pre .1, t .before .loop .inv .long)
 
 add-i : tie.Need-add-i Inv-loop μ-loop
 add-i c =
-    let t = c .before .before .before .before .before .before .before in
+    let t = c .before .before .before .before .before .before in
     let r = t .before .before .before .before in
     omega (arith, t .loop-test .taken, r .pre .1, t .before .loop .inv .long)
 
 loop-less : tie.Need-loop-less Inv-loop μ-loop
-loop-less c = omega (arith, c .before .before .before .before .before .before .before .loop-test .taken)
+loop-less c = omega (arith, c .before .before .before .before .before .before .loop-test .taken)
 
 loop-again : tie.Need-loop-again Inv-loop μ-loop
 loop-again c =
     let put = c .before .before in
     let survivals = put .before .before in
-    let t = survivals .before .before .before in
+    let t = survivals .before .before in
     let l = t .before in
     let r = l .before .before .before in
-    let here = survivals .before .before .head-at .ensures in
-    let found = survivals .before .results-at .ensures in
     nine-more (r .args .kept .now) (r .args .rows) (r .args .out .now) (l .loop .i) (l .loop .inv) (t .loop-test .taken)
-    here found (survivals .survivals .ensures) (put .put-survivals .ensures)
+    (survivals .survivals-at .ensures) (put .put-survivals .ensures)
 
 same-length : tie.Need-same-length Inv-loop μ-loop
 same-length c = c .before .loop .inv .long
@@ -74,8 +71,7 @@ list-spec =
     μ-loop
     loop-holds
     head-at-requires
-    results-at-requires
-    survivals-requires
+    survivals-at-requires
     mul-put-survivals
     put-survivals-requires
     add-i

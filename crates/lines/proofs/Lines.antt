@@ -123,6 +123,21 @@ lines-few (b ∷ f) = by (eqb b 10) (lines-few f)
     by true h = omega (arith, h)
     by false h = omega (arith, h, onto-few b (lines f))
 
+-- and fewer by what the first one holds
+onto-fewer : (b n : ℕ) (d : Line) (ls : List Line) → length ls + length (getD ls 0 d .text) ≤ n + 1 + length (d .text) → length (onto b ls) + length (getD (onto b ls) 0 d .text) ≤ n + 2 + length (d .text)
+onto-fewer b n d [] h = omega arith
+onto-fewer b n d (l ∷ ls) h = omega arith
+
+pub lines-fewer : (f : List ℕ) (d : Line) → length (lines f) + length (getD (lines f) 0 d .text) ≤ length f + 1 + length (d .text)
+unfolding lines
+lines-fewer [] d = omega arith
+lines-fewer (b ∷ f) d = by (eqb b 10) (lines-fewer f d)
+  where
+    by : (t : Bool) → length (lines f) + length (getD (lines f) 0 d .text) ≤ length f + 1 + length (d .text) →
+        (let ls : List Line = cond t (record { text = []; closed = true } ∷ lines f) (onto b (lines f)) in length ls + length (getD ls 0 d .text) ≤ length (b ∷ f) + 1 + length (d .text))
+    by true h = omega (arith, lines-few f)
+    by false h = omega (arith, onto-fewer b (length f) d (lines f) h)
+
 -- ---- the bytes that lines came from
 
 -- a line with its line feed

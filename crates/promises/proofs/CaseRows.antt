@@ -14,11 +14,12 @@ use Rattle.spans.proofs.Places.{ship-sound}
 use Rattle.chances.specs.Promises as chance
 use Rattle.chances.proofs.Row.{shares-enclosed, shares-near}
 use Rattle.heights.specs.Height.{rowVs}
-use Rattle.survival.specs.Survival.{Sensible, given, factorsOf, survivalOf, survivalsOf}
+use Rattle.survival.specs.Survival.{countsAt, Sensible, given, factorsOf, survivalOf, survivalsOf}
 use Rattle.indices.specs.Index.{Given, rowAdds, partials}
 use Rattle.indices.specs.Exact as exact
 use Rattle.indices.specs.Exact.{Sound, Close, AtAll, rowAt, rowTrio}
 use Rattle.survival.proofs.Factors.{found-sensible}
+use Rattle.indices.proofs.Rows.{counted-given}
 use Rattle.indices.proofs.Sums.{sums-are-these}
 use Rattle.casefile.specs.Record.{Row, Case}
 use Rattle.casefile.specs.Valid.{Valid}
@@ -35,7 +36,7 @@ use Rattle.promises.proofs.WitnessEnclosure.{no-more}
 -- ---- what they add
 
 adds-are : (h : Hull) (y : Standing) (rs : List Row) → addsFrom h y rs ≡ map rowTrio (exactRows h y rs)
-unfolding addsFrom addsAt exactRows rowAdds survivalsOf survivalOf factorsOf
+unfolding addsFrom addsAt exactRows rowAdds countsAt survivalsOf survivalOf factorsOf
 adds-are h y [] = refl
 adds-are h y (r ∷ rs) = let z = stands y (r .head) in ap (λ ts. addsAt h z (r .results) ∷ ts) (adds-are h z rs)
 
@@ -65,9 +66,9 @@ module _ {h : Hull} (k : Hulled h) (y : Standing) (s : Stood h y) {fs : List Fin
   sensible = by i
     where
       by : (i : ℕ) → Sensible (getD (factorsOf (y .head .kind) fs) i (given 0))
-      by zero = found-sensible (y .head .kind) _ (g .each 0)
-      by (suc zero) = found-sensible (y .head .kind) _ (g .each 1)
-      by (suc (suc zero)) = found-sensible (y .head .kind) _ (g .each 2)
+      by zero = found-sensible (y .head .kind) _ (counted-given (y .head .kind) g 0)
+      by (suc zero) = found-sensible (y .head .kind) _ (counted-given (y .head .kind) g 1)
+      by (suc (suc zero)) = found-sensible (y .head .kind) _ (counted-given (y .head .kind) g 2)
       by (suc (suc (suc i))) = omega arith
 
   low-enough : rowAt i (exactRow h y fs) .v ≤ 916500

@@ -1,6 +1,7 @@
 -- Every figure of an answer fits its bytes: refusals by the table and the lines of an input, ends by the promised width. Assumes nothing.
 use Prim.Native.Nat.{ℕ, zero, suc, _+_, _*_, _^_, _≤_, _<_}
-use mathlib.Core.Path.{_≡_, refl, ap}
+use mathlib.Core.Path.{_≡_, refl, sym, _∙_, ap}
+use mathlib.Core.Bool.{false}
 use mathlib.Core.List.{List, [], _∷_, List·Memᴰ}
 use mathlib.Core.Logic.{_⊎_, inl, inr}
 use native.Mathlib.Nat.{div-mul-le-self}
@@ -13,7 +14,10 @@ use Rattle.laws.specs.Fraction.{whole, _≼_}
 use Rattle.laws.proofs.Table.{member-passes}
 use Rattle.records.specs.declared.Ends.{Ends}
 use Rattle.records.specs.declared.Hull.{Hull}
-use Rattle.lines.proofs.Lines.{lines-few}
+use Rattle.laws.proofs.Choice.{split}
+use Rattle.lines.specs.Lines.{Line, lines}
+use Rattle.lines.proofs.Lines.{lines-fewer}
+use Rattle.hexadecimal.proofs.Pairs.{length-pairs}
 use Rattle.indices.specs.Index.{at, attainedOf, weighed, Share}
 use Rattle.indices.specs.Exact as exact
 use Rattle.indices.specs.Exact.{RowAt, Close, partialEnds}
@@ -21,7 +25,11 @@ use Rattle.indices.proofs.Width.{partial-at-most}
 use Rattle.casefile.specs.Record.{Row, Case}
 use Rattle.casefile.specs.Valid.{Valid}
 use Rattle.casefile.specs.Reading.{Reading, refused, accepted, reading}
-use Rattle.casefile.specs.Refusal.{Refusal, numbers}
+use Rattle.casefile.specs.Limits.{longestInput}
+use Rattle.casefile.specs.Refusal.{Refusal, PassBefore, lineAt, after, numberAt, numbers}
+use Rattle.casefile.proofs.Checks.{HullPasses, hull-passes}
+use Rattle.casefile.proofs.LineJudging.{first-says-number}
+use Rattle.casefile.proofs.Passing.{well-written, hull-frame}
 use Rattle.casefile.proofs.Refusal.{is-refusal}
 use Rattle.casefile.proofs.TableOrder.{of-the-table}
 use Rattle.casefile.proofs.Soundness.{sound}
@@ -49,10 +57,23 @@ use Rattle.promises.proofs.Kept.{promise}
 number-fits : (k : ℕ) → List·Memᴰ k numbers → k < 256
 number-fits k m = ltb→lt k 256 (member-passes (λ n. ltb n 256) k numbers tt m)
 
+-- a line after the first stands behind a hull, which has twenty digits at least
+first-long : (f : List ℕ) → numberAt (lines f) 1 ≡ 0 → 20 ≤ length (lineAt (lines f) 1 .text)
+unfolding numberAt after
+first-long f e =
+    let l : Line = lineAt (lines f) 1 in
+    let p : HullPasses l = hull-passes l (sym (first-says-number l) ∙ e) in
+    omega (arith, hull-frame l (p .written) p .1, length-pairs (l .text) (well-written l (p .written) .0))
+
+behind-a-hull : (f : List ℕ) (l : ℕ) → length f ≤ longestInput → PassBefore (lines f) l → l ≤ length (lines f) + 1 → l < 65536
+behind-a-hull f l short before to =
+    split l 1 (λ h. omega arith)
+    (λ h. omega (arith, first-long f (before 1 (omega arith) h), lines-fewer f (record { text = []; closed = false })))
+
 line-fits : (f : List ℕ) (k l : ℕ) → Refusal f k l → l < 65536
 line-fits f k l (inl r) = omega (arith, r .line)
-line-fits f k l (inr (inl r)) = omega (arith, r .to, r .short, lines-few f)
-line-fits f k l (inr (inr r)) = omega (arith, r .line, r .short, lines-few f)
+line-fits f k l (inr (inl r)) = behind-a-hull f l (r .short) (r .before) (omega (arith, r .to))
+line-fits f k l (inr (inr r)) = behind-a-hull f l (r .short) (r .before) (omega (arith, r .line))
 
 -- ---- ends of four bytes
 

@@ -6,14 +6,16 @@ use lib.IntN.{ℤ, pos, negsuc}
 use mathlib.Core.List.{List, [], _∷_}
 use native.Mathlib.Omega.{arith}
 use lib.Dec.{ltb}
-use lib.ListN.{length, getD}
+use lib.ListN.{length}
+use Rattle.laws.specs.Fraction.{_less_over_, _≼?_, _⊛_}
 use borrow.Author.Tests.{le-ltb}
 use Rattle.records.specs.declared.Finding.{Finding}
 use Rattle.records.specs.declared.Marks.{Marks}
 use Rattle.records.specs.declared.Hull.{Hull}
 use Rattle.records.specs.declared.RowHead.{RowHead}
 use Rattle.survival.specs.Marks.{foundMarks, marksOf}
-use Rattle.survival.specs.Survival.{nothing, survivalOf, survivalsOf}
+use Rattle.solas.specs.Survival.{k, s⁴, unlessImmersed}
+use Rattle.survival.specs.Survival.{worseOf, countsAt, survivalOf, survivalsOf}
 use Rattle.printing.specs.Marks.{marksAt}
 use Rattle.printing.specs.ReadBack.{marksOfLines, toldBy}
 use Rattle.casefile.specs.Record.{Row}
@@ -27,7 +29,8 @@ use Rattle.answers.specs.Report.{linesIn}
 use Rattle.promises.specs.Printing.{resultMarks, marksOfRows, ReportTellsMarks}
 use Rattle.promises.proofs.Fits.{same-shares, printed-reads-back}
 
--- rows whose results have the marks of lever, range and heel in turn, and at one draught that of the opening
+-- rows whose results have the marks of lever, range and heel in turn, and at one draught that of the opening; and one of two sets, the second of which is
+-- worse first, then the first, and then neither
 abbrev found : ℕ → ℕ → ℕ → ℤ → Finding
 found lever range heel opening = record { lever = lever; range = range; heel = heel; opening = opening; given = 0 }
 
@@ -40,10 +43,18 @@ immersed = record { head = record { kind = 2; first = 1; count = 1; depth = 1; h
 abbrev marks : Bool → Bool → Bool → Bool → Marks
 marks lever range heel opening = record { lever = lever; range = range; heel = heel; opening = opening }
 
-in-turn : marksOfRows (turned ∷ immersed ∷ [])
+abbrev twoSets : Row
+twoSets =
+    record {
+      head = record { kind = 5; first = 1; count = 1; depth = 1; height = 3 };
+      results = found 120 1587 0 (pos 0) ∷ found 119 1600 0 (pos 0) ∷ found 60 1600 0 (pos 0) ∷ found 119 1600 0 (pos 0) ∷ found 120 1600 2501 (negsuc 0) ∷ found 120 800 0 (pos 0) ∷ [];
+    }
+
+in-turn : marksOfRows (turned ∷ immersed ∷ twoSets ∷ [])
     ≡ marks true false false false ∷ marks false true false false ∷ marks false false true false
-    ∷ marks false false false false ∷ marks false false false true ∷ marks false false false false ∷ []
-unfolding marksOfRows marksOf foundMarks
+    ∷ marks false false false false ∷ marks false false false true ∷ marks false false false false
+    ∷ marks true false false false ∷ marks false false true true ∷ marks true false false false ∷ []
+unfolding marksOfRows marksOf foundMarks worseOf countsAt unlessImmersed s⁴ k _≼?_ _⊛_ _less_over_
 in-turn = refl
 
 same-marks : (h : Hull) (y : Standing) (rs : List Row) → marksOfLines (linesFrom h y rs) ≡ marksOfRows rs
@@ -51,7 +62,8 @@ unfolding linesFrom marksOfLines marksOfRows marksAt survivalsOf survivalOf
 same-marks h y [] = refl
 same-marks h y (r ∷ rs) =
     let z = stands y (r .head) in
-    ap (λ (head : RowHead). marksOf (head .kind) (getD (r .results) 0 nothing) ∷ marksOf (head .kind) (getD (r .results) 1 nothing) ∷ marksOf (head .kind) (getD (r .results) 2 nothing) ∷ marksOfLines (linesFrom h z rs)) (head-is y (r .head))
+    let at : RowHead → ℕ → Marks = λ head j. marksOf (head .kind) (countsAt (head .kind) (r .results) j) in
+    ap (λ (head : RowHead). at head 0 ∷ at head 1 ∷ at head 2 ∷ marksOfLines (linesFrom h z rs)) (head-is y (r .head))
     ∙ ap (λ ms. resultMarks r 0 ∷ resultMarks r 1 ∷ resultMarks r 2 ∷ ms) (same-marks h z rs)
 
 pub report-tells-marks : ReportTellsMarks

@@ -21,13 +21,13 @@ use Rattle.chances.specs.Share.{withinEnds, sumsOf, lowest, highest, rowOf, row
 use Rattle.numbers.specs.Ratio.{ratioOf}
 use Rattle.heights.specs.Height.{rowVs}
 use Rattle.survival.specs.Marks.{foundMarks, marksOf}
-use Rattle.survival.specs.Survival.{factorOf, scaledOf, roundedOf, survivalOf, survivalsOf}
+use Rattle.survival.specs.Survival.{countsAt, factorOf, scaledOf, roundedOf, survivalOf, survivalsOf}
 use Rattle.indices.specs.Index.{addsOf, rowAdds, partials, attainedOf}
 use Rattle.verdicts.specs.Verdict.{reaches, allReach, verdictOf}
 use Rattle.lines.specs.Lines.{lines}
 use Rattle.hexadecimal.specs.Hex.{digitOf, pairOf, pairs, digitsOnly, proper, badlyWritten, digit, hex, lineOf}
 use Rattle.fields.specs.Fields.{wordAt, signed}
-use Rattle.casefile.specs.Layout.{frameLength, placeOf, hullOf, headOf, findingOf, resultsOf}
+use Rattle.casefile.specs.Layout.{frameLength, placeOf, hullOf, headOf, findingOf, setOf, resultsOf}
 use Rattle.casefile.specs.Limits.{between, sizesFit, risingTo, zonesFit, headFits, openingFits, findingFits, findingsFit, rowFits}
 use Rattle.casefile.specs.Order.{atTop, closesGroup, sameGroup, sameLayer, earlierGroup, outOfOrder, leavesOpen, endsOpen}
 use Rattle.casefile.specs.Table.{firstHolds, wrongHullFrame, wrongFrame, wrongZones, hullChecks, rowChecks, endChecks, lineChecks}
@@ -43,13 +43,13 @@ use Rattle.promises.specs.OneFile.{printedCase, text, OneFileIsRead, One
 
 pub file-read : OneFileIsRead
 unfolding reading readFrom lines firstHolds hullChecks rowChecks endChecks lineChecks wrongHullFrame wrongFrame wrongZones between sizesFit risingTo zonesFit headFits openingFits findingFits findingsFit rowFits
-    atTop closesGroup sameGroup sameLayer earlierGroup outOfOrder leavesOpen endsOpen frameLength placeOf hullOf headOf findingOf resultsOf digitOf pairOf pairs digitsOnly proper badlyWritten wordAt signed tabulate
+    atTop closesGroup sameGroup sameLayer earlierGroup outOfOrder leavesOpen endsOpen frameLength placeOf hullOf headOf findingOf setOf resultsOf digitOf pairOf pairs digitsOnly proper badlyWritten wordAt signed tabulate
 file-read = refl
 
 case-printed : report (accepted printedCase) ≡ text
 unfolding report answered answer figures partialsOf linesIn linesFrom addsFrom addsAt shareAt stands sameGroup sameLayer
     rowEnds rowOf lowest highest sumsOf withinEnds added taken QEnds mixed c d PEnds GEnds pEnds partEnds G1Ends G3Ends minus plus rounded.endsOf billionthsOf portionOf halvesOf ceil touch P p G1 G3 _⊹_ _⊛_ _less_over_
-    rowVs rowV vAt v dp survivalsOf survivalOf factorOf unlessImmersed marksOf foundMarks s⁴ k ratioOf scaledOf roundedOf rootDown rootUp withDigits addsOf rowAdds partials attainedOf R partialMark reaches allReach verdictOf
+    rowVs rowV vAt v dp countsAt survivalsOf survivalOf factorOf unlessImmersed marksOf foundMarks s⁴ k ratioOf scaledOf roundedOf rootDown rootUp withDigits addsOf rowAdds partials attainedOf R partialMark reaches allReach verdictOf
     printed lineOf figuresFrame refusalFrame rowFrame rowLines markByte marksAt marksField endsField partialField partialsField bytes digit hex
 case-printed = refl
 

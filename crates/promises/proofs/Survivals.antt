@@ -7,7 +7,7 @@ use native.Mathlib.Omega.{arith}
 use lib.Dec.{leb}
 use lib.ListN.{length, getD}
 use borrow.Author.Tests.{le-leb}
-use Rattle.survival.specs.Survival.{nothing, survivalOf, survivalsOf}
+use Rattle.survival.specs.Survival.{survivalOf, survivalsOf}
 use Rattle.printing.specs.Written.{countIn, writtenIn}
 use Rattle.casefile.specs.Record.{Row}
 use Rattle.listing.specs.Survivals.{threeNumbers, survivalNumbers, survivalsFrom}

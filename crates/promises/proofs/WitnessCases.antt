@@ -3,7 +3,7 @@ use Prim.Native.Nat.{ℕ}
 use mathlib.Core.Path.{_≡_, refl}
 use lib.IntN.{ℤ, pos, negsuc}
 use mathlib.Core.List.{List, [], _∷_}
-use Rattle.laws.specs.Fraction.{_less_over_, _⊹_, _⊛_}
+use Rattle.laws.specs.Fraction.{_≼?_, _less_over_, _⊹_, _⊛_}
 use Rattle.laws.specs.Rounding.{ceil}
 use Rattle.numbers.specs.Figures.{billionthsOf, portionOf, halvesOf}
 use Rattle.roots.specs.Root.{withDigits, rootDown, rootUp}
@@ -25,7 +25,7 @@ use Rattle.penetration.specs.Penetration.{partEnds, GEnds, mixed, QEnds}
 use Rattle.chances.specs.Share.{withinEnds, sumsOf, lowest, highest, rowOf, rowEnds}
 use Rattle.numbers.specs.Ratio.{ratioOf}
 use Rattle.heights.specs.Height.{rowVs}
-use Rattle.survival.specs.Survival.{factorOf, scaledOf, roundedOf, survivalOf, survivalsOf}
+use Rattle.survival.specs.Survival.{worseOf, countsAt, factorOf, scaledOf, roundedOf, survivalOf, survivalsOf}
 use Rattle.indices.specs.Index.{addsOf, rowAdds, partials, attainedOf}
 use Rattle.verdicts.specs.Verdict.{reaches, allReach, verdictOf}
 use Rattle.casefile.specs.Record.{Row, Case}
@@ -131,20 +131,28 @@ flooded =
 abbrev pub floodedAnswer : Answer
 floodedAnswer = let a = ends 492000000 492100000 in figured 2 1 (ends 393600000 393680000) a a (ends 0 0)
 
+-- the unsettled row's results in either set of a row whose other set survives anything: the same answer
+abbrev pub seconded : Case
+seconded =
+    let whole : Finding = record { lever = 120; range = 1600; heel = 0; opening = pos 0; given = 0 } in
+    let worse : Finding = record { lever = 33; range = 341; heel = 0; opening = pos 0; given = 0 } in
+    oneZone (row 5 1 1 800 18500 (whole ∷ worse ∷ whole ∷ worse ∷ whole ∷ worse ∷ []) ∷ [])
+
 pub record Answers : Type 0 where
   pub of-decked : answer decked ≡ deckedAnswer
   pub of-meeting : answer meeting ≡ meetingAnswer
   pub of-failing : answer failing ≡ failingAnswer
   pub of-unsettled : answer unsettled ≡ unsettledAnswer
   pub of-flooded : answer flooded ≡ floodedAnswer
+  pub of-seconded : answer seconded ≡ unsettledAnswer
   pub rising-meets : answer (highDeck 3100 0 10000) .verdict ≡ 1
   pub raised-fails : answer (highDeck 2300 2300 0) .verdict ≡ 2
 
 pub answers : Answers
 unfolding answer figures partialsOf addsFrom addsAt shareAt stands sameGroup sameLayer
-    rowEnds rowOf lowest highest sumsOf withinEnds added taken QEnds mixed c d PEnds GEnds pEnds partEnds G1Ends G3Ends minus plus rounded.endsOf billionthsOf portionOf halvesOf ceil touch P p G1 G3 _⊹_ _⊛_ _less_over_
-    rowVs rowV vAt v dp survivalsOf survivalOf factorOf unlessImmersed s⁴ k ratioOf scaledOf roundedOf rootDown rootUp withDigits addsOf rowAdds partials attainedOf R partialMark reaches allReach verdictOf
-answers = record { of-decked = refl; of-meeting = refl; of-failing = refl; of-unsettled = refl; of-flooded = refl; rising-meets = refl; raised-fails = refl }
+    rowEnds rowOf lowest highest sumsOf withinEnds added taken QEnds mixed c d PEnds GEnds pEnds partEnds G1Ends G3Ends minus plus rounded.endsOf billionthsOf portionOf halvesOf ceil touch P p G1 G3 _⊹_ _⊛_ _≼?_ _less_over_
+    rowVs rowV vAt v dp worseOf countsAt survivalsOf survivalOf factorOf unlessImmersed s⁴ k ratioOf scaledOf roundedOf rootDown rootUp withDigits addsOf rowAdds partials attainedOf R partialMark reaches allReach verdictOf
+answers = record { of-decked = refl; of-meeting = refl; of-failing = refl; of-unsettled = refl; of-flooded = refl; of-seconded = refl; rising-meets = refl; raised-fails = refl }
 
 -- ---- two zones, whose pair is not listed, and three, of which nothing is listed and the middle one is longer than any damage
 

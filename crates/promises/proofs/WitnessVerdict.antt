@@ -12,7 +12,7 @@ use Rattle.solas.specs.Share.{within, share, rowShare}
 use Rattle.solas.specs.Height.{v, vAt, rowV}
 use Rattle.solas.specs.Index.{dp, R, partialMark}
 use Rattle.heights.specs.Height.{rowVs}
-use Rattle.survival.specs.Survival.{tenThousandths, factorOf, factorsOf}
+use Rattle.survival.specs.Survival.{countsAt, tenThousandths, factorOf, factorsOf}
 use Rattle.indices.specs.Exact.{RowAt, NoneAbove, weight, weightedSum, Thrice, rowAt}
 use Rattle.verdicts.specs.Promises.{atLight}
 use Rattle.casefile.specs.Order.{sameGroup, sameLayer}
@@ -31,7 +31,7 @@ module _ (said : Kept meeting meetingAnswer) where
   none = record { deepest = whole 0 ∷ []; partial = whole 0 ∷ []; light = whole 0 ∷ [] }
 
   pub meets : Said (said .verdict .meets refl none)
-  unfolding rowsOf exactRows stands sameGroup sameLayer factorsOf factorOf _less_over_
+  unfolding rowsOf exactRows stands sameGroup sameLayer countsAt factorsOf factorOf _less_over_
   meets h = absurd (not-so (h .0 .0 .1) refl)
 
   pub one : Compared (λ (e : 1 ≡ 1). said .verdict .by-ends .one .0 e .attained) × Compared (λ (e : 1 ≡ 1). said .verdict .by-ends .one .0 e .atDeepest) ×
@@ -55,7 +55,7 @@ module _ (said : Kept failing failingAnswer) where
       below (positive x) (is-⊹ once (is-nothing (positive x))) (is-self x) (omega arith)
 
   short : (mark : Fraction) → tenThousandths 2000 ≺ mark → (xs : List Fraction) → NoneAbove (rowsOf failing .light) xs → weightedSum (rowsOf failing .light) xs ≺ mark
-  unfolding rowsOf exactRows stands sameGroup sameLayer factorsOf factorOf
+  unfolding rowsOf exactRows stands sameGroup sameLayer countsAt factorsOf factorOf
   short mark l [] h = absurd h
   short mark l (x ∷ []) h = below-then-strictly (≼-trans (as-it-is x) (h .0 .1)) l
   short mark l (x ∷ y ∷ xs) h = absurd (h .1)

@@ -3,10 +3,9 @@
 use Prim.Native.Nat.{ℕ}
 use mathlib.Core.Path.{_≡_}
 use mathlib.Core.List.{List, [], _∷_}
-use lib.ListN.{getD}
 use Rattle.records.specs.declared.Marks.{Marks}
 use Rattle.survival.specs.Marks.{marksOf}
-use Rattle.survival.specs.Survival.{nothing}
+use Rattle.survival.specs.Survival.{countsAt}
 use Rattle.printing.specs.ReadBack.{figures, endsOf, Printable, toldBy, readBack}
 use Rattle.casefile.specs.Record.{Row, Case}
 use Rattle.casefile.specs.Reading.{accepted, reading}
@@ -20,9 +19,9 @@ EveryFigureFits = (f : List ℕ) → Printable (answered (reading f) 1000) (line
 abbrev pub PrintedReadsBack : Type 0
 PrintedReadsBack = (f : List ℕ) → readBack (report (reading f)) ≡ toldBy (answered (reading f) 1000) (linesIn (reading f))
 
--- the marks of a row's result at draught j: 0 deepest, 1 partial, 2 light
+-- the marks of the result that counts in a row at draught j: 0 deepest, 1 partial, 2 light
 abbrev pub resultMarks : Row → ℕ → Marks
-resultMarks r j = marksOf (r .head .kind) (getD (r .results) j nothing)
+resultMarks r j = marksOf (r .head .kind) (countsAt (r .head .kind) (r .results) j)
 
 -- in row order
 unfoldable pub marksOfRows : List Row → List Marks

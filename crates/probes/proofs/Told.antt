@@ -16,10 +16,10 @@ use Rattle.records.specs.declared.Hull.{Hull}
 use Rattle.solas.specs.Count.{Group}
 use Rattle.spans.specs.Hull.{shipOf, Hulled}
 use Rattle.chances.specs.Share.{rowEnds}
-use Rattle.casefile.specs.Limits.{sizesFit, zonesFit, rowFits}
-use Rattle.casefile.proofs.Limits.{row-is}
+use Rattle.casefile.specs.Limits.{sizesFit, zonesFit, headFits}
+use Rattle.casefile.proofs.Limits.{head-is}
 use Rattle.answers.proofs.ValidCase.{fits-hulled}
-use Rattle.probes.specs.Shares.{hullIn, hullFits, rowWith, shareIn, shareAt, sharesFrom, rowsTold}
+use Rattle.probes.specs.Shares.{hullIn, hullFits, headWith, shareIn, shareAt, sharesFrom, rowsTold}
 
 pub hull-is : (h : Hull) → hullFits h ≡ true → Hulled h
 hull-is h e = let (s, z) = both (sizesFit h) (zonesFit h) e in fits-hulled h s z
@@ -28,7 +28,7 @@ hull-is h e = let (s, z) = both (sizesFit h) (zonesFit h) e in fits-hulled h s z
 
 module _ (h : Hull) (a n b′ b : ℕ) where
   abbrev test : Bool
-  test = rowFits h (rowWith a n b) && leb b′ b
+  test = headFits h (headWith a n b) && leb b′ b
 
   pub no-row : test ≡ false → record { lower = 0; upper = 0 } ≡ shareIn h a n b′ b
   unfolding shareIn
@@ -40,8 +40,8 @@ module _ (h : Hull) (a n b′ b : ℕ) where
 
   pub row-asked : test ≡ true → Group (shipOf h) a n × (2 * b′ ≤ h .breadth) × (2 * b ≤ h .breadth)
   row-asked e =
-      let (f, l) = both (rowFits h (rowWith a n b)) (leb b′ b) e in
-      let r = row-is h (rowWith a n b) f .0 in
+      let (f, l) = both (headFits h (headWith a n b)) (leb b′ b) e in
+      let r = head-is h (headWith a n b) f in
       (record { from = r .first; some = r .count; fits = r .within }, omega (arith, leb-true b′ b l, r .deepest), omega (arith, r .deepest))
 
 -- ---- the rows in turn

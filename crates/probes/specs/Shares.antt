@@ -7,11 +7,10 @@ use lib.ListN.{length, getD}
 use Rattle.laws.specs.Lists.{tabulate}
 use Rattle.records.specs.declared.Ends.{Ends}
 use Rattle.records.specs.declared.Hull.{Hull}
+use Rattle.records.specs.declared.RowHead.{RowHead}
 use Rattle.spans.specs.Hull.{shipOf}
 use Rattle.chances.specs.Share.{rowEnds}
-use Rattle.survival.specs.Survival.{nothing}
-use Rattle.casefile.specs.Record.{Row}
-use Rattle.casefile.specs.Limits.{sizesFit, zonesFit, rowFits}
+use Rattle.casefile.specs.Limits.{sizesFit, zonesFit, headFits}
 
 -- a list's number, 0 past its end
 abbrev pub number : List ℕ → ℕ → ℕ
@@ -33,13 +32,13 @@ hullIn ns =
 abbrev pub hullFits : Hull → Bool
 hullFits h = sizesFit h && zonesFit h
 
--- a row of that group and penetration, whatever its height and its results
-abbrev pub rowWith : ℕ → ℕ → ℕ → Row
-rowWith a n b = record { head = record { kind = 3; first = a; count = n; depth = b; height = 1 }; results = nothing ∷ nothing ∷ nothing ∷ [] }
+-- a row's head of that group and penetration, whatever its height
+abbrev pub headWith : ℕ → ℕ → ℕ → RowHead
+headWith a n b = record { kind = 3; first = a; count = n; depth = b; height = 1 }
 
 -- the share of the group (a, n) in the layer from b′ to b; zeros where the hull has no such row
 unfoldable pub shareIn : Hull → ℕ → ℕ → ℕ → ℕ → Ends
-shareIn h a n b′ b = cond (rowFits h (rowWith a n b) && leb b′ b) (rowEnds (shipOf h) a n b′ b) (record { lower = 0; upper = 0 })
+shareIn h a n b′ b = cond (headFits h (headWith a n b) && leb b′ b) (rowEnds (shipOf h) a n b′ b) (record { lower = 0; upper = 0 })
 
 -- of the row whose four numbers, a, n, b′ and b, stand at a place
 unfoldable pub shareAt : Hull → List ℕ → ℕ → Ends

@@ -8,10 +8,9 @@ ghost use lib.Seq.{sets};
 ghost use Rattle.laws.specs.Lists.{tabulate};
 ghost use Rattle.spans.specs.Hull.{Hulled};
 ghost use Rattle.spans.specs.Table.{tableOf};
-ghost use Rattle.casefile.specs.Limits.{rowFits};
-ghost use Rattle.probes.specs.Shares.{number, hullIn, hullFits, rowWith, shareIn, shareAt, sharesFrom, rowsTold};
+ghost use Rattle.casefile.specs.Limits.{headFits};
+ghost use Rattle.probes.specs.Shares.{number, hullIn, hullFits, headWith, shareIn, shareAt, sharesFrom, rowsTold};
 use records::Ends;
-use records::Finding;
 use records::Hull;
 use records::RowHead;
 
@@ -58,7 +57,7 @@ fn hull_fits(h: Hull) -> bool
 
 // Whether the hull has a row of that group in the layer from b1 to b2.
 fn row_fits(h: Hull, a: u64, n: u64, b1: u64, b2: u64) -> bool
-    ensures { λ r. ⌜ r ≡ (rowFits h (rowWith a n b2) && leb b1 b2) ⌝ }
+    ensures { λ r. ⌜ r ≡ (headFits h (headWith a n b2) && leb b1 b2) ⌝ }
 {
     let head = RowHead {
         kind: 3,
@@ -67,14 +66,7 @@ fn row_fits(h: Hull, a: u64, n: u64, b1: u64, b2: u64) -> bool
         depth: b2,
         height: 1,
     };
-    let none = Finding {
-        lever: 0,
-        range: 0,
-        heel: 0,
-        opening: 0,
-        given: 0,
-    };
-    limits::row_fits(h, head, [none, none, none]) & (b1 <= b2)
+    limits::head_fits(h, head) & (b1 <= b2)
 }
 
 fn share_in(t: &[u64], h: Hull, a: u64, n: u64, b1: u64, b2: u64) -> Ends

@@ -148,18 +148,16 @@ static u64 fourth_root(u64 n) {
     return s;
 }
 
-/* The fourth power of a survival, over one denominator for all, so that two of them are compared as whole numbers. */
-#define FOURTHS (120ul * 1600 * 500 * 500)
-
+/* The fourth power of a survival, over 120 * 1600 * 500 * 500 for all, so that two of them are compared as whole numbers. */
 static u64 fourth_of(const Result *r) {
     u64 k = r->heel <= 2500 ? 500 : less(3000, r->heel);
     return r->opening < 0 ? 0 : (r->lever < 120 ? r->lever : 120) * (r->range < 1600 ? r->range : 1600) * k * k;
 }
 
+/* Over that denominator 10^16 is 625,000 thirds. */
 static Ends survival(u64 fourth) {
-    u128 scaled = (u128)fourth * 10000000000000000ul;
-    u64 s = fourth_root((u64)(scaled / FOURTHS));
-    return (Ends){s, s + ((u128)fourth_power(s) * FOURTHS != scaled)};
+    u64 thirds = 625000 * fourth, s = fourth_root(thirds / 3);
+    return (Ends){s, s + (3 * fourth_power(s) != thirds)};
 }
 
 /* What holds a survival down: 1 for the lever, 2 for the range, 4 for the heel, 8 for an immersed opening. */

@@ -14,7 +14,7 @@
 #include <string.h>
 #include <time.h>
 
-enum { ROOM = 12569, LONGEST = 65536, MOST_TURNS = 1000, ALL = 4 };
+enum { ROOM = 12569, LONGEST = 65536 + 8, MOST_TURNS = 1000, ALL = 4 }; /* more than a file may have is read, so that its length is known */
 
 typedef size_t Report(const uint8_t *input, size_t size, uint8_t *out, size_t room);
 typedef size_t Shares(const uint64_t *hull, size_t numbers, const uint64_t *rows, size_t fields, uint64_t *out, size_t room);

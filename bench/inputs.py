@@ -10,7 +10,7 @@ from generator.dice import Dice  # noqa: E402
 from generator.frames import Hull, Row, case_file, joined, lines_of  # noqa: E402
 from generator.shapes import groups_of  # noqa: E402
 
-LONGEST = 32_768
+LONGEST = 65_536
 ROWS = (50, 100, 200, 300, 400, 500)
 ZONES = (2, 3, 5, 8, 12, 16, 20)
 
@@ -21,13 +21,14 @@ def ship(zones):
     return Hull(15_000, 2_400, 9_000, 6_000, tuple(places))
 
 
-def results(dice):
-    """Levers, ranges and heels of which most are below the caps, openings of which one in twenty is immersed."""
-    return tuple(n for _ in range(3) for n in (dice.between(0, 150), dice.between(0, 2_000), dice.between(0, 3_100), dice.between(-150, 2_849)))
+def results(dice, sets):
+    """So many sets of three results: levers, ranges and heels of which most are below the caps, openings of which one in twenty is immersed."""
+    return tuple(n for _ in range(3 * sets) for n in (dice.between(0, 150), dice.between(0, 2_000), dice.between(0, 3_100), dice.between(-150, 2_849)))
 
 
-def rows(dice, hull, count, heights, longest):
-    """So many rows: of each group of up to so many zones as many layers as it takes, each of so many heights."""
+def rows(dice, hull, count, heights, longest, sets=1):
+    """So many rows: of each group of up to so many zones as many layers as it takes, each of so many heights. With two sets of results they are of
+    kind 05, with one of kind 02."""
     groups = groups_of(hull, longest)
     layers = -(-count // heights)
     found = []
@@ -36,24 +37,26 @@ def rows(dice, hull, count, heights, longest):
         depths = [hull.half * (k + 1) // mine for k in range(mine)]
         for b in depths:
             tall = min(heights, count - len(found))
-            found += [Row(a, n, b, h, results(dice)) for h in [hull.ds + 900 * (k + 1) for k in range(tall - 1)] + [hull.top]]
+            found += [Row(a, n, b, h, results(dice, sets)) for h in [hull.ds + 900 * (k + 1) for k in range(tall - 1)] + [hull.top]]
     return found
 
 
 def valid_files():
-    """Each name and its bytes: the file that the ratio is of, others of 500 rows and 20 zones, and two series that grow."""
-    for name, count, zones, heights, longest in (
-            [("typical", 500, 20, 2, 5), ("layers", 500, 20, 1, 20), ("layers-of-few", 500, 20, 1, 2), ("heights", 500, 20, 5, 5)]
-            + [("rows-%03d" % count, count, 20, 2, 5) for count in ROWS]
-            + [("zones-%02d" % zones, 500, zones, 2, 5) for zones in ZONES]):
+    """Each name and its bytes: the file that the ratio is of, the same ship with rows of kind 05, others of 500 rows and 20 zones, and two series
+    that grow."""
+    for name, count, zones, heights, longest, sets in (
+            [("typical", 500, 20, 2, 5, 1), ("second-sets", 500, 20, 2, 5, 2)]
+            + [("layers", 500, 20, 1, 20, 1), ("layers-of-few", 500, 20, 1, 2, 1), ("heights", 500, 20, 5, 5, 1)]
+            + [("rows-%03d" % count, count, 20, 2, 5, 1) for count in ROWS]
+            + [("zones-%02d" % zones, 500, zones, 2, 5, 1) for zones in ZONES]):
         hull = ship(zones)
-        yield name, case_file(hull, rows(Dice(len(name) + count + zones), hull, count, heights, longest))
+        yield name, case_file(hull, rows(Dice(len(name) + count + zones), hull, count, heights, longest, sets))
 
 
 def slow_files():
-    """Bad inputs as long as a file may be, or nearly so, of every kind that might keep a reader busy."""
+    """Bad inputs as long as a file may be, or nearly so, of every kind that might keep a reader busy; good rows in them are of kind 05."""
     hull = ship(20)
-    all_rows = rows(Dice(7), hull, 500, 1, 20)
+    all_rows = rows(Dice(7), hull, 500, 1, 20, 2)
     lines = lines_of(hull, all_rows)
     first, row = lines[0], lines[1]
     full = joined(lines)

@@ -8,13 +8,14 @@ typedef unsigned long u64;
 typedef unsigned __int128 u128;
 
 #define BILLION 1000000000ul
-enum { LONGEST = 32768, MOST_ROWS = 500, MOST_ZONES = 20, LONGEST_FRAME = 8 + 2 * MOST_ZONES, NUMBERS = 26 };
+enum { LONGEST = 65536, MOST_ROWS = 500, MOST_ZONES = 20, LONGEST_FRAME = 55, NUMBERS = 26 };
 
 typedef struct { u64 lower, upper; } Ends;
 typedef struct { u64 length, breadth, deepest, light, zones, places[MOST_ZONES + 1]; } Hull;
 /* A given survival stands in the lever's place. */
 typedef struct { u64 lever, range, heel; long opening; } Result;
-typedef struct { u64 kind, first, count, depth, height; Result results[3]; } Row;
+/* A row of kind 05 has a second set of three results after the first. */
+typedef struct { u64 kind, first, count, depth, height; Result results[6]; } Row;
 typedef struct { u64 number, line; } Refusal;
 
 /* ---- the chance of damage within a span */
@@ -147,20 +148,20 @@ static u64 fourth_root(u64 n) {
     return s;
 }
 
-static Ends survival(Result r) {
-    u64 n = (r.lever < 120 ? r.lever : 120) * (r.range < 1600 ? r.range : 1600), d = 120 * 1600;
-    if (r.heel >= 3000 || r.opening < 0) n = 0;
-    if (r.heel > 2500 && r.heel < 3000) {
-        n *= (3000 - r.heel) * (3000 - r.heel);
-        d *= 500 * 500;
-    }
-    u128 scaled = (u128)n * 10000000000000000ul;
-    u64 s = fourth_root((u64)(scaled / d));
-    return (Ends){s, s + ((u128)fourth_power(s) * d != scaled)};
+/* The fourth power of a survival, over 120 * 1600 * 500 * 500 for all, so that two of them are compared as whole numbers. */
+static u64 fourth_of(const Result *r) {
+    u64 k = r->heel <= 2500 ? 500 : less(3000, r->heel);
+    return r->opening < 0 ? 0 : (r->lever < 120 ? r->lever : 120) * (r->range < 1600 ? r->range : 1600) * k * k;
+}
+
+/* Over that denominator 10^16 is 625,000 thirds. */
+static Ends survival(u64 fourth) {
+    u64 thirds = 625000 * fourth, s = fourth_root(thirds / 3);
+    return (Ends){s, s + (3 * fourth_power(s) != thirds)};
 }
 
 /* What holds a survival down: 1 for the lever, 2 for the range, 4 for the heel, 8 for an immersed opening. */
-static u8 marks(Result r) { return (u8)((r.lever < 120) | (r.range < 1600) << 1 | (r.heel > 2500) << 2 | (r.opening < 0) << 3); }
+static u8 marks(const Result *r) { return (u8)((r->lever < 120) | (r->range < 1600) << 1 | (r->heel > 2500) << 2 | (r->opening < 0) << 3); }
 
 /* ---- the answer */
 
@@ -198,8 +199,17 @@ static void work_out(const Hull *h, const Row *rows, u64 count, Answer *answer) 
         answer->lines[i].share = one;
         for (int k = 0; k < 3; k++) {
             u64 v = height_factor(r->height, draughts[k]) - (same_layer ? height_factor(last->height, draughts[k]) : 0);
-            Result f = r->results[k];
-            Ends s = r->kind == 3 ? (Ends){f.lever, f.lever} : survival(f);
+            const Result *f = r->results + k;
+            Ends s = {f->lever, f->lever};
+            if (r->kind != 3) {
+                u64 fourth = fourth_of(f);
+                if (r->kind == 5) { /* the lower of two counts, the first when equal */
+                    u64 second = fourth_of(f + 3);
+                    f += second < fourth ? 3 : 0;
+                    fourth = second < fourth ? second : fourth;
+                }
+                s = survival(fourth);
+            }
             answer->lines[i].marks[k] = r->kind == 3 ? 0 : marks(f);
             figures[k + 1].lower += one.lower * v * s.lower / 9165000000ul;
             figures[k + 1].upper += up(one.upper * v * s.upper, 9165000000ul);
@@ -253,10 +263,11 @@ static Result read_result(const u8 *f) { return (Result){word(f), word(f + 2), w
 static int within_limits(Result r) { return r.lever <= 5000 && r.range <= 9000 && r.heel <= 9000 && r.opening >= -30000 && r.opening <= 30000; }
 
 static u64 read_row(const u8 *f, const Hull *h, const Row *last, Row *r) {
-    *r = (Row){f[0], f[1], f[2], word(f + 3), word(f + 5), {{0, 0, 0, 0}}};
+    u64 count = f[0] == 5 ? 6 : 3;
+    r->kind = f[0], r->first = f[1], r->count = f[2], r->depth = word(f + 3), r->height = word(f + 5);
     if (r->first < 1 || r->count < 1 || r->first + r->count - 1 > h->zones) return 7;
     if (r->depth < 1 || r->depth > h->breadth / 2 || r->height < 1 || r->height > 60000) return 7;
-    for (u64 k = 0; k < 3; k++) {
+    for (u64 k = 0; k < count; k++) {
         r->results[k] = f[0] == 3 ? (Result){word(f + 7 + 2 * k), 0, 0, 0} : read_result(f + 7 + 8 * k);
         if (f[0] == 3 ? r->results[k].lever > 10000 : !within_limits(r->results[k])) return 7;
     }
@@ -283,7 +294,7 @@ static Refusal read_case(const u8 *input, u64 size, Hull *h, Row *rows, u64 *cou
         const Row *last = *count ? rows + *count - 1 : 0;
         if (line == 1) {
             number = read_hull(f, bytes, h);
-        } else if ((f[0] == 2 && bytes == 31) || (f[0] == 3 && bytes == 13)) {
+        } else if ((f[0] == 2 && bytes == 31) || (f[0] == 3 && bytes == 13) || (f[0] == 5 && bytes == 55)) {
             number = *count == MOST_ROWS ? 6 : read_row(f, h, last, rows + *count);
             ++*count;
         } else if (f[0] == 15 && bytes == 3) {

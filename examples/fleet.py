@@ -1,4 +1,4 @@
-"""The seven ships of the examples, in metres: each zone by its name and forward end, from aft forward.
+"""The eight ships of the examples, in metres: each zone by its name and forward end, from aft forward.
 
 The lowest opening stands as low as the load lines let it: an air pipe 0.76 m above the deck, a ventilator 0.9 m."""
 
@@ -145,4 +145,22 @@ LIVESTOCK_CARRIER = Ship(
     ),
 )
 
-FLEET = (COASTER, BULK_CARRIER, CONTAINER_SHIP, HEAVY_LIFT, TIMBER_CARRIER, REEFER, LIVESTOCK_CARRIER)
+STOWED = {"tanks": (2.0,), "decks": (9.2,), "permeability": CARGO, "bottom": 2.0}
+
+PAPER_CARRIER = Ship(
+    name="paper-carrier", what="paper carrier with high sides and little GM, 126.8 m", verdict="fails", alone="meets",
+    shows="two sets of results a row, the second with the inner bottom left whole: by either set alone it meets, by the worse of the two it fails",
+    length=126.8, breadth=20.4, depth=13.6, deepest=7.6, light=5.6, block=0.7, gm=(0.46, 0.56, 0.76), vents=14.36,
+    zones=(
+        Zone("aft peak", 7.2, decks=(9.2,)),
+        Zone("engine room", 25.6, decks=(9.2,), permeability=MACHINERY, bottom=1.6),
+        Zone("hold 4", 44.8, **STOWED),
+        Zone("hold 3", 65.6, **STOWED),
+        Zone("hold 2", 86.4, **STOWED),
+        Zone("hold 1", 105.6, **STOWED),
+        Zone("bow thruster", 115.2, decks=(9.2,)),
+        Zone("fore peak", 126.8, decks=(9.2,)),
+    ),
+)
+
+FLEET = (COASTER, BULK_CARRIER, CONTAINER_SHIP, HEAVY_LIFT, TIMBER_CARRIER, REEFER, LIVESTOCK_CARRIER, PAPER_CARRIER)

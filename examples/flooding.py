@@ -9,12 +9,13 @@ HIGHEST = 30000              # millimetres above or below the waterline, the mos
 
 
 class Space(NamedTuple):
-    """A flooded space: its ends along the ship, its breadth from the damaged side, its height above the keel."""
+    """A flooded space: its ends along the ship, its breadth from the damaged side, the heights of its top and of the inner bottom under it."""
 
     aft: Fraction
     forward: Fraction
     breadth: Fraction
     height: Fraction
+    bottom: Fraction
     permeability: Fraction
 
     @property
@@ -47,7 +48,12 @@ def spaces(ship, a, n, b, h):
             breadth = min(tank for tank in tanks if tank >= b)
         else:
             continue
-        yield Space(ends[place], ends[place + 1], breadth, height, exact(zone.permeability))
+        yield Space(ends[place], ends[place + 1], breadth, height, exact(zone.bottom), exact(zone.permeability))
+
+
+def has_lesser_extent(ship, a, n, b, h):
+    """Whether damage floods a space over an inner bottom, which smaller damage leaves whole."""
+    return any(space.bottom for space in spaces(ship, a, n, b, h))
 
 
 def rounded(lever, reach, heel, opening):
@@ -56,26 +62,30 @@ def rounded(lever, reach, heel, opening):
     return floor(lever * 1000), floor(reach * 100), ceil(heel * 100), held
 
 
-def results(ship, a, n, b, h, at):
+def results(ship, a, n, b, h, at, is_lesser=False):
     """Lever in millimetres, range and heel in hundredths of a degree, the opening's height above the final waterline in millimetres, at one draught;
-    nothing where the ship is lost. The opening is taken to stand at the damaged side and at the end that goes down."""
+    nothing where the ship is lost. The opening is taken to stand at the damaged side and at the end that goes down. Of the lesser extent every inner
+    bottom is left whole: less water comes in, so that she floats higher, but the water at the very bottom was ballast, and GM is less without it."""
     length, breadth, block = exact(ship.length), exact(ship.breadth), exact(ship.block)
     draught = ship.draughts[at]
     freeboard = exact(ship.depth) - draught
     plane = length * breadth * min(block + Fraction(1, 10), Fraction(19, 20))
-    lost = lost_plane = lost_reserve = trimming = heeling = Fraction(0)
+    displacement = length * breadth * draught * block
+    lost = lost_plane = lost_reserve = trimming = heeling = lifting = Fraction(0)
     for space in spaces(ship, a, n, b, h):
-        volume = space.area * min(draught, space.height) * block
+        whole = space.bottom if is_lesser else 0
+        volume = space.area * (min(draught, space.height) - whole) * block
+        lifting += space.area * whole * block * (draught - whole / 2)
         lost += volume
         lost_plane += space.area * (space.height > draught)
         lost_reserve += space.area * max(space.height - draught, 0)
         trimming += volume * ((space.aft + space.forward) / 2 - length / 2)
         heeling += volume * (breadth - space.breadth) / 2
     left = plane - lost_plane
-    if left <= 0:
+    gm = exact(ship.gm[at]) * left / plane - lifting / displacement
+    if left <= 0 or gm <= 0:
         return None
-    gm = exact(ship.gm[at]) * left / plane
-    heel = heeling / (length * breadth * draught * block * gm)
+    heel = heeling / (displacement * gm)
     trim = abs(trimming) / (left * length / 7)
     sinkage = lost / left + trim / 2
     dry = freeboard - sinkage - heel * breadth / 4

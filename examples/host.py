@@ -13,10 +13,10 @@ import sys
 from pathlib import Path
 
 LIBRARY = Path(__file__).resolve().parent.parent / "target" / "library" / "lib" / "libdamindex.so"
-WRITTEN_FOR = 30000  # version 3.0.0; another one serves where the major number is the same and it is not older
+WRITTEN_FOR = 40000  # version 4.0.0; another one serves where the major number is the same and it is not older
 
 # as include/damindex.h has them
-LONGEST_INPUT, LONGEST_REPORT, LONGEST_SHEET, FIGURES = 32768, 12569, 1000, 12
+LONGEST_INPUT, LONGEST_REPORT, LONGEST_SHEET, FIGURES = 65536, 12569, 1000, 12
 ROW_NUMBERS, LONGEST_ROWS = 9, 4500
 MARKS = {1: "lever", 2: "range", 4: "heel", 8: "an immersed opening"}
 DRAUGHTS = ("deepest", "partial", "light")

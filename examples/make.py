@@ -1,6 +1,7 @@
 """Writes the example files, their answers and the tables of README.md anew; --check says whether they are just what is made."""
 
 import argparse
+import re
 import subprocess
 import sys
 from collections import Counter
@@ -11,7 +12,7 @@ HERE = Path(__file__).resolve().parent
 ROOT = HERE.parent
 sys.path[:0] = [str(HERE), str(ROOT / "tests")]
 
-from fleet import FLEET  # noqa: E402
+from fleet import FLEET, PAPER_CARRIER  # noqa: E402
 from independent import answer, reading  # noqa: E402
 from independent.regulation import R, group_share, s_fourth  # noqa: E402
 from ship import case_file, exact, groups  # noqa: E402
@@ -29,6 +30,8 @@ PRINTED_WHAT = "a ship of two zones, 99 m"
 PRINTED_SHOWS = "the case that the scope prints, byte for byte"
 HEAD = ("| file | ship | what it shows | rows | A | R | verdict |", "|---|---|---|---|---|---|---|")
 MARKS_HEAD = ("| file | rows of results | deepest | partial | light |", "|---|---|---|---|---|")
+SETS_HEAD = ("| survived worse | deepest | partial | light |", "|---|---|---|---|")
+SETS = {1: "the second set, with the inner bottom whole", -1: "the first set, with everything flooded", 0: "neither"}
 MARKS = slice(-3, None)  # the last bytes of a row's line, at the deepest, the partial and the light draught
 
 found = lru_cache(maxsize=None)(answer)
@@ -79,6 +82,14 @@ def marks_line(name, data):
     return f"| {name} | {len(marks)} | {' | '.join(cells)} |"
 
 
+def sets_lines(data):
+    """The lines of the third table: in how many rows of two sets the second, the first or neither is survived worse, at each draught."""
+    both = [[[s_fourth(*result) for result in at] for at in zip(*row.sets)] for row in reading(data).rows if len(row.sets) == 2]
+    for worse, what in SETS.items():
+        cells = [sum((first > second) - (first < second) == worse for first, second in at) for at in zip(*both)]
+        yield f"| {what} | {' | '.join(map(str, cells))} |"
+
+
 def with_table(text, head, lines):
     """A page with other lines under the head of one of its tables."""
     before, _, rest = text.partition(head[0] + "\n")
@@ -86,14 +97,15 @@ def with_table(text, head, lines):
 
 
 def with_tables(text):
-    """README.md with both tables of the examples as they are made now."""
+    """README.md with the tables of the examples as they are made now."""
     text = with_table(text, HEAD, [table_line(*case) for case in cases()])
-    return with_table(text, MARKS_HEAD, [marks_line(name, data) for name, _, _, data in cases()])
+    text = with_table(text, MARKS_HEAD, [marks_line(name, data) for name, _, _, data in cases()])
+    return with_table(text, SETS_HEAD, sets_lines(made(PAPER_CARRIER)))
 
 
 def survivals(row):
-    """The fourth powers of a row's survival: those of the results; a given survival here is 0."""
-    return row.given or [s_fourth(*result) for result in row.results]
+    """The fourth powers of a row's survival: those of the results, of two at a draught the lower; a given survival here is 0."""
+    return row.given or [min(s_fourth(*result) for result in at) for at in zip(*row.sets)]
 
 
 def rising(case):
@@ -135,9 +147,14 @@ def with_vents(ship, more):
     return ship._replace(vents=float(exact(ship.vents) + exact(more)))
 
 
+def of_one_set(data, place):
+    """The file with one set of each row of two, the first or the second."""
+    return re.sub(rb"(?m)^05(.{12})(.{48})(.{48})$", rb"02\1" + (rb"\2", rb"\3")[place], data)
+
+
 def ship_faults():
-    """For each ship: its verdict, its list of groups, and that no longer damage is survived better; what a millimetre of GM does, and how much
-    higher its vents must be."""
+    """For each ship: its verdict, its list of groups, and that no longer damage is survived better; what a millimetre of GM does, how much higher its
+    vents must be, and what either set of results does alone."""
     for ship in FLEET:
         case = reading(made(ship))
         yield None if verdict(made(ship)) == ship.verdict else f"{ship.name}: the verdict is not {ship.verdict}"
@@ -149,6 +166,9 @@ def ship_faults():
         if ship.raised is not None:
             told = [verdict(made(with_vents(ship, more))) for more in (exact(ship.raised), exact(ship.raised) - exact(0.1))]
             yield None if told == ["meets", "fails"] else f"{ship.name}: vents {ship.raised} m higher, and a tenth less, give {told}"
+        if ship.alone is not None:
+            told = [verdict(of_one_set(made(ship), place)) for place in (0, 1)]
+            yield None if told == [ship.alone, ship.alone] else f"{ship.name}: the first and the second set alone give {told}"
 
 
 def page_faults():

@@ -3,7 +3,7 @@
 from fractions import Fraction
 from typing import NamedTuple, Optional, Tuple
 
-from flooding import exact, results
+from flooding import exact, has_lesser_extent, results
 
 LONGEST_DAMAGE = Fraction(10, 33)  # of the ship's length
 ABOVE_THE_WATER = 12.5             # metres above the deepest draught that close a layer
@@ -19,6 +19,7 @@ class Zone(NamedTuple):
     decks: Tuple[float, ...] = ()    # its watertight decks, in metres above the keel, lowest first
     permeability: float = 0.95
     hold: Optional[str] = None       # zones along one and the same hold name it alike
+    bottom: float = 0                # its inner bottom, in metres above the keel; 0 where it has none
 
 
 class Ship(NamedTuple):
@@ -39,6 +40,7 @@ class Ship(NamedTuple):
     zones: Tuple[Zone, ...]
     adjacent: int = 20               # groups of more zones than that are left out
     raised: Optional[float] = None   # where it fails for its vents: how much higher they must be, in tenths of a metre
+    alone: Optional[str] = None      # where it has a second set of results: the verdict by either set alone
 
     @property
     def draughts(self):
@@ -79,11 +81,12 @@ def heights(ship, zones):
     return sorted({exact(deck) for zone in zones for deck in zone.decks}) + [exact(ship.deepest) + exact(ABOVE_THE_WATER)]
 
 
-def row_line(head, found):
-    """A row of three results, with zeros where the ship is lost; where it is lost at every draught, a row of given survivals 0."""
-    if not any(found):
+def row_line(head, *sets):
+    """A row of one set of three results, or of two, with zeros where the ship is lost; where all of them are lost, a row of given survivals 0."""
+    if not any(map(any, sets)):
         return "03" + head + 3 * digits(0)
-    return "02" + head + "".join(digits(number) for result in found for number in (result or (0, 0, 0, 0)))
+    numbers = [number for found in sets for result in found for number in (result or (0, 0, 0, 0))]
+    return {1: "02", 2: "05"}[len(sets)] + head + "".join(map(digits, numbers))
 
 
 def group_rows(ship, a, n):
@@ -92,7 +95,8 @@ def group_rows(ship, a, n):
     for b in layers(ship, zones):
         for h in heights(ship, zones):
             head = digits(a, 1) + digits(n, 1) + digits(whole(b, 100)) + digits(whole(h, 1000))
-            yield row_line(head, [results(ship, a, n, b, h, at) for at in DRAUGHTS])
+            extents = (False, True) if has_lesser_extent(ship, a, n, b, h) else (False,)
+            yield row_line(head, *([results(ship, a, n, b, h, at, is_lesser) for at in DRAUGHTS] for is_lesser in extents))
 
 
 def hull_line(ship):

@@ -10,8 +10,9 @@
  * What all functions promise, of any bytes whatever (proved of the library's own text): they return; they read `input` and never write it;
  * they write what is said below and leave every other element as it was; the same input with the same lengths gives the same answer.
  *
- * Run, not proved, because no contract speaks of it: 64 kilobytes of stack are enough, in whatever thread; nothing is taken from the heap and
- * nothing is kept between calls; of the C library memcpy and memset alone are called; loading the shared object runs nothing.
+ * Run, not proved, because no contract speaks of it: 64 kilobytes of stack are enough, in whatever thread, and a call takes NN,NNN bytes of them
+ * at most; nothing is taken from the heap and nothing is kept between calls; of the C library memcpy and memset alone are called; loading the
+ * shared object runs nothing.
  *
  * What the caller keeps, because no proof reaches into C:
  *   - no pointer is NULL, also where the length is 0; numbers of 64 bits are aligned as C aligns them;
@@ -34,16 +35,16 @@ extern "C" {
 
 /* The version of this header. The library tells its own by damindex_version. Major: something that a program relies on has changed. Minor:
  * something was added. Patch: neither. A program runs with a library of its own major version that is not older. */
-#define DAMINDEX_VERSION_MAJOR 3
+#define DAMINDEX_VERSION_MAJOR 4
 #define DAMINDEX_VERSION_MINOR 0
 #define DAMINDEX_VERSION_PATCH 0
 #define DAMINDEX_VERSION (10000 * DAMINDEX_VERSION_MAJOR + 100 * DAMINDEX_VERSION_MINOR + DAMINDEX_VERSION_PATCH)
-#define DAMINDEX_VERSION_STRING "3.0.0"
+#define DAMINDEX_VERSION_STRING "4.0.0"
 
 /* Sizes that serve every input (proved). A longer input than the longest is refused for its length, whatever it holds: to read one byte more
  * than that is enough to tell. */
 enum {
-    DAMINDEX_LONGEST_INPUT = 32768,  /* bytes */
+    DAMINDEX_LONGEST_INPUT = 65536,  /* bytes */
     DAMINDEX_LONGEST_REPORT = 12569, /* bytes: 500 rows */
     DAMINDEX_LONGEST_SHEET = 1000,   /* numbers: two a row */
     DAMINDEX_FIGURES = 12,           /* numbers */
@@ -75,7 +76,9 @@ enum {
 };
 
 /* The marks of a survival, added up: what holds it down. A survival that was found from lever, range, heel and opening is 1 just where it has no
- * mark; a given survival never has a mark, whatever it is. Each mark is told of its own number, whatever the others are. */
+ * mark; a given survival never has a mark, whatever it is. Each mark is told of its own number, whatever the others are. Where a row has two
+ * results at a draught (kind 05: that of the whole damage, and one of damage of lesser extent), the one that is survived worse counts, survival
+ * and marks alike; where both are survived alike, the marks are those of the first. */
 enum {
     DAMINDEX_LOW_LEVER = 1,       /* the lever is below its cap of 120 mm */
     DAMINDEX_LOW_RANGE = 2,       /* the range is below its cap of 16 degrees */
@@ -85,13 +88,13 @@ enum {
 
 /* Refusals. A file is judged line by line, and the first line that breaks a rule gives number and line. */
 enum {
-    DAMINDEX_TOO_LONG = 1,        /* more than 32,768 bytes; line 0 */
+    DAMINDEX_TOO_LONG = 1,        /* more than 65,536 bytes; line 0 */
     DAMINDEX_NOT_HEXADECIMAL = 2, /* an empty line, an odd number of digits, a byte that is no digit, or no closing line feed */
-    DAMINDEX_WRONG_FRAME = 3,     /* a frame of another kind or length than may stand there; so is a row of results with no openings, of 25 bytes */
+    DAMINDEX_WRONG_FRAME = 3,     /* a frame of another kind or length than may stand there: rows have 31 bytes (kind 02), 13 (03) or 55 (05) */
     DAMINDEX_HULL_LIMITS = 4,     /* length, breadth or a draught outside its limits; line 1 */
     DAMINDEX_ZONES = 5,           /* the zone count, the hull frame's length or the bulkheads; line 1 */
     DAMINDEX_ROW_COUNT = 6,       /* a 501st row, or an end frame that counts other rows than there were */
-    DAMINDEX_ROW_LIMITS = 7,      /* a number of a row outside its limits */
+    DAMINDEX_ROW_LIMITS = 7,      /* a number of a row outside its limits, be it of the first or of the second set of results */
     DAMINDEX_ROW_ORDER = 8,       /* a row that does not come after the row before it */
     DAMINDEX_NOT_CLOSED = 9,      /* a layer or group that ends before its top or before half the breadth */
     DAMINDEX_END_FRAME = 10,      /* a line after the end frame; or no end frame, at the line after the last */
@@ -124,7 +127,8 @@ size_t damindex_figures(const uint8_t *input, size_t input_length, uint64_t *she
  * Takes a case file in `input`, and room for nine numbers a row in `rows`. Where the file is accepted it writes them to the front of `rows`, in
  * the order of the rows: at the deepest draught bottom, top and the marks added up, then the same three at the partial draught, then at the
  * light draught. Bottom and top are ten-thousandths: the exact survival is not below the bottom and not above the top, and a given survival is
- * both. Returns how many numbers that is: DAMINDEX_ROW_NUMBERS times the rows, at most DAMINDEX_LONGEST_ROWS, and 0 for a file with no rows.
+ * both. A row of kind 05 has nine numbers too, at each draught those of the result that counts; which of its two that is, is not told. Returns how
+ * many numbers that is: DAMINDEX_ROW_NUMBERS times the rows, at most DAMINDEX_LONGEST_ROWS, and 0 for a file with no rows.
  *
  * Where the file is refused, or `rows` is too short for all of its numbers, it returns 0 and writes nothing. No sheet is lent, so that refusal 11
  * does not occur here. Which refusal it is, damindex_figures tells. */

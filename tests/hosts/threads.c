@@ -2,28 +2,15 @@
  *
  * Asked: how many threads, how many files, and the files, as `asking.h` has them. The threads start together, each at another file, and go
  * through all files three times; where a later answer is not the first one, the program ends with status 3, and where the marks among the rows'
- * numbers are not those of the text, with status 4. Told, thread by thread and file by file: what damindex_figures returned, the twelve figures
- * and each row's share, what damindex_rows returned and the rows' numbers, what damindex_report returned and the text. The files are lent to all
- * threads; what a call writes is its own. */
+ * numbers are not those of the text, with status 4. Told, thread by thread and file by file: the answer, as `answers.h` has it. The files are lent
+ * to all threads; what a call writes is its own. */
 #define _POSIX_C_SOURCE 200809L
-#include "asking.h"
-#include "damindex.h"
+#include "answers.h"
 #include <pthread.h>
 #include <string.h>
 
 enum { STACK = 65536, TURNS = 3 };
 enum { FIRST_LINE = 69, ROW_LINE = 25, MARKS = 18 }; /* of the text, with each line feed: the lengths of its lines, and where a row's marks begin */
-
-struct file {
-    uint8_t *bytes;
-    size_t length;
-};
-
-struct answer {
-    size_t returned, length, numbers;
-    uint64_t figures[DAMINDEX_FIGURES], sheet[DAMINDEX_LONGEST_SHEET], rows[DAMINDEX_LONGEST_ROWS];
-    uint8_t report[DAMINDEX_LONGEST_REPORT];
-};
 
 struct worker {
     pthread_t thread;
@@ -42,9 +29,9 @@ static void *room(size_t count, size_t size) {
 }
 
 static void take_answer(const struct file *file, struct answer *answer) {
-    answer->returned = damindex_figures(file->bytes, file->length, answer->sheet, DAMINDEX_LONGEST_SHEET, answer->figures, DAMINDEX_FIGURES);
-    answer->numbers = damindex_rows(file->bytes, file->length, answer->rows, DAMINDEX_LONGEST_ROWS);
-    answer->length = damindex_report(file->bytes, file->length, answer->report, sizeof answer->report);
+    take_figures(file, answer);
+    take_rows(file, answer);
+    take_report(file, answer);
 }
 
 /* Whether the text has the marks of the rows' numbers: a byte below 16, in two digits, at each draught. */
@@ -74,16 +61,6 @@ static void *work(void *given) {
         }
     }
     return NULL;
-}
-
-static void tell_answer(const struct answer *answer) {
-    tell(answer->returned);
-    for (size_t i = 0; i < DAMINDEX_FIGURES; i++) tell(answer->figures[i]);
-    for (size_t i = 0; i < 2 * answer->figures[DAMINDEX_ROWS]; i++) tell(answer->sheet[i]);
-    tell(answer->numbers);
-    for (size_t i = 0; i < answer->numbers; i++) tell(answer->rows[i]);
-    tell(answer->length);
-    fwrite(answer->report, 1, answer->length, stdout);
 }
 
 int main(void) {

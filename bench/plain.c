@@ -1,7 +1,7 @@
 /* The whole job of damindex in plain C, to time the proved program against: reads a case file, judges it, works it out and prints the answer.
  *
- * Numbers of 64 bits, and of 128 where those are too few. With TABLE defined, the chances of a hull's spans are worked out once for each file;
- * with WHOLE, the fourth root is found by halving and not from the processor's square root. The names of the two functions that a caller sees
+ * Numbers of 64 bits, and of 128 where those are too few. With TABLE defined, it goes the proved program's ways: the chances of a hull's spans are worked out
+ * once for each file, and s^4 is a whole number; with WHOLE, the fourth root is found by halving and not from the processor's square root. The names of the two functions that a caller sees
  * are given by REPORT and SHARES. No header is needed. */
 typedef unsigned char u8;
 typedef unsigned long u64;
@@ -148,17 +148,43 @@ static u64 fourth_root(u64 n) {
     return s;
 }
 
-/* The fourth power of a survival, over 120 * 1600 * 500 * 500 for all, so that two of them are compared as whole numbers. */
-static u64 fourth_of(const Result *r) {
+/* The fourth power of a survival. */
+#ifdef TABLE
+/* Over 120 * 1600 * 500 * 500 for all, as the proved program has it: 10^16 is 625,000 thirds over that. */
+typedef u64 Fourth;
+
+static Fourth fourth_of(const Result *r) {
     u64 k = r->heel <= 2500 ? 500 : less(3000, r->heel);
     return r->opening < 0 ? 0 : (r->lever < 120 ? r->lever : 120) * (r->range < 1600 ? r->range : 1600) * k * k;
 }
 
-/* Over that denominator 10^16 is 625,000 thirds. */
-static Ends survival(u64 fourth) {
+static int is_lower(Fourth a, Fourth b) { return a < b; }
+
+static Ends survival(Fourth fourth) {
     u64 thirds = 625000 * fourth, s = fourth_root(thirds / 3);
     return (Ends){s, s + (3 * fourth_power(s) != thirds)};
 }
+#else
+typedef struct { u64 n, d; } Fourth;
+
+static Fourth fourth_of(const Result *r) {
+    u64 n = (r->lever < 120 ? r->lever : 120) * (r->range < 1600 ? r->range : 1600), d = 120 * 1600;
+    if (r->heel >= 3000 || r->opening < 0) n = 0;
+    if (r->heel > 2500 && r->heel < 3000) {
+        n *= (3000 - r->heel) * (3000 - r->heel);
+        d *= 500 * 500;
+    }
+    return (Fourth){n, d};
+}
+
+static int is_lower(Fourth a, Fourth b) { return (u128)a.n * b.d < (u128)b.n * a.d; }
+
+static Ends survival(Fourth f) {
+    u128 scaled = (u128)f.n * 10000000000000000ul;
+    u64 s = fourth_root((u64)(scaled / f.d));
+    return (Ends){s, s + ((u128)fourth_power(s) * f.d != scaled)};
+}
+#endif
 
 /* What holds a survival down: 1 for the lever, 2 for the range, 4 for the heel, 8 for an immersed opening. */
 static u8 marks(const Result *r) { return (u8)((r->lever < 120) | (r->range < 1600) << 1 | (r->heel > 2500) << 2 | (r->opening < 0) << 3); }
@@ -202,11 +228,10 @@ static void work_out(const Hull *h, const Row *rows, u64 count, Answer *answer) 
             const Result *f = r->results + k;
             Ends s = {f->lever, f->lever};
             if (r->kind != 3) {
-                u64 fourth = fourth_of(f);
+                Fourth fourth = fourth_of(f);
                 if (r->kind == 5) { /* the lower of two counts, the first when equal */
-                    u64 second = fourth_of(f + 3);
-                    f += second < fourth ? 3 : 0;
-                    fourth = second < fourth ? second : fourth;
+                    Fourth second = fourth_of(f + 3);
+                    if (is_lower(second, fourth)) f += 3, fourth = second;
                 }
                 s = survival(fourth);
             }

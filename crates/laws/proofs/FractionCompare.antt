@@ -8,8 +8,8 @@ use native.Mathlib.Nat.{le-antisymm, mul-pos, mul-comm, mul-le-mul-right, mul-lt
 use native.Mathlib.Omega.{arith}
 use lib.Dec.{lit<}
 use Rattle.laws.specs.Fraction.{Fraction, den, _less_over_, _over_, whole, Is, _≈_, _≼_, _≺_, _≼?_, _⊝_, _⊛_}
-use Rattle.laws.proofs.Fraction.{positive, is-over, is-whole, is-nothing, is-self, is-shifted, is-⊝, is-⊛, is-widened, is-written, over-left, over-right, same, below, strictly-below, numerators-below, numerators-strictly-below, ≈-refl, ≈-sym, ⊛-≈, ≼-of-≈, ≼-trans, below-across}
-use Rattle.laws.proofs.FractionRing.{⊛-comm}
+use Rattle.laws.proofs.Fraction.{positive, is-over, is-whole, is-nothing, is-self, is-shifted, is-⊝, is-⊛, is-widened, is-written, over-left, over-right, same, below, strictly-below, numerators-below, numerators-strictly-below, ≈-refl, ≈-sym, ≈-trans, ⊛-≈, ≼-of-≈, ≼-trans, below-across}
+use Rattle.laws.proofs.FractionRing.{⊛-comm, ⊛-nothing}
 use Rattle.laws.proofs.FractionOrder.{ordered, test-passes, test-fails}
 use Rattle.laws.proofs.Polynomial.{_:*_, _:^_, _:=_, _⊢_, poly1}
 
@@ -61,6 +61,9 @@ pub ⊛-keeps : {f g x : Fraction} → whole 0 ≼ x → f ≼ g → f ⊛ x ≼
     let i : Is x (x .up - x .down) 0 (den x) = is-shifted (x .up - x .down) 0 (omega arith) (is-self x) in
     let e : x ≈ ((x .up - x .down) over den x) = same (positive x) i (is-over (x .up - x .down) (positive x)) in
     ≼-trans (≼-of-≈ (⊛-≈ (≈-refl f) e)) (≼-trans (⊛-rises (x .up - x .down) (positive x) l) (≼-of-≈ (⊛-≈ (≈-refl g) (≈-sym e))))
+
+pub ⊛-not-negative : {f g : Fraction} → whole 0 ≼ f → whole 0 ≼ g → whole 0 ≼ f ⊛ g
+⊛-not-negative {f} {g} p q = ≼-trans (≼-of-≈ (≈-trans (≈-sym (⊛-nothing g)) (⊛-comm g (whole 0)))) (⊛-keeps q p)
 
 -- ---- below and strictly below
 pub ≈-of-both : {f g : Fraction} → f ≼ g → g ≼ f → f ≈ g

@@ -7,7 +7,9 @@ pub mod Units
 pub mod RegulationIndices
 pub mod RegulationHeights
 pub mod RegulationSurvival
+pub mod RegulationLeast
 pub mod Examples
+pub mod LeastExamples
 pub mod SumExamples
 pub mod RegulationSums
 pub mod PlainSums

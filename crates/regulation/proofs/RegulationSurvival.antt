@@ -33,7 +33,7 @@ module _ (N : Numbers) where
       let inner : b · (a · b) ≐ a · (b · b) = same-trans (commutes b (a · b)) (associates a b b) in
       same-trans (associates a b (a · b)) (same-trans (same-product (same-refl a) inner) (same-sym (associates a a (b · b))))
 
-  square-same : {a b : Number} → a ≐ b → square N a ≐ square N b
+  pub square-same : {a b : Number} → a ≐ b → square N a ≐ square N b
   square-same p = same-product p p
 
   fourth-product : (a b : Number) → fourth N (a · b) ≐ fourth N a · fourth N b

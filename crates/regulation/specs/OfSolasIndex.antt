@@ -1,14 +1,14 @@
--- What "those of SOLAS" means for dp, A, R, v and s: the regulation's formulas come to document 01's forms; and where the two part. Assumes nothing.
+-- What "those of SOLAS" means for dp, A, R, v, s and s-min: the regulation's formulas come to document 01's forms; and where the two part. Assumes nothing.
 use Prim.Native.Nat.{ℕ, _-_, _%_, _≤_, _<_}
 use mathlib.Core.Path.{_≡_}
-use mathlib.Core.List.{List, List·Memᴰ}
+use mathlib.Core.List.{List, [], _∷_, List·Memᴰ}
 use lib.IntN.{ℤ}
-use Rattle.laws.specs.Fraction.{Fraction, _over_, whole, _≈_, _≼_, _≺_, _⊝_}
+use Rattle.laws.specs.Fraction.{Fraction, _over_, whole, _≈_, _≼_, _≺_, lesser, _⊝_}
 use Rattle.solas.specs.Height.{vAt, rowV, top}
 use Rattle.solas.specs.Survival.{s⁴, unlessImmersed}
 use Rattle.solas.specs.Index.{dp, attained, R, partialMark}
 use Rattle.regulation.specs.RegulationIndex as regulation
-use Rattle.regulation.specs.RegulationIndex.{millimetres, centimetres, hundredths, millimetresAbove, Opening, counted, uppermost, vOf, vm, Numbers, fourth, Taken}
+use Rattle.regulation.specs.RegulationIndex.{millimetres, centimetres, hundredths, millimetresAbove, Opening, counted, uppermost, vOf, vm, Numbers, fourth, Taken, Order, Least}
 
 -- ---- draughts and indices
 abbrev pub DraughtIs01's : Type 0
@@ -80,3 +80,16 @@ pub record Critical (openings : List Opening) (o : ℤ) : Type 0 where
 abbrev pub SurvivalIs01's : Type 1
 SurvivalIs01's = (N : Numbers) (g t e : ℕ) (o : ℤ) (openings : List Opening) (s : N .Number) → Critical openings o →
     Taken N (millimetres g) (hundredths t) (hundredths e) openings s → N ._≐_ (fourth N s) (N .fraction (unlessImmersed o (s⁴ g t e)))
+
+-- ---- s-min, of two damages at one draught: document 02's "Smaller damage, worse result"
+
+-- s is the factor of one of them, by its lever, range, heel and critical opening
+pub record FactorOf (N : Numbers) (g t e : ℕ) (o : ℤ) (s : N .Number) : Type 0 where
+  pub openings : List Opening
+  pub critical : Critical openings o
+  pub taken : Taken N (millimetres g) (hundredths t) (hundredths e) openings s
+
+-- the least of the two has the lesser of both s⁴
+abbrev pub LeastIs01's : Type 1
+LeastIs01's = (N : Numbers) (O : Order N) (g t e : ℕ) (o : ℤ) (g′ t′ e′ : ℕ) (o′ : ℤ) (s₁ s₂ s : N .Number) → FactorOf N g t e o s₁ → FactorOf N g′ t′ e′ o′ s₂ →
+    Least N O (s₁ ∷ s₂ ∷ []) s → N ._≐_ (fourth N s) (N .fraction (lesser (unlessImmersed o (s⁴ g t e)) (unlessImmersed o′ (s⁴ g′ t′ e′))))

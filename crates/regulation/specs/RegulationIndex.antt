@@ -1,8 +1,9 @@
--- What the regulation itself says of s, v, A, dp and R, in its own letters, in metres and degrees: document 002, 2.4.1, 2.5.1, 2.7.3, 2.7.6.2.1 and 2.7.7,
+-- What the regulation itself says of s, s-min, v, A, dp and R, in its own letters, in metres and degrees: document 002, 2.4.1, 2.5, 2.7.3, 2.7.6.2.1 and 2.7.7,
 -- and document 003, 4.1 and section 10. Assumes nothing.
 use Prim.Native.Nat.{ℕ, suc}
 use mathlib.Core.Bool.{cond}
 use mathlib.Core.List.{List, List·Memᴰ}
+use mathlib.Core.Logic.{_↔_}
 use lib.IntN.{ℤ, pos, negsuc}
 use Rattle.laws.specs.Fraction.{Fraction, _over_, whole, _≈_, _≼_, _≺_, _≼?_, lesser, _⊹_, _⊝_, _⊛_, _⊘_}
 
@@ -131,3 +132,23 @@ module _ (N : Numbers) where
   pub record Taken (GZmax Range θe : Fraction) (openings : List Opening) (s : Number) : Type 0 where
     pub immersed : (x : Opening) → List·Memᴰ x openings → x .edge ≺ x .waterline → s ≐ fraction (whole 0)
     pub dry : ((x : Opening) → List·Memᴰ x openings → x .waterline ≼ x .edge) → Final GZmax Range θe s
+
+  -- an order among such numbers: what is the same is in it either way, fractions are in it as they are by themselves, and products with numbers that are not
+  -- below zero keep it
+  pub record Order : Type 1 where
+    infix 4 _⊑_
+    pub _⊑_ : Number → Number → Type 0
+    pub below-same : {a b : Number} → a ≐ b → a ⊑ b
+    pub below-trans : {a b c : Number} → a ⊑ b → b ⊑ c → a ⊑ c
+    pub below-fraction : {f g : Fraction} → (fraction f ⊑ fraction g) ↔ (f ≼ g)
+    pub product-not-negative : {a b : Number} → fraction (whole 0) ⊑ a → fraction (whole 0) ⊑ b → fraction (whole 0) ⊑ a · b
+    pub product-keeps : {a b c : Number} → fraction (whole 0) ⊑ c → a ⊑ b → a · c ⊑ b · c
+
+  -- 2.7.7.3: "s_min = the least s-factor for all combinations of damages obtained when the assumed damage extends from the assumed damage height H_m
+  -- downwards"; for, by 2.5.6, "if a lesser extent of damage will give a more severe result, such extent is to be assumed". No s-factor is negative.
+  pub record Least (O : Order) (factors : List Number) (s : Number) : Type 0 where
+    pub not-negative : (x : Number) → List·Memᴰ x factors → O ._⊑_ (fraction (whole 0)) x
+    pub one : Number
+    pub among : List·Memᴰ one factors
+    pub that : s ≐ one
+    pub least : (x : Number) → List·Memᴰ x factors → O ._⊑_ s x

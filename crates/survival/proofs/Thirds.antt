@@ -1,32 +1,38 @@
 -- Thirds of 10⁻¹⁶: how many of them s⁴ is, how two numbers of them compare, and that they are rounded as the fraction is. Assumes nothing.
 use Prim.Native.Nat.{ℕ, _+_, _-_, _*_, _/_, _^_, _≤_, _<_, min}
 use mathlib.Core.Path.{_≡_, refl}
-use native.Mathlib.Nat.{le-refl, le-antisymm, min-le-left, min-le-right, mul-le-mul}
+use native.Mathlib.Nat.{le-antisymm, min-le-right, mul-le-mul}
 use native.Mathlib.Omega.{arith}
 use lib.Dec.{lit<}
-use Rattle.laws.specs.Fraction.{Fraction, whole, _≼_, _≺_}
+use Rattle.laws.specs.Fraction.{Fraction, whole, _≼_, _≺_, lesser}
 use Rattle.laws.specs.Rounding.{ceil}
 use Rattle.laws.proofs.Equal.{same-floor, same-ceil}
-use Rattle.laws.proofs.Fraction.{is-nothing, is-widened, is-written, below, strictly-below, ≈-refl, ≼-of-≈}
+use Rattle.laws.proofs.Fraction.{is-over, is-nothing, is-widened, is-shifted, is-⊛, is-written, below, strictly-below, ≈-refl, ≼-of-≈}
 use Rattle.laws.proofs.FractionCompare.{across-below}
+use Rattle.laws.proofs.FractionOrder.{is-lesser}
 use Rattle.laws.proofs.Polynomial.{pow-two}
 use Rattle.laws.proofs.Rounding.{floor-not-above-ceil, ceil-near-floor}
-use Rattle.solas.specs.Survival.{s⁴}
-use Rattle.solas.proofs.Survival.{is-s⁴}
+use Rattle.solas.specs.Survival.{k, s⁴}
+use Rattle.solas.proofs.Survival.{is-k}
+use Rattle.roots.specs.Root.{withDigits, rootDown, rootUp}
 use Rattle.numbers.specs.Ratio.{ratioOf}
 use Rattle.numbers.proofs.Ratios.{ratio-positive, is-ratio}
-use Rattle.survival.specs.Thirds.{InThirds, thirds}
+use Rattle.survival.specs.Thirds.{Parts, InThirds, thirds}
 use Rattle.survival.specs.Survival.{scaledOf, roundedOf}
 use Rattle.survival.proofs.Factors.{times-down, times-up, same-multiple}
 
--- ---- s⁴, and nothing
-pub fourth-thirds : (g t e : ℕ) → InThirds (s⁴ g t e) (min g 120 * min t 1600 * (min 500 (3000 - e) * min 500 (3000 - e)) * 625000)
-fourth-thirds g t e =
-    let left = min-le-left 500 (3000 - e) in
-    record {
-      is = is-written (is-widened 625000 (is-s⁴ g t e)) (rw pow-two (omega arith)) refl refl;
-      at-most-one = mul-le-mul (mul-le-mul (mul-le-mul (min-le-right g 120) (min-le-right t 1600)) (mul-le-mul left left)) (le-refl 625000);
-    }
+-- ---- k by what is left of 30 degrees, and not more than 5 of them; s⁴, from the parts that k is; and nothing
+pub heel-parts : (e n : ℕ) → min 500 (3000 - e) ≡ n → Parts (3 * 10 ^ 16 / (120 * 1600)) (k e) (n * n * 625000)
+heel-parts e n h =
+    let l : n ≤ 500 = omega arith in
+    record { is = is-written (is-widened 625000 (is-k e)) (rw (h, pow-two) (omega arith)) refl refl; at-most-one = omega (arith, mul-le-mul l l) }
+
+pub fourth-thirds : (g t e : ℕ) {n : ℕ} → Parts (3 * 10 ^ 16 / (120 * 1600)) (k e) n → InThirds (s⁴ g t e) (min g 120 * min t 1600 * n)
+unfolding s⁴
+fourth-thirds g t e h = record {
+  is = is-shifted _ 0 (omega arith) (is-⊛ (is-⊛ (is-over _ (lit< tt)) (is-over _ (lit< tt))) (h .is));
+  at-most-one = mul-le-mul (mul-le-mul (min-le-right g 120) (min-le-right t 1600)) (h .at-most-one);
+}
 
 pub nothing-thirds : InThirds (whole 0) 0
 nothing-thirds = record { is = is-nothing (lit< tt); at-most-one = omega arith }
@@ -38,6 +44,9 @@ module _ {f g : Fraction} {a b : ℕ} (h : InThirds f a) (k : InThirds g b) wher
 
   pub thirds-strictly-below : b < a → g ≺ f
   thirds-strictly-below l = strictly-below (k .is) (h .is) (omega arith)
+
+  pub lesser-thirds : InThirds (lesser f g) (min a b)
+  lesser-thirds = record { is = is-lesser (lit< tt) (h .is) (k .is); at-most-one = omega (arith, h .at-most-one) }
 
 -- ---- 10¹⁶ times n thirds of 10⁻¹⁶
 pub scaled-thirds : (n : ℕ) → _≡_ (scaledOf (thirds n)) (record { down = n / 3; up = ceil n 3 })
@@ -55,6 +64,10 @@ module _ {n : ℕ} (h : n ≤ 3 * 10 ^ 16) where
   pub scaled-fits : (scaledOf (thirds n) .down ≤ 10 ^ 16) × (scaledOf (thirds n) .up ≤ 10 ^ 16)
   unfolding scaledOf
   scaled-fits = (times-down (10 ^ 16) (lit< tt) h, times-up (10 ^ 16) (lit< tt) h)
+
+pub nothing-rounded : roundedOf (thirds 0) ≡ record { bottom = 0; top = 0 }
+unfolding roundedOf scaledOf rootDown rootUp withDigits ceil
+nothing-rounded = refl
 
 -- ---- a fraction and its thirds have one root
 module _ {f : Fraction} {n : ℕ} (h : InThirds f n) where

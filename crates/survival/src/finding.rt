@@ -1,6 +1,5 @@
 // The survival of a row's results: s⁴ as one whole number, from it the bottom and the top in ten-thousandths, and the marks; nothing of it is left
 // where an opening is immersed. Of two results at a draught the worse counts, by that number.
-use numbers::above;
 use numbers::ceiling;
 use records::Finding;
 use records::Marks;
@@ -9,12 +8,11 @@ use roots::root_down;
 use roots::root_up;
 ghost use mathlib.Core.Path.{_≡_};
 ghost use mathlib.Core.List.{_++_};
-ghost use Prim.Native.Nat.{_*_, _^_, _≤_, min};
-ghost use Rattle.solas.specs.Survival.{s⁴, immersed, unlessImmersed};
-ghost use Rattle.numbers.specs.Ratio.{ratioOf};
-ghost use Rattle.survival.specs.Thirds.{InThirds, thirds};
+ghost use Prim.Native.Nat.{_*_, _/_, _^_, _≤_, min};
+ghost use Rattle.solas.specs.Survival.{k, s⁴, immersed, unlessImmersed};
+ghost use Rattle.survival.specs.Thirds.{Parts, InThirds, thirds};
 ghost use Rattle.survival.specs.Marks.{foundMarks};
-ghost use Rattle.survival.specs.Survival.{scaledOf, roundedOf, marked, survivalOf, worseOf, survivalsOf};
+ghost use Rattle.survival.specs.Survival.{scaledOf, roundedOf, survivalOf, worseOf, survivalsOf};
 
 // The caps of lever (mm) and range (hundredths of a degree), and the heels between which survival falls to nothing.
 const LEVER: u64 = 120;
@@ -30,10 +28,8 @@ const CAPS: u64 = LEVER * RANGE;
 
 const FALL: u64 = (LOST - UPRIGHT) * (LOST - UPRIGHT);
 
-// One in thirds of 10⁻¹⁶, of which each s⁴ is a whole number: that divides it without a rest.
+// 3·10¹⁶, the thirds of 10⁻¹⁶ that make one: whatever s⁴ is divided by goes into it without a rest.
 const THIRDS: u64 = 30_000_000_000_000_000;
-
-const PART: u64 = THIRDS / (CAPS * FALL);
 
 // 10¹⁶ times a fraction, rounded down and up.
 struct Multiple {
@@ -53,6 +49,20 @@ fn lesser(a: u64, b: u64) -> u64
     if a <= b { a } else { b }
 }
 
+// k of a heel in hundredths of a degree, in parts of which a lever and a range at their caps make thirds.
+fn heel_factor(heel: u64) -> u64
+    ensures { λ r. ⌜ Parts (3 * 10 ^ 16 / (120 * 1600)) (k heel) r ⌝ }
+{
+    if heel <= UPRIGHT {
+        return THIRDS / CAPS;
+    }
+    if heel >= LOST {
+        return 0;
+    }
+    let left = LOST - heel;
+    left * left * (THIRDS / (CAPS * FALL))
+}
+
 // Whether an opening at a height above the final waterline in millimetres is immersed: at 0 it is not yet.
 fn is_immersed(opening: i64) -> bool
     ensures { λ r. ⌜ r ≡ immersed opening ⌝ }
@@ -69,8 +79,8 @@ fn fourth(lever: u64, range: u64, heel: u64, opening: i64) -> u64
     }
     let g = lesser(lever, LEVER);
     let t = lesser(range, RANGE);
-    let left = lesser(LOST - UPRIGHT, above(LOST, heel));
-    g * t * (left * left) * PART
+    let k = heel_factor(heel);
+    g * t * k
 }
 
 // 10¹⁶ times so many thirds of 10⁻¹⁶.
@@ -83,11 +93,14 @@ fn scaled(n: u64) -> Multiple
     }
 }
 
-// The fourth root in ten-thousandths: the greatest not above it, the least not below.
+// The fourth root of so many thirds in ten-thousandths: the greatest not above it, the least not below.
 fn rounded(n: u64) -> Roots
     requires { ⌜ n ≤ 3 * 10 ^ 16 ⌝ }
     ensures { λ r. ⌜ r ≡ roundedOf (thirds n) ⌝ }
 {
+    if n == 0 {
+        return Roots { bottom: 0, top: 0 };
+    }
     let s = scaled(n);
     let bottom = root_down(s.down);
     let top = root_up(bottom, s.up);
@@ -103,20 +116,6 @@ fn marks(lever: u64, range: u64, heel: u64, opening: i64) -> Marks
         range: range < RANGE,
         heel: UPRIGHT < heel,
         opening: is_immersed(opening),
-    }
-}
-
-// The survival of what was found, from its s⁴.
-fn found(s: u64, lever: u64, range: u64, heel: u64, opening: i64) -> Survival
-    requires { ⌜ InThirds (unlessImmersed opening (s⁴ lever range heel)) s ⌝ }
-    ensures { λ r. ⌜ r ≡ marked (roundedOf (ratioOf (unlessImmersed opening (s⁴ lever range heel)))) (foundMarks lever range heel opening) ⌝ }
-{
-    let r = rounded(s);
-    let marks = marks(lever, range, heel, opening);
-    Survival {
-        bottom: r.bottom,
-        top: r.top,
-        marks,
     }
 }
 
@@ -137,8 +136,13 @@ pub fn survival(kind: u64, lever: u64, range: u64, heel: u64, opening: i64, give
             marks,
         };
     }
-    let s = fourth(lever, range, heel, opening);
-    found(s, lever, range, heel, opening)
+    let s = rounded(fourth(lever, range, heel, opening));
+    let marks = marks(lever, range, heel, opening);
+    Survival {
+        bottom: s.bottom,
+        top: s.top,
+        marks,
+    }
 }
 
 // The survivals of a row's three results, where it has no second set.
@@ -177,16 +181,23 @@ pub fn survivals(kind: u64, fs: [Finding; 3]) -> [Survival; 3]
     ]
 }
 
-// Of two results at one draught the survival of the worse, by the exact s⁴; the first's when they are equal.
+// Of two results at one draught the survival of the worse, by the exact s⁴: the first's marks when they are equal.
 fn worse(f: Finding, g: Finding) -> Survival
     ensures { λ r. ⌜ r ≡ survivalOf 5 (worseOf f g) ⌝ }
 {
     let a = fourth(f.lever, f.range, f.heel, f.opening);
     let b = fourth(g.lever, g.range, g.heel, g.opening);
-    if a <= b {
-        return found(a, f.lever, f.range, f.heel, f.opening);
+    let s = rounded(lesser(a, b));
+    let marks = if a <= b {
+        marks(f.lever, f.range, f.heel, f.opening)
+    } else {
+        marks(g.lever, g.range, g.heel, g.opening)
+    };
+    Survival {
+        bottom: s.bottom,
+        top: s.top,
+        marks,
     }
-    found(b, g.lever, g.range, g.heel, g.opening)
 }
 
 // The survivals of a row of kind 5, from its two sets of results: at each draught the lower.

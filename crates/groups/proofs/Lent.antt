@@ -49,12 +49,12 @@ module _ {t : List ℕ} {L B : ℕ} {k : Bulkheads} {a n : ℕ} (l : Lent t L B 
     to : e ≤ l .hull .zones
     to = omega (arith, l .group .fits, q .before)
 
-    pub in-table : (1 ≤ d) × (d ≤ 20) × (1 ≤ e) × (e ≤ 20) × (length t ≡ 1600)
-    in-table = (from, omega (arith, l .hulled .few, q .order, to), omega (arith, from, q .order), omega (arith, l .hulled .few, to), rw (l .table) (table-long (l .hull)))
+    pub in-table : (1 ≤ d) × (d ≤ e) × (e ≤ 20) × (length t ≡ 840)
+    in-table = (from, q .order, omega (arith, l .hulled .few, to), rw (l .table) (table-long (l .hull) (l .hulled)))
 
     module _ {s : SpanEnds} {y : Layer} {aft fwd : ℕ} (v : Layered B y) (f : aft ≡ shipOf (l .hull) .aft d) (g : fwd ≡ shipOf (l .hull) .fwd e) (read : s ≡ spanIn t d e) where
       span-is : s ≡ spanEnds L aft fwd
-      span-is = rw (l .long, f, g) (read ∙ rw (l .table) (span-read (l .hull) d e (l .hulled) from (q .order) to))
+      span-is = rw (l .long, f, g) (read ∙ rw (l .table) (span-read (l .hull) (l .hulled) d e from (q .order) to))
 
       inner-is : s .inner ≡ pEnds L (fwd - aft)
       unfolding spanEnds

@@ -15,6 +15,7 @@ use records::Ends;
 use records::Hull;
 use records::Trio;
 use rows::sheet::fill;
+use spans::TABLE;
 
 pub mod printed; // the printed answer
 pub mod rowwise; // the rows' survivals, for a host
@@ -62,7 +63,8 @@ fn complete(kept: &[u8], h: Hull, rows: u64, sheet: &mut [u64]) -> Answer
     requires { ⌜ Valid (keptCase (now kept) h rows) × (placeWidth * rows ≤ length (now kept)) × (2 * rows ≤ length (now sheet)) ⌝ }
     ensures { λ r. ⌜ (r ≡ answer (keptCase (now (kept .entry)) h rows)) × (now (sheet .exit) ≡ shares (keptCase (now (kept .entry)) h rows) ++ drop (2 * rows) (now (sheet .entry))) ⌝ }
 {
-    let t = spans::span_table(h);
+    let mut t = [0u64; TABLE];
+    spans::fill_table(h, &mut t);
     let partials = fill(kept, rows as usize, h, &t, sheet);
     conclude(h.length, rows, partials)
 }

@@ -14,6 +14,7 @@ ghost use Rattle.index.specs.Kept.{keptCase};
 use super::conclude;
 use casefile::KEPT;
 use records::Hull;
+use spans::TABLE;
 
 // A valid case, by its hull and its rows as they are kept, in a buffer with room for its lines: those of the rows as they are worked out, then that
 // of the figures in front.
@@ -21,7 +22,8 @@ fn put_case(kept: &[u8], h: Hull, rows: u64, out: &mut [u8])
     requires { ⌜ Valid (keptCase (now kept) h rows) × (placeWidth * rows ≤ length (now kept)) × (69 + 25 * rows ≤ length (now out)) ⌝ }
     ensures { λ _. ⌜ now (out .exit) ≡ splice 0 (printed (answer (keptCase (now (kept .entry)) h rows)) (linesIn (accepted (keptCase (now (kept .entry)) h rows)))) (now (out .entry)) ⌝ }
 {
-    let t = spans::span_table(h);
+    let mut t = [0u64; TABLE];
+    spans::fill_table(h, &mut t);
     let partials = rows::lines::print(kept, rows as usize, h, &t, out, 69);
     let a = conclude(h.length, rows, partials);
     printing::put_figures(a, out);

@@ -13,6 +13,7 @@ ghost use Rattle.probes.specs.Shares.{number, hullIn, hullFits, headWith
 use records::Ends;
 use records::Hull;
 use records::RowHead;
+use spans::TABLE;
 
 fn number_at(ns: &[u64], k: usize) -> u64
     ensures { λ r. ⌜ r ≡ number (now (ns .entry)) k ⌝ }
@@ -119,7 +120,8 @@ pub extern "C" fn probe_shares(hull: &[u64], rows: &[u64], out: &mut [u64]) -> u
         return 0;
     }
     let count = lesser(rows.len() / 4, out.len() / 2);
-    let t = spans::span_table(h);
+    let mut t = [0u64; TABLE];
+    spans::fill_table(h, &mut t);
     put_shares(&t, h, rows, count, out);
     count
 }

@@ -1,4 +1,5 @@
 pub mod Enclosure
+mod Filling
 pub mod Places
 pub mod Rounded
 pub mod Span

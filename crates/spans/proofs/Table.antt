@@ -1,93 +1,99 @@
--- The span table, filled four places at a time and read by zones. Assumes nothing.
-use mathlib.Core.Path.{_≡_, sym, ap, _∙_}
-use mathlib.Core.Bool.{true, _&&_}
+-- The span table: where a span stands in it, and that it is read there. Assumes nothing.
+use mathlib.Core.Path.{_≡_, refl, ap, _∙_}
 use mathlib.Core.List.{List}
-use Prim.Native.Nat.{ℕ, _+_, _-_, _*_, _/_, _%_, _≤_, _<_}
-use native.Mathlib.Nat.{add-zero}
+use mathlib.Core.Logic.{⊎-elim}
+use Prim.Native.Nat.{ℕ, zero, suc, _+_, _-_, _*_, _≤_, _<_}
+use native.Mathlib.Nat.{add-zero, mul-le-mul, eq-or-lt-of-le}
 use native.Mathlib.Omega.{arith}
-use borrow.Author.Tests.{le-leb, lt-ltb, leb-true, ltb-true}
-use lib.Dec.{leb, ltb}
-use lib.ListN.{length, getD, set}
-use Rattle.laws.proofs.Tests.{both}
-use Rattle.laws.proofs.Lists.{Filled, one-filled, length-tabulate, getD-tabulate}
+use lib.ListN.{length, getD, replicate, length-append, length-replicate, List·getD-append}
+use lib.Seq.{getD-append-add}
 use Rattle.records.specs.declared.Hull.{Hull}
-use Rattle.spans.specs.declared.SpanEnds.{SpanEnds}
 use Rattle.spans.specs.Span.{spanEnds}
 use Rattle.spans.specs.Hull.{shipOf, Hulled}
-use Rattle.spans.proofs.Places.{place-below, place-within}
-use Rattle.spans.specs.Table.{spanAt, numberOf, numberAt, tableOf, spanIn}
+use Rattle.spans.specs.Table.{spanAt, numbersOf, joined, endingWith, spansOf, tableOf, placeOf, spanIn}
 
--- ---- a span of its zones
+-- ---- lists in turn
 
--- the test for one, passed
-tested : (i j m : ℕ) → (leb i j && ltb j m) ≡ true → (i ≤ j) × (j < m)
-tested i j m e = let t = both (leb i j) (ltb j m) e in (leb-true i j (t .0), ltb-true j m (t .1))
+module _ (g : ℕ → List ℕ) where
+  -- each one lies within those that are joined
+  joined-within : (n j : ℕ) → j < n → length (joined g j) + length (g j) ≤ length (joined g n)
+  unfolding joined
+  joined-within zero j l = absurd (omega arith)
+  joined-within (suc n) j l =
+      rw length-append
+      (⊎-elim
+      (λ (e : suc j ≡ suc n). let f : j ≡ n = omega arith in rw f (omega arith))
+      (λ (m : suc j < suc n). omega (arith, joined-within n j (omega arith)))
+      (eq-or-lt-of-le l))
 
--- then it lies within the ship
-pub span-within : {h : Hull} (i j : ℕ) → Hulled h → (leb i j && ltb j (h .zones)) ≡ true →
-    (1 ≤ h .length) × (h .length ≤ 19800) × (getD (h .places) i 0 ≤ getD (h .places) (j + 1) 0) × (getD (h .places) (j + 1) 0 ≤ h .length)
-span-within {h} i j s e =
-    let t = tested i j (h .zones) e in
-    (omega (arith, s .long), s .short, place-below s (omega arith) (omega arith), place-within s (omega arith))
+  joined-at : (n j k : ℕ) → j < n → k < length (g j) → getD (joined g n) (length (joined g j) + k) 0 ≡ getD (g j) k 0
+  unfolding joined
+  joined-at zero j k l h = absurd (omega arith)
+  joined-at (suc n) j k l h =
+      ⊎-elim
+      (λ (e : suc j ≡ suc n). let f : j ≡ n = omega arith in rw f (getD-append-add (joined g n) (g n) k 0))
+      (λ (m : suc j < suc n).
+      List·getD-append (joined g n) (g n) 0 (length (joined g j) + k) (omega (arith, joined-within n j (omega arith)))
+      ∙ joined-at n j k (omega arith) h)
+      (eq-or-lt-of-le l)
 
-pub span-there : (h : Hull) (i j : ℕ) → i ≤ j → j < h .zones → spanAt h i j ≡ spanEnds (h .length) (getD (h .places) i 0) (getD (h .places) (j + 1) 0)
-unfolding spanAt
-span-there h i j p q = rw (le-leb i j p, lt-ltb j (h .zones) q)
+-- ---- where a span stands
 
--- ---- filling
+-- the numbers of the spans that end before zone e
+pub place-few : {e : ℕ} → e ≤ 20 → 2 * (e - 1) * e ≤ 760
+place-few {e} l = let m : e - 1 ≤ 19 = omega arith in omega (arith, mul-le-mul m l)
 
--- four stores
-four-filled : (g : ℕ → ℕ) (n : ℕ) (xs : List ℕ) (k : ℕ) {a b c d : ℕ} → k + 4 ≤ n → a ≡ g k → b ≡ g (k + 1) → c ≡ g (k + 2) → d ≡ g (k + 3) →
-    Filled g n xs k → Filled g n (set (set (set (set xs k a) (k + 1) b) (k + 2) c) (k + 3) d) (k + 4)
-four-filled g n xs k {a} {b} {c} {d} h p q r s f =
-    let e2 : k + 1 + 1 ≡ k + 2 = omega arith in
-    let e3 : k + 2 + 1 ≡ k + 3 = omega arith in
-    let e4 : k + 3 + 1 ≡ k + 4 = omega arith in
-    let f1 = one-filled g n xs k a (omega arith) p f in
-    let f2 = one-filled g n (set xs k a) (k + 1) b (omega arith) q f1 in
-    let f3 = one-filled g n (set (set xs k a) (k + 1) b) (k + 2) c (omega arith) r (rw e2 at f2) in
-    rw (← e4) (one-filled g n (set (set (set xs k a) (k + 1) b) (k + 2) c) (k + 3) d (omega arith) s (rw e3 at f3))
+module _ (h : Hull) where
+  length-ending : (j n : ℕ) → length (endingWith h j n) ≡ 4 * n
+  unfolding endingWith joined
+  length-ending j zero = refl
+  length-ending j (suc n) = rw length-append (omega (arith, length-ending j n))
 
--- the four places of one span
-place-of-span : (h : Hull) (k j : ℕ) → k % 4 ≡ 0 → j < 4 → numberAt h (k + j) ≡ numberOf (spanAt h (k / 80) (k / 4 % 20)) j
-unfolding numberAt
-place-of-span h k j e l =
-    let a : (k + j) / 80 ≡ k / 80 = omega arith in
-    let b : (k + j) / 4 ≡ k / 4 = omega arith in
-    let c : (k + j) % 4 ≡ j = omega arith in
-    rw (a, b, c)
+  pub length-spans : (n : ℕ) → length (spansOf h n) ≡ 2 * n * (n + 1)
+  unfolding spansOf joined
+  length-spans zero = refl
+  length-spans (suc n) = rw length-append (omega (arith, length-spans n, length-ending n (n + 1)))
 
-pub span-filled : (h : Hull) (t : List ℕ) (k : ℕ) (s : SpanEnds) → k % 4 ≡ 0 → k < 1600 → s ≡ spanAt h (k / 80) (k / 4 % 20) → Filled (numberAt h) 1600 t k →
-    Filled (numberAt h) 1600 (set (set (set (set t k (s .inner .lower)) (k + 1) (s .inner .upper)) (k + 2) (s .chance .lower)) (k + 3) (s .chance .upper)) (k + 4)
-span-filled h t k s e l q f =
-    let number : (j : ℕ) → j < 4 → numberOf s j ≡ numberAt h (k + j) = λ j m. ap (λ z. numberOf z j) q ∙ sym (place-of-span h k j e m) in
-    let first : s .inner .lower ≡ numberAt h k = number 0 (omega arith) ∙ ap (numberAt h) (add-zero k) in
-    four-filled (numberAt h) 1600 t k (omega arith) first (number 1 (omega arith)) (number 2 (omega arith)) (number 3 (omega arith)) f
+  -- the span from zone i to zone j, among those of n zones
+  module _ (n i j : ℕ) (order : i ≤ j) (last : j < n) where
+    pub span-inside : 2 * j * (j + 1) + 4 * i + 4 ≤ length (spansOf h n)
+    unfolding spansOf
+    span-inside = omega (arith, joined-within (λ j. endingWith h j (j + 1)) n j last, length-spans j, length-ending j (j + 1))
 
--- ---- reading
+    span-number : (k : ℕ) → k < 4 → getD (spansOf h n) (2 * j * (j + 1) + 4 * i + k) 0 ≡ getD (numbersOf (spanAt h i j)) k 0
+    unfolding spansOf endingWith
+    span-number k l =
+        let p : 2 * j * (j + 1) + 4 * i + k ≡ length (spansOf h j) + (length (endingWith h j i) + k) = omega (arith, length-spans j, length-ending j i) in
+        ap (λ z. getD (spansOf h n) z 0) p
+        ∙ joined-at (λ j. endingWith h j (j + 1)) n j (length (endingWith h j i) + k) last (omega (arith, length-ending j i, length-ending j (j + 1)))
+        ∙ joined-at (λ i. numbersOf (spanAt h i j)) (j + 1) i k (omega arith) l
 
-pub table-long : (h : Hull) → length (tableOf h) ≡ 1600
-unfolding tableOf
-table-long h = length-tabulate (numberAt h) 1600
+-- ---- the table of a hull
 
-read : (h : Hull) (k j : ℕ) → k % 4 ≡ 0 → j < 4 → k + 4 ≤ 1600 → getD (tableOf h) (k + j) 0 ≡ numberOf (spanAt h (k / 80) (k / 4 % 20)) j
-unfolding tableOf
-read h k j e l m = getD-tabulate (numberAt h) 1600 (k + j) 0 (omega arith) ∙ place-of-span h k j e l
+module _ (h : Hull) (s : Hulled h) where
+  pub spans-few : length (spansOf h (h .zones)) ≤ 840
+  spans-few = omega (arith, length-spans h (h .zones), mul-le-mul (s .few) (s .few), s .few)
 
--- the zones from a to e stand in the table
-pub read-back : (h : Hull) (a e : ℕ) → a ≤ 20 → e ≤ 20 → 1 ≤ a → 1 ≤ e → spanIn (tableOf h) a e ≡ spanAt h (a - 1) (e - 1)
-unfolding spanIn
-read-back h a e p q r s =
-    let k = 80 * (a - 1) + 4 * (e - 1) in
-    let z : k % 4 ≡ 0 = omega arith in
-    let x : k / 80 ≡ a - 1 = omega arith in
-    let f : k / 4 ≡ 20 * (a - 1) + (e - 1) = omega arith in
-    let y : k / 4 % 20 ≡ e - 1 = rw f (omega arith) in
-    let number : (n : ℕ) → n < 4 → getD (tableOf h) (k + n) 0 ≡ numberOf (spanAt h (a - 1) (e - 1)) n = λ n l. rw (x, y) at (read h k n z l (omega arith)) in
-    let first : getD (tableOf h) k 0 ≡ spanAt h (a - 1) (e - 1) .inner .lower = rw (add-zero k) at (number 0 (omega arith)) in
-    rw (first, number 1 (omega arith), number 2 (omega arith), number 3 (omega arith))
+  pub table-long : length (tableOf h) ≡ 840
+  unfolding tableOf
+  table-long = rw (length-append, length-replicate) (omega (arith, spans-few))
 
-pub span-read : (h : Hull) (a e : ℕ) → Hulled h → 1 ≤ a → a ≤ e → e ≤ h .zones → spanIn (tableOf h) a e ≡ spanEnds (h .length) (shipOf h .aft a) (shipOf h .fwd e)
-span-read h a e s p q r =
-    let f : e - 1 + 1 ≡ e = omega arith in
-    read-back h a e (omega (arith, s .few)) (omega (arith, s .few)) p (omega arith) ∙ (rw f at (span-there h (a - 1) (e - 1) (omega arith) (omega arith)))
+  -- the zones from a to e
+  module _ (a e : ℕ) (from : 1 ≤ a) (order : a ≤ e) (to : e ≤ h .zones) where
+    number-read : (k : ℕ) → k < 4 → getD (tableOf h) (placeOf a e + k) 0 ≡ getD (numbersOf (spanAt h (a - 1) (e - 1))) k 0
+    unfolding tableOf
+    number-read k l =
+        let f : e - 1 + 1 ≡ e = omega arith in
+        let n = h .zones in
+        let p : placeOf a e + k ≡ 2 * (e - 1) * e + 4 * (a - 1) + k = omega arith in
+        rw p
+        (List·getD-append (spansOf h n) (replicate (840 - length (spansOf h n)) 0) 0 (2 * (e - 1) * e + 4 * (a - 1) + k)
+        (omega (arith, rw f at (span-inside h n (a - 1) (e - 1) (omega arith) (omega arith))))
+        ∙ (rw f at (span-number h n (a - 1) (e - 1) (omega arith) (omega arith) k l)))
+
+    pub span-read : spanIn (tableOf h) a e ≡ spanEnds (h .length) (shipOf h .aft a) (shipOf h .fwd e)
+    unfolding spanIn spanAt
+    span-read =
+        let f : e - 1 + 1 ≡ e = omega arith in
+        let first : getD (tableOf h) (placeOf a e) 0 ≡ spanAt h (a - 1) (e - 1) .inner .lower = rw (add-zero (placeOf a e)) at (number-read 0 (omega arith)) in
+        rw (first, number-read 1 (omega arith), number-read 2 (omega arith), number-read 3 (omega arith), f)

@@ -1,40 +1,44 @@
--- The span table: p's and P's ends of every span of zones, four numbers a span. Assumes nothing.
-use Prim.Native.Nat.{ℕ, zero, suc, _+_, _-_, _*_, _/_, _%_}
-use mathlib.Core.Bool.{_&&_, cond}
-use mathlib.Core.List.{List}
-use lib.Dec.{leb, ltb}
-use lib.ListN.{getD}
-use Rattle.laws.specs.Lists.{tabulate}
+-- The span table: p's and P's ends of every span of a hull's zones, four numbers a span. Assumes nothing.
+use Prim.Native.Nat.{ℕ, zero, suc, _+_, _-_, _*_}
+use mathlib.Core.List.{List, [], _∷_, _++_}
+use lib.ListN.{length, getD, replicate}
 use Rattle.records.specs.declared.Hull.{Hull}
 use Rattle.spans.specs.declared.SpanEnds.{SpanEnds}
 use Rattle.spans.specs.Span.{spanEnds}
 
--- what stands where there is no span
-abbrev pub noSpan : SpanEnds
-noSpan = record { inner = record { lower = 0; upper = 0 }; chance = record { lower = 0; upper = 0 } }
-
--- the zones from i to j, counted from 0, of the m zones of a hull
+-- the zones from i to j, counted from 0
 unfoldable pub spanAt : Hull → ℕ → ℕ → SpanEnds
-spanAt h i j = cond (leb i j && ltb j (h .zones)) (spanEnds (h .length) (getD (h .places) i 0) (getD (h .places) (j + 1) 0)) noSpan
+spanAt h i j = spanEnds (h .length) (getD (h .places) i 0) (getD (h .places) (j + 1) 0)
 
 -- a span's four numbers
-abbrev pub numberOf : SpanEnds → ℕ → ℕ
-numberOf s zero = s .inner .lower
-numberOf s (suc zero) = s .inner .upper
-numberOf s (suc (suc zero)) = s .chance .lower
-numberOf s (suc (suc (suc k))) = s .chance .upper
+abbrev pub numbersOf : SpanEnds → List ℕ
+numbersOf s = s .inner .lower ∷ s .inner .upper ∷ s .chance .lower ∷ s .chance .upper ∷ []
 
--- four numbers for each j below 20, eighty for each i
-unfoldable pub numberAt : Hull → ℕ → ℕ
-numberAt h k = numberOf (spanAt h (k / 80) (k / 4 % 20)) (k % 4)
+-- the numbers of g 0, .., g (n - 1), in turn
+unfoldable pub joined : (ℕ → List ℕ) → ℕ → List ℕ
+joined g zero = []
+joined g (suc n) = joined g n ++ g n
 
+-- the spans that end with zone j and begin with one of the first n zones, in turn
+unfoldable pub endingWith : Hull → ℕ → ℕ → List ℕ
+endingWith h j n = joined (λ i. numbersOf (spanAt h i j)) n
+
+-- the spans of the first n zones: by their last zone, and then by their first
+unfoldable pub spansOf : Hull → ℕ → List ℕ
+spansOf h n = joined (λ j. endingWith h j (j + 1)) n
+
+-- 20 zones have 210 spans, and so 840 numbers; where a hull has fewer, zeros follow
 unfoldable pub tableOf : Hull → List ℕ
-tableOf h = tabulate (numberAt h) 1600
+tableOf h = spansOf h (h .zones) ++ replicate (840 - length (spansOf h (h .zones))) 0
 
--- what stands there of the zones from a to e
+-- where the span of the zones from a to e, counted from 1, stands in it
+abbrev pub placeOf : ℕ → ℕ → ℕ
+placeOf a e = 2 * (e - 1) * e + 4 * (a - 1)
+
+-- what is read there
 unfoldable pub spanIn : List ℕ → ℕ → ℕ → SpanEnds
 spanIn t a e =
-    let k : ℕ = 80 * (a - 1) + 4 * (e - 1) in
+    let k : ℕ = placeOf a e in
     record {
       inner = record { lower = getD t k 0; upper = getD t (k + 1) 0 };
       chance = record { lower = getD t (k + 2) 0; upper = getD t (k + 3) 0 };

@@ -4,16 +4,19 @@ use bands::inner;
 use division::billionths;
 use records::Ends;
 use records::Hull;
-ghost use mathlib.Core.Bool.{true, cond};
 ghost use mathlib.Core.Path.{_≡_};
-ghost use Prim.Native.Nat.{_≤_};
-ghost use lib.ListN.{length};
+ghost use Prim.Native.Nat.{_+_, _-_, _≤_};
+ghost use lib.ListN.{length, replicate};
+ghost use lib.Seq.{sets};
 ghost use Rattle.solas.specs.Span.{one, touch, p, PAt};
 ghost use Rattle.bands.specs.Bands.{Chance};
 ghost use Rattle.spans.specs.Rounded.{endsOf};
 ghost use Rattle.spans.specs.Span.{touches, spanEnds};
 ghost use Rattle.spans.specs.Hull.{Hulled};
-ghost use Rattle.spans.specs.Table.{noSpan, tableOf, spanIn};
+ghost use Rattle.spans.specs.Table.{numbersOf, tableOf, spanIn};
+
+// How many numbers a table has: four for each of the 210 spans that 20 zones have.
+pub const TABLE: usize = 840;
 
 // The ends of p and of P of one span.
 pub struct SpanEnds {
@@ -70,54 +73,58 @@ fn span_ends(l: u64, aft: u64, fwd: u64) -> SpanEnds
     SpanEnds { inner: p, chance }
 }
 
-// The same where there is such a span, and zeros where there is none.
-fn span_where(there: bool, l: u64, aft: u64, fwd: u64) -> SpanEnds
-    requires { ⌜ (there ≡ true → (1 ≤ l) × (l ≤ 19800) × (aft ≤ fwd) × (fwd ≤ l)) ⌝ }
-    ensures { λ r. ⌜ r ≡ cond there (spanEnds l aft fwd) noSpan ⌝ }
+// A span's four numbers, from a place of the table on.
+fn put_span(s: SpanEnds, t: &mut [u64], k: usize)
+    requires { ⌜ k + 4 ≤ length (now t) ⌝ }
+    ensures { λ _. ⌜ now (t .exit) ≡ sets (now (t .entry)) k (numbersOf s) ⌝ }
 {
-    if there {
-        return span_ends(l, aft, fwd);
-    }
-    SpanEnds {
-        inner: Ends { lower: 0, upper: 0 },
-        chance: Ends { lower: 0, upper: 0 },
+    t[k] = s.inner.lower;
+    t[k + 1] = s.inner.upper;
+    t[k + 2] = s.chance.lower;
+    t[k + 3] = s.chance.upper;
+}
+
+// Zeros from a place of the table on.
+fn clear(t: &mut [u64], from: usize)
+    requires { ⌜ (from ≤ 840) × (length (now t) ≡ 840) ⌝ }
+    ensures { λ _. ⌜ now (t .exit) ≡ sets (now (t .entry)) from (replicate (840 - from) 0) ⌝ }
+{
+    let mut k = from;
+    while k < TABLE {
+        t[k] = 0;
+        k += 1;
     }
 }
 
-// A table that is still to be filled.
-fn blank() -> [u64; 1_600]
-    ensures { λ r. ⌜ length r ≡ 1600 ⌝ }
+// The ends of p and P of every span of a hull's zones, worked out once: by their last zone, and then by their first. The span from zone i to zone j,
+// counted from 0, stands at the place k; behind the last are zeros.
+pub fn fill_table(h: Hull, t: &mut [u64])
+    requires { ⌜ Hulled h × (length (now t) ≡ 840) ⌝ }
+    ensures { λ _. ⌜ now (t .exit) ≡ tableOf h ⌝ }
 {
-    [0u64; 1_600]
-}
-
-// The ends of p and P of every span of a hull's zones, worked out once.
-pub fn span_table(h: Hull) -> [u64; 1_600]
-    requires { ⌜ Hulled h ⌝ }
-    ensures { λ r. ⌜ r ≡ tableOf h ⌝ }
-{
-    let mut t = blank();
+    let mut i: usize = 0;
+    let mut j: usize = 0;
     let mut k: usize = 0;
-    while k < 1_600 {
-        let i = k / 80;
-        let j = k / 4 % 20;
-        let there = (i <= j) & (j < h.zones);
-        let s = span_where(there, h.length, h.places[i], h.places[j + 1]);
-        t[k] = s.inner.lower;
-        t[k + 1] = s.inner.upper;
-        t[k + 2] = s.chance.lower;
-        t[k + 3] = s.chance.upper;
-        k = k + 4;
+    while j < h.zones {
+        let s = span_ends(h.length, h.places[i], h.places[j + 1]);
+        put_span(s, t, k);
+        k += 4;
+        if i < j {
+            i += 1;
+        } else {
+            i = 0;
+            j += 1;
+        }
     }
-    t
+    clear(t, k);
 }
 
 // p and P of the zones from a to e, read from the table.
 pub fn span_of(t: &[u64], a: usize, e: usize) -> SpanEnds
-    requires { ⌜ (1 ≤ a) × (a ≤ 20) × (1 ≤ e) × (e ≤ 20) × (length (now t) ≡ 1600) ⌝ }
+    requires { ⌜ (1 ≤ a) × (a ≤ e) × (e ≤ 20) × (length (now t) ≡ 840) ⌝ }
     ensures { λ r. ⌜ r ≡ spanIn (now (t .entry)) a e ⌝ }
 {
-    let k = 80 * (a - 1) + 4 * (e - 1);
+    let k = 2 * (e - 1) * e + 4 * (a - 1);
     let low_p = t[k];
     let high_p = t[k + 1];
     let lower = t[k + 2];

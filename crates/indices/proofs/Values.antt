@@ -17,7 +17,7 @@ use Rattle.solas.specs.Survival.{k, s⁴, unlessImmersed}
 use Rattle.numbers.specs.Ratio.{ratioOf}
 use Rattle.heights.specs.Height.{rowVs}
 use Rattle.survival.specs.Marks.{unmarked}
-use Rattle.survival.specs.Survival.{countsAt, factorOf, scaledOf, roundedOf, survivalOf, survivalsOf}
+use Rattle.survival.specs.Survival.{factorOf, scaledOf, roundedOf, survivalOf, countsAt, survivalsOf}
 use Rattle.indices.specs.Index.{addsOf, trio, rowAdds, partials, attainedOf}
 
 abbrev found : ℕ → ℕ → ℕ → ℤ → Finding
@@ -48,7 +48,7 @@ abbrev printed : Ends
 printed = ends 0x34243ab9 0x34243abb
 
 pub one-file : (file ≡ trio printed printed printed) × (attainedOf file ≡ printed)
-unfolding rowVs rowV vAt v dp countsAt survivalsOf survivalOf factorOf unlessImmersed s⁴ k ratioOf scaledOf roundedOf rootDown rootUp withDigits ceil _⊛_ _less_over_ addsOf rowAdds partials attainedOf
+unfolding rowVs rowV vAt v dp survivalsOf countsAt survivalOf factorOf unlessImmersed s⁴ k ratioOf scaledOf roundedOf rootDown rootUp withDigits ceil _⊛_ _less_over_ addsOf rowAdds partials attainedOf
 one-file = (refl, refl)
 
 -- a row whose share and survival have two ends, and which adds something else at each draught

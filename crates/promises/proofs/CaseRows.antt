@@ -1,5 +1,5 @@
 -- The rows of a valid case: their ends enclose their exact figures and are close, and what they add is what the answer sums. Assumes nothing.
-use Prim.Native.Nat.{ℕ, zero, suc, _≤_}
+use Prim.Native.Nat.{ℕ, zero, suc, _^_, _≤_}
 use mathlib.Core.Path.{_≡_, refl, ap, _∙_}
 use mathlib.Core.List.{List, [], _∷_, map}
 use native.Mathlib.Omega.{arith}
@@ -19,7 +19,7 @@ use Rattle.indices.specs.Index.{Given, rowAdds, partials}
 use Rattle.indices.specs.Exact as exact
 use Rattle.indices.specs.Exact.{Sound, Close, AtAll, rowAt, rowTrio}
 use Rattle.survival.proofs.Factors.{found-sensible}
-use Rattle.indices.proofs.Rows.{counted-given}
+use Rattle.survival.proofs.Worse.{counts-either}
 use Rattle.indices.proofs.Sums.{sums-are-these}
 use Rattle.casefile.specs.Record.{Row, Case}
 use Rattle.casefile.specs.Valid.{Valid}
@@ -66,9 +66,9 @@ module _ {h : Hull} (k : Hulled h) (y : Standing) (s : Stood h y) {fs : List Fin
   sensible = by i
     where
       by : (i : ℕ) → Sensible (getD (factorsOf (y .head .kind) fs) i (given 0))
-      by zero = found-sensible (y .head .kind) _ (counted-given (y .head .kind) g 0)
-      by (suc zero) = found-sensible (y .head .kind) _ (counted-given (y .head .kind) g 1)
-      by (suc (suc zero)) = found-sensible (y .head .kind) _ (counted-given (y .head .kind) g 2)
+      by zero = found-sensible (y .head .kind) _ (counts-either (λ f. f .given ≤ 10 ^ 4) (y .head .kind) fs 0 (g .each 0) (g .each 3))
+      by (suc zero) = found-sensible (y .head .kind) _ (counts-either (λ f. f .given ≤ 10 ^ 4) (y .head .kind) fs 1 (g .each 1) (g .each 4))
+      by (suc (suc zero)) = found-sensible (y .head .kind) _ (counts-either (λ f. f .given ≤ 10 ^ 4) (y .head .kind) fs 2 (g .each 2) (g .each 5))
       by (suc (suc (suc i))) = omega arith
 
   low-enough : rowAt i (exactRow h y fs) .v ≤ 916500

@@ -1,14 +1,15 @@
 -- The exact shares and survivals that the promises speak of are those of SOLAS, row by row, of every accepted file: regulation 7-1's pi, and 7-2's s with its
--- openings. Assumes nothing.
-use Prim.Native.Nat.{ℕ, _<_}
+-- openings, the least of two where a row has a second set. Assumes nothing.
+use Prim.Native.Nat.{ℕ, _+_, _<_}
 use mathlib.Core.Path.{_≡_}
-use mathlib.Core.List.{List}
+use mathlib.Core.List.{List, [], _∷_}
+use mathlib.Core.Logic.{_⊎_}
 use lib.ListN.{getD}
 use Rattle.laws.specs.Fraction.{Fraction, _≈_}
 use Rattle.records.specs.declared.Finding.{Finding}
 use Rattle.regulation.specs.Regulation.{IsRoot, under√, pi}
-use Rattle.regulation.specs.RegulationIndex.{millimetres, hundredths, Opening, Numbers, fourth, Taken}
-use Rattle.regulation.specs.OfSolasIndex.{Critical}
+use Rattle.regulation.specs.RegulationIndex.{Numbers, fourth, Order, Least}
+use Rattle.regulation.specs.OfSolasIndex.{FactorOf}
 use Rattle.spans.specs.Hull.{shipOf}
 use Rattle.indices.specs.Exact as exact
 use Rattle.indices.specs.Exact.{Each}
@@ -25,18 +26,23 @@ SharesOfSolas = (f : List ℕ) (c : Case) → reading f ≡ accepted c → (√ 
     Each (λ (y : Standing) (r : exact.Row). pi (shipOf (c .hull)) √ (y .before) (y .head .depth) (y .head .first) (y .head .count) ≈ r .share)
     (standings nowhere (c .rows)) (exactRows (c .hull) nowhere (c .rows))
 
--- what a survival is exactly, of a result of a row of that kind: of kind 2 the fourth root of q, where q is the fourth power of whatever 7-2 gives for s, be the
--- openings which they may of which this one is the critical one; of kind 3 what was given
-abbrev pub SurvivalOfSolas : Numbers → ℕ → Finding → Factor → Type 0
-SurvivalOfSolas N kind f (root q) =
-    (kind ≡ 2) × ((openings : List Opening) (s : N .Number) → Critical openings (f .opening) →
-    Taken N (millimetres (f .lever)) (hundredths (f .range)) (hundredths (f .heel)) openings s → N ._≐_ (fourth N s) (N .fraction q))
-SurvivalOfSolas N kind f (given n) = (kind ≡ 3) × (n ≡ f .given)
+module _ (N : Numbers) (O : Order N) where
+  -- s is what 7-2 gives for a result, be the openings which they may of which this one is the critical one
+  abbrev pub Gives : Finding → N .Number → Type 0
+  Gives f s = FactorOf N (f .lever) (f .range) (f .heel) (f .opening) s
 
--- a row's three
-abbrev pub RowOfSolas : Numbers → Row → exact.Row → Type 0
-RowOfSolas N row r = (j : ℕ) → j < 3 → SurvivalOfSolas N (row .head .kind) (getD (row .results) j nothing) (getD (r .factors) j (given 0))
+  -- a row's survival at a draught, from its results there and in the second set: of kind 2 the fourth root of q, where q is the fourth power of whatever 7-2
+  -- gives for s; of kind 5 of whatever is the least of the two, s-min; of kind 3 what was given
+  abbrev pub SurvivalOfSolas : ℕ → Finding → Finding → Factor → Type 0
+  SurvivalOfSolas kind f g (root q) =
+      ((kind ≡ 2) × ((s : N .Number) → Gives f s → N ._≐_ (fourth N s) (N .fraction q)))
+      ⊎ ((kind ≡ 5) × ((s₁ s₂ s : N .Number) → Gives f s₁ → Gives g s₂ → Least N O (s₁ ∷ s₂ ∷ []) s → N ._≐_ (fourth N s) (N .fraction q)))
+  SurvivalOfSolas kind f g (given n) = (kind ≡ 3) × (n ≡ f .given)
+
+  -- a row's three
+  abbrev pub RowOfSolas : Row → exact.Row → Type 0
+  RowOfSolas row r = (j : ℕ) → j < 3 → SurvivalOfSolas (row .head .kind) (getD (row .results) j nothing) (getD (row .results) (3 + j) nothing) (getD (r .factors) j (given 0))
 
 -- among whatever numbers the roots are found
 abbrev pub SurvivalsOfSolas : Type 1
-SurvivalsOfSolas = (N : Numbers) (f : List ℕ) (c : Case) → reading f ≡ accepted c → Each (RowOfSolas N) (c .rows) (exactRows (c .hull) nowhere (c .rows))
+SurvivalsOfSolas = (N : Numbers) (O : Order N) (f : List ℕ) (c : Case) → reading f ≡ accepted c → Each (RowOfSolas N O) (c .rows) (exactRows (c .hull) nowhere (c .rows))

@@ -15,6 +15,7 @@ use Rattle.regulation.specs.OfSolasIndex.{Critical, FactorOf}
 use Rattle.regulation.proofs.Examples.{fractions, half-survives, tenth-survives}
 use Rattle.regulation.proofs.RegulationLeast.{least-is-01's}
 
+-- in their own order
 abbrev pub inOrder : Order fractions
 inOrder = record {
   _⊑_ = _≼_;

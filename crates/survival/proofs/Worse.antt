@@ -1,6 +1,5 @@
 -- Of two results the lower survival counts: rounding keeps the order, so the lesser s⁴ has the lesser bottom and the lesser top. Assumes nothing.
-use Prim.Native.Nat.{ℕ, zero, suc, _+_, _*_, _^_, _≤_, _<_, min}
-use mathlib.Core.Bool.{cond}
+use Prim.Native.Nat.{ℕ, zero, suc, _+_, _^_, _≤_, _<_}
 use mathlib.Core.List.{List, _++_}
 use mathlib.Core.Path.{_≡_, refl, ap, ap₂, sym, _∙_}
 use native.Mathlib.Omega.{arith}
@@ -12,9 +11,8 @@ use Rattle.laws.specs.Fraction.{Fraction, _≼_, _≺_, _≼?_, lesser}
 use Rattle.laws.proofs.Fraction.{≼-trans}
 use Rattle.laws.proofs.FractionCompare.{times-rises, ≼-of-≺}
 use Rattle.laws.proofs.FractionOrder.{ordered, test-passes, test-fails, lesser-first, lesser-second}
-use Rattle.laws.proofs.Tests.{told, picked}
+use Rattle.laws.proofs.Tests.{picked}
 use Rattle.records.specs.declared.Finding.{Finding}
-use Rattle.records.specs.declared.Survival.{Survival}
 use Rattle.survival.specs.Marks.{foundMarks}
 use Rattle.survival.specs.Survival.{root, given, ends, Sensible, marked, factorOf, fourthOf, nothing, noSurvival, survivalOf, worseOf, countsAt, factorsOf, survivalsOf}
 use Rattle.survival.specs.Worse.{LesserEnds, LesserHasLesserEnds, LowerCounts, RowCounts, LowerSurvivalCounts}

@@ -49,7 +49,7 @@ fn lesser(a: u64, b: u64) -> u64
     if a <= b { a } else { b }
 }
 
-// k of a heel in hundredths of a degree, in parts of which a lever and a range at their caps make thirds.
+// k of a heel in hundredths of a degree, in parts so small that lever times range times k comes to thirds of 10⁻¹⁶.
 fn heel_factor(heel: u64) -> u64
     ensures { λ r. ⌜ Parts (3 * 10 ^ 16 / (120 * 1600)) (k heel) r ⌝ }
 {
@@ -70,7 +70,7 @@ fn is_immersed(opening: i64) -> bool
     opening < 0
 }
 
-// s⁴ of what was found, in thirds of 10⁻¹⁶: nothing where the opening is immersed.
+// s⁴ of what was found, exactly, in thirds of 10⁻¹⁶: nothing where the opening is immersed.
 fn fourth(lever: u64, range: u64, heel: u64, opening: i64) -> u64
     ensures { λ r. ⌜ InThirds (unlessImmersed opening (s⁴ lever range heel)) r ⌝ }
 {

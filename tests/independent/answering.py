@@ -38,7 +38,7 @@ def result_survival(result):
 
 
 def lower_survival(first, second):
-    """Smaller damage, worse result: of two results the lower bottom and the lower top; the marks of the one with the lower exact s⁴, the first's when equal."""
+    """Smaller damage, worse result: of two results the lower bottom and the lower top; the marks of the lower exact s⁴, the first one's when equal."""
     one, other = result_survival(first), result_survival(second)
     ends = Ends(min(one.ends.lower, other.ends.lower), min(one.ends.upper, other.ends.upper))
     return Survival(ends, one.marks if s_fourth(*first) <= s_fourth(*second) else other.marks)

@@ -44,7 +44,7 @@ class Result(NamedTuple):
 
 
 class Row(NamedTuple):
-    """A row with results or given survivals by draught, the b of the layer before it and the H of the row below it; a second set of results where it has one."""
+    """A row with results or given survivals by draught, the b of the layer before it and the H of the row below it, and a second set of results or none."""
 
     a: int
     n: int

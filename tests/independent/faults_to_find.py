@@ -335,7 +335,8 @@ SECOND_ANSWERED = [
      "one.marks if first[0] * s_fourth(120, *first[1:]) <= second[0] * s_fourth(120, *second[1:]) else other.marks"),
     ("marks by the range, not capped", BY_S_FOURTH,
      "one.marks if first[1] * s_fourth(first[0], 1_600, *first[2:]) <= second[1] * s_fourth(second[0], 1_600, *second[2:]) else other.marks"),
-    ("marks with no eye for the heel", BY_S_FOURTH, "one.marks if s_fourth(*first[:2], 0, first[3]) <= s_fourth(*second[:2], 0, second[3]) else other.marks"),
+    ("marks with no eye for the heel", BY_S_FOURTH,
+     "one.marks if s_fourth(*first[:2], 0, first[3]) <= s_fourth(*second[:2], 0, second[3]) else other.marks"),
     ("marks with no eye for the opening", BY_S_FOURTH, "one.marks if s_fourth(*first[:3], 0) <= s_fourth(*second[:3], 0) else other.marks"),
     # Draughts
     ("the set that is lower at the deepest draught counts at all", BOTH,

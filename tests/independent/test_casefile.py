@@ -223,7 +223,8 @@ class RowNumbers(ReadingTest):
         outside = lever_row(1, 1, 800, TOP, ((30, 400, 0, -30_001),) * 3)
         self.expect({"earlier group, opening outside": with_rows(GIVEN, outside), "row again, opening outside": with_rows(ROW, outside)}, (7, 3))
         outside = two_sets_row(1, 1, 800, TOP, FINE, ((30, 9_001, 0, 0),) * 3)
-        self.expect({"earlier group, second set outside": with_rows(GIVEN, outside), "row again, second set outside": with_rows(ROW, outside)}, (7, 3))
+        self.expect({"earlier group, second set outside": with_rows(GIVEN, outside), "row again, second set outside": with_rows(ROW, outside),
+                     "open group, second set outside": with_rows(given_row(1, 1, 700, TOP, (0, 0, 0)), "0502" + outside[4:])}, (7, 3))
 
 
 class RowFields(unittest.TestCase):

@@ -1,4 +1,4 @@
-"""Tests of the second set: which of two results counts at a draught, whose marks are told, and what the index, the exact figures and the settling make of it."""
+"""Tests of the second set: which of two results counts at a draught, whose marks are told, and what comes of it in the index and the exact figures."""
 
 import unittest
 from fractions import Fraction
@@ -69,6 +69,9 @@ class TwoResults(unittest.TestCase):
         self.assertLess(s_fourth(*NEAR_LEVER), s_fourth(*NEAR_RANGE))
         self.assertEqual(of_two(NEAR_RANGE, NEAR_LEVER), (9_979, 9_980, 1))
         self.assertEqual(of_two(NEAR_LEVER, NEAR_RANGE), (9_979, 9_980, 1))
+        lower, higher = (110, 1_600, 2_999, 0), (119, 1_479, 2_999, 0)
+        self.assertEqual(s_fourth(*higher) - s_fourth(*lower), Fraction(1, 48 * 10**9))  # no billionth tells them apart
+        self.assertEqual((of_two(lower, higher), of_two(higher, lower)), ((437, 438, 5),) * 2)
 
     def test_bottom_and_top_each_the_lower(self):
         self.assertEqual([tuple(result_survival(one).ends) for one in (EXACT, ABOVE, BELOW)], [(5_000, 5_000), (5_000, 5_001), (4_999, 5_000)])

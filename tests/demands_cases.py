@@ -5,7 +5,7 @@ from fractions import Fraction
 from typing import NamedTuple, Optional, Tuple
 
 from independent.letters import R
-from independent.writing import given_row, hull_line, lever_row, whole_file
+from independent.writing import given_row, hull_line, lever_row, two_sets_row, whole_file
 
 MOST_ROWS = 500
 ABOVE_DEEPEST = 12_500
@@ -13,11 +13,12 @@ HIGHEST = 60_000
 
 
 class Height(NamedTuple):
-    """One row of a layer: its H, and three results (lever, range, heel, opening) or three given survivals."""
+    """One row of a layer: its H, and three results (lever, range, heel, opening), with a second set of three or without, or three given survivals."""
 
     H: int
     results: Optional[Tuple[Tuple[int, int, int, int], ...]] = None
     given: Optional[Tuple[int, int, int]] = None
+    second: Optional[Tuple[Tuple[int, int, int, int], ...]] = None
 
 
 class Layer(NamedTuple):
@@ -55,15 +56,26 @@ class Ship(NamedTuple):
         return sum(len(layer.heights) for group in self.groups for layer in group.layers)
 
 
+def line_of(head, height):
+    """The line of a row, of whichever kind it is."""
+    if height.given:
+        return given_row(*head, height.given)
+    return two_sets_row(*head, height.results, height.second) if height.second else lever_row(*head, height.results)
+
+
 def file_of_ship(ship):
     """The case file of a drawn ship."""
-    lines = []
-    for group in ship.groups:
-        for layer in group.layers:
-            for height in layer.heights:
-                head = (group.a, group.n, layer.b, height.H)
-                lines.append(given_row(*head, height.given) if height.given else lever_row(*head, height.results))
+    lines = [line_of((group.a, group.n, layer.b, height.H), height) for group in ship.groups for layer in group.layers for height in layer.heights]
     return whole_file(hull_line(ship.L, ship.B, ship.ds, ship.dl, ship.bulkheads), lines)
+
+
+def with_one_set(ship, of):
+    """The ship with the first or the second set alone wherever a row has two."""
+    def one(height):
+        return height._replace(results=(height.results, height.second)[of], second=None) if height.second else height
+
+    groups = (group._replace(layers=tuple(layer._replace(heights=tuple(map(one, layer.heights))) for layer in group.layers)) for group in ship.groups)
+    return ship._replace(groups=tuple(groups))
 
 
 # Random ships
@@ -137,19 +149,48 @@ def random_curve(chooser, L, way):
     )
 
 
-def random_height(chooser, L, H, way):
-    """A row of a layer, of either kind."""
+def random_result(chooser, L, way):
+    """A draught's result."""
+    return (*random_curve(chooser, L, way), random_opening(chooser, way))
+
+
+def of_equal_survival(chooser):
+    """Two results whose s⁴ is the same: a part of the lever's cap and the same part of the range's, or nothing for different reasons."""
+    part, heel = chooser.randint(1, 39), chooser.choice((0, 2_500, 2_501, 2_875))
+    nothing = ((0, 1_600, 0, 0), (120, 0, 0, 0), (120, 1_600, 3_000, 0), (120, 1_600, 0, -1), (0, 0, 9_000, -30_000))
+    return chooser.sample(chooser.choice((((3 * part, 1_600, heel, 0), (120, 40 * part, heel, 1)), nothing)), 2)
+
+
+def random_pair(chooser, L, way):
+    """Two results for one draught: the same, of the same survival, one number apart, or any two."""
+    first = random_result(chooser, L, way)
+    kin = chooser.randrange(6)
+    if kin == 0 and way != "near":
+        return of_equal_survival(chooser)
+    if kin == 1:
+        return first, first
+    if kin == 2:
+        place = chooser.randrange(4)
+        return first, first[:place] + (first[place] - 1 if first[place] > 0 else 0,) + first[place + 1:]
+    return first, random_result(chooser, L, way)
+
+
+def random_height(chooser, L, H, way, two_sets):
+    """A row of a layer, of any kind; one in so many rows of results has two sets, or none."""
     if way == "given" or (way != "near" and chooser.randrange(5) == 0):
         return Height(H, given=tuple(edge_or_any(chooser, (0, 1, 9_999, 10_000), 0, 10_000) for _ in range(3)))
-    return Height(H, results=tuple((*random_curve(chooser, L, way), random_opening(chooser, way)) for _ in range(3)))
+    if two_sets and chooser.randrange(two_sets) == 0:
+        first, second = zip(*(random_pair(chooser, L, way) for _ in range(3)))
+        return Height(H, results=first, second=second)
+    return Height(H, results=tuple(random_result(chooser, L, way) for _ in range(3)))
 
 
-def random_layer(chooser, L, ds, b, count, way):
+def random_layer(chooser, L, ds, b, count, way, two_sets):
     """A layer of so many rows, the last one at the top or above."""
     top = ds + ABOVE_DEEPEST
     below = sorted(chooser.sample(range(1, top), count - 1))
     last = edge_or_any(chooser, (top, top + 1, HIGHEST), top, HIGHEST)
-    return Layer(b, tuple(random_height(chooser, L, H, way) for H in (*below, last)))
+    return Layer(b, tuple(random_height(chooser, L, H, way, two_sets) for H in (*below, last)))
 
 
 def random_ship(seed, number):
@@ -163,6 +204,7 @@ def random_ship(seed, number):
     bulkheads = random_bulkheads(chooser, L, m)
     chosen = random_groups(chooser, (0, *bulkheads, L))
     way = chooser.choice(("any", "good", "good", "near", "edges", "given"))
+    two_sets = chooser.choice((0, 0, 1, 3))
     spare = MOST_ROWS - len(chosen) if chooser.randrange(7) == 0 else chooser.randint(0, 40)
     most_layers, most_heights = chooser.choice(((1, 1), (2, 1), (3, 2), (2, 4), (8, 8)))
     groups = []
@@ -173,7 +215,7 @@ def random_ship(seed, number):
         for b in (*depths, B // 2):
             more = min(chooser.randint(1, most_heights) - 1, spare)
             spare -= more
-            layers.append(random_layer(chooser, L, ds, b, more + 1, way))
+            layers.append(random_layer(chooser, L, ds, b, more + 1, way, two_sets))
         groups.append(Group(a, n, tuple(layers)))
     return Ship(f"random {seed}/{number}", L, B, ds, dl, bulkheads, tuple(groups))
 
@@ -197,7 +239,8 @@ def with_given(survival, H=HIGHEST):
 
 
 def built_ships():
-    """Extreme cases: the widest row, the fewest and most rows, the thinnest zones, each verdict at its edge, and openings about the waterline."""
+    """Extreme cases: the widest row, the fewest and most rows, the thinnest zones, each verdict at its edge, openings about the waterline, and rows
+    of two sets."""
     whole = with_results((120, 1_600, 2_500, 0))
     odd = with_results((67, 179, 0, 0))
     thin = tuple(range(1, 11)) + tuple(range(8_000 - 9, 8_000))
@@ -226,6 +269,7 @@ def built_ships():
         "all groups, none quite", 13_331, 2_222, 7_000, 3_000, tuple(666 * i for i in range(1, 20)),
         every_group(20, (Layer(40, (with_results((119, 1_599, 2_501, 0)),)), Layer(1_111, (odd,)))))
     yield from ships_with_openings(whole, odd)
+    yield from ships_with_two_sets(whole, odd)
 
 
 def ships_with_openings(whole, odd):
@@ -244,3 +288,28 @@ def ships_with_openings(whole, odd):
     yield Ship(
         "all groups, the inner layer immersed", 19_799, 5_998, 30_000, 500, tuple(987 * i for i in range(1, 20)),
         every_group(20, (Layer(77, (whole,)), Layer(2_999, (under,)))))
+
+
+def ships_with_two_sets(whole, odd):
+    """The lower set first and second, at one draught of three, equal ones, those that only s⁴ tells apart, in 500 rows and in one layer of two."""
+    by_lever, by_range = (119, 1_600, 0, 0), (120, 1_587, 0, 0)  # bottom and top are the same of both
+
+    def one_zone(name, first, second, L=8_000):
+        return Ship(name, L, 1_000, 1_000, 500, (), (Group(1, 1, (Layer(500, (Height(HIGHEST, first, second=second),)),)),))
+
+    for draught in range(3):
+        worse = tuple((0, 0, 3_000, 0) if j == draught else (120, 1_600, 2_500, 0) for j in range(3))
+        yield one_zone(f"the first set lost at draught {draught + 1}", worse, whole.results)
+        yield one_zone(f"the second set lost at draught {draught + 1}", whole.results, worse)
+    yield one_zone("sets of the same survival", ((60, 1_600, 0, 0),) * 3, ((120, 800, 0, 0),) * 3)
+    yield one_zone("the first set a little lower", (by_lever,) * 3, (by_range,) * 3)
+    yield one_zone("the second set a little lower", (by_range,) * 3, (by_lever,) * 3)
+    yield one_zone("unsettled by the second set", whole.results, odd.results, L=10_400)
+    yield one_zone("met by the better set alone", ((30, 399, 0, 0),) * 3, whole.results, L=10_400)
+    rows = (odd, whole._replace(second=odd.results), odd._replace(second=whole.results), with_given(5_000), whole._replace(second=whole.results))
+    yield Ship(
+        "five hundred rows of three kinds", 19_800, 6_000, 30_000, 500, (6_600,),
+        (Group(1, 1, (Layer(3_000, tuple(rows[H % 5]._replace(H=H) for H in range(42_001, 42_501))),)),))
+    yield Ship(
+        "all groups, two sets in the inner layer", 19_799, 5_998, 30_000, 500, tuple(987 * i for i in range(1, 20)),
+        every_group(20, (Layer(77, (whole,)), Layer(2_999, (whole._replace(second=odd.results),)))))

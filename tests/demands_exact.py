@@ -1,6 +1,7 @@
 """The exact figures of a drawn ship by the regulation's own letters, each fourth root between two close fractions."""
 
 from fractions import Fraction
+from functools import lru_cache
 from math import isqrt
 from typing import NamedTuple, Optional, Tuple
 
@@ -29,8 +30,8 @@ class Held(NamedTuple):
 
 
 class Exact(NamedTuple):
-    """Row shares, chances by draught, A, As, Ap, Al and their marks, each row's survivals, what holds them down, and whether every exposed group is
-    listed."""
+    """Row shares, chances by draught, A, As, Ap, Al and their marks, each row's survivals, what holds them down and which of two sets is lower, and
+    whether every exposed group is listed."""
 
     shares: Tuple[Fraction, ...]
     chances: Tuple[Fraction, ...]
@@ -38,6 +39,7 @@ class Exact(NamedTuple):
     marks: Tuple[Fraction, ...]
     survivals: Tuple[Tuple[Bracket, ...], ...]
     held: Tuple[Tuple[Optional[Held], ...], ...]
+    lower: Tuple[Tuple[Optional[str], ...], ...]
     all_listed: bool
 
 
@@ -83,23 +85,50 @@ def in_metres(result):
     return Fraction(lever, 1_000), Fraction(reach, 100), Fraction(heel, 100), Fraction(opening, 1_000)
 
 
+@lru_cache(maxsize=None)
+def s_fourth(result):
+    """The exact s⁴ of a result."""
+    return letters.s_fourth(*in_metres(result))
+
+
+@lru_cache(maxsize=None)
+def root(result):
+    """The exact survival of a result."""
+    return fourth_root(s_fourth(result))
+
+
 def survival(height, draught):
-    """A row's exact survival at one draught."""
+    """A row's exact survival at one draught, the lower root of its two sets."""
     if height.given:
         given = Fraction(height.given[draught], 10_000)
         return Bracket(given, given)
-    return fourth_root(letters.s_fourth(*in_metres(height.results[draught])))
+    roots = [root(results[draught]) for results in (height.results, height.second) if results]
+    return Bracket(min(one.low for one in roots), min(one.high for one in roots))
+
+
+def lower(height, draught):
+    """Which of a row's two sets is lower at one draught; None where it has not two."""
+    if not height.second:
+        return None
+    first, second = s_fourth(height.results[draught]), s_fourth(height.second[draught])
+    return "the first" if first < second else "the second" if second < first else "neither"
 
 
 def held(height, draught):
-    """What holds a row's survival down at one draught; None where it is given."""
+    """What holds a row's survival down at one draught, in its second set where that is lower; None where it is given."""
     if height.given:
         return None
-    result = in_metres(height.results[draught])
-    alone = [BEST[:at] + result[at:at + 1] + BEST[at + 1:] for at in range(4)]
-    brought = [result[:at] + CAPS[at:at + 1] + result[at + 1:] for at in range(4)]
-    return Held(tuple(letters.s_fourth(*one) < 1 for one in alone), tuple(letters.s_fourth(*one) == 1 for one in brought),
-                letters.s_fourth(*result) == 1)
+    results = height.second if lower(height, draught) == "the second" else height.results
+    return holding(results[draught])
+
+
+@lru_cache(maxsize=None)
+def holding(result):
+    """What holds the survival of a result down."""
+    numbers = in_metres(result)
+    alone = [BEST[:at] + numbers[at:at + 1] + BEST[at + 1:] for at in range(4)]
+    brought = [numbers[:at] + CAPS[at:at + 1] + numbers[at + 1:] for at in range(4)]
+    return Held(tuple(letters.s_fourth(*one) < 1 for one in alone), tuple(letters.s_fourth(*one) == 1 for one in brought), s_fourth(result) == 1)
 
 
 def chance_of_height(H, below, draught):
@@ -120,7 +149,8 @@ def exact_figures(ship):
     spans = Spans(ship)
     ds, dl = Fraction(ship.ds), Fraction(ship.dl)
     draughts = (ds, dl + 3 * (ds - dl) / 5, dl)
-    shares, survivals, holding, chances, lows, highs = [], [], [], [Fraction(0)] * 3, [Fraction(0)] * 3, [Fraction(0)] * 3
+    shares, survivals, helds, lowers = [], [], [], []
+    chances, lows, highs = [Fraction(0)] * 3, [Fraction(0)] * 3, [Fraction(0)] * 3
     for group in ship.groups:
         b_before = 0
         for layer in group.layers:
@@ -130,12 +160,13 @@ def exact_figures(ship):
             for height in layer.heights:
                 shares.append(share)
                 survivals.append(tuple(survival(height, draught) for draught in range(3)))
-                holding.append(tuple(held(height, draught) for draught in range(3)))
-                for j, (draught, root) in enumerate(zip(draughts, survivals[-1])):
+                helds.append(tuple(held(height, draught) for draught in range(3)))
+                lowers.append(tuple(lower(height, draught) for draught in range(3)))
+                for j, (draught, exact) in enumerate(zip(draughts, survivals[-1])):
                     chance = share * chance_of_height(height.H, below, draught)
                     chances[j] += chance
-                    lows[j] += chance * root.low
-                    highs[j] += chance * root.high
+                    lows[j] += chance * exact.low
+                    highs[j] += chance * exact.high
                 below = height.H
     partials = tuple(Bracket(low, high) for low, high in zip(lows, highs))
     attained = Bracket(
@@ -144,4 +175,4 @@ def exact_figures(ship):
     required = letters.R(Fraction(ship.L, 100))
     return Exact(
         tuple(shares), tuple(chances), (attained, *partials), (required, required / 2, required / 2, required / 2),
-        tuple(survivals), tuple(holding), every_exposed_group_is_listed(ship, spans))
+        tuple(survivals), tuple(helds), tuple(lowers), every_exposed_group_is_listed(ship, spans))

@@ -1,8 +1,10 @@
-"""The generator's own reading of the figures: shares, heights, survivals, openings, marks and the verdict, each rule a method that can be broken."""
+"""The generator's own reading of the figures: shares, heights, survivals, openings, second sets, marks and the verdict, each rule a method that can be
+broken."""
 
 BILLION = 10 ** 9
 FULL_HEIGHT = 916500
 FULL = FULL_HEIGHT * 10 ** 4
+ONE_FOURTH = 120 * 1600 * 250000  # a survival of one
 
 
 def down(value, by):
@@ -169,23 +171,37 @@ class Figures:
         """k as a fraction over 500 squared."""
         return 250000 if heel <= 2500 else 0 if heel >= 3000 else (3000 - heel) ** 2
 
-    def result(self, row, draught):
-        """Lever, range, heel and opening at draught 0, 1 or 2."""
-        return row.figures[4 * draught:4 * draught + 4]
+    def result(self, row, draught, of=0):
+        """Lever, range, heel and opening at draught 0, 1 or 2, of the first set or of the second."""
+        at = 12 * of + 4 * draught
+        return row.figures[at:at + 4]
 
     def immersed(self, opening):
         return opening < 0
+
+    def fourth(self, lever, reach, heel, opening):
+        """s to the fourth over ONE_FOURTH."""
+        if self.immersed(opening):
+            return 0
+        return min(lever, self.cap_lever) * min(reach, self.cap_range) * self.heeled(heel)
+
+    def counting(self, row, draught):
+        """The result that counts at a draught: of two sets' the one that is lower exactly, the first's when equal."""
+        first = self.result(row, draught)
+        if len(row.figures) == 12:
+            return first
+        second = self.result(row, draught, 1)
+        return second if self.fourth(*second) < self.fourth(*first) else first
 
     def survival(self, row, draught):
         """Bottom and top in ten-thousandths at draught 0, 1 or 2."""
         if len(row.figures) == 3:
             return row.figures[draught], row.figures[draught]
-        lever, reach, heel, opening = self.result(row, draught)
-        if self.immersed(opening):
-            return 0, 0
-        over = 10 ** 16 * min(lever, self.cap_lever) * min(reach, self.cap_range) * self.heeled(heel)
-        under = 120 * 1600 * 250000
-        return self.root(over, under)
+        return self.rounded(self.counting(row, draught))
+
+    def rounded(self, result):
+        """Bottom and top of one result."""
+        return self.root(10 ** 16 * self.fourth(*result), ONE_FOURTH)
 
     def root(self, over, under):
         bottom, above = 0, 10001
@@ -211,7 +227,7 @@ class Figures:
         """The byte of a row's marks at draught 0, 1 or 2; a given survival has none."""
         if len(row.figures) == 3:
             return 0
-        return self.added_up(*self.marked(*self.result(row, draught)))
+        return self.added_up(*self.marked(*self.counting(row, draught)))
 
     def row_marks(self):
         """Three bytes for each row."""

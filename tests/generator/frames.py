@@ -27,7 +27,8 @@ class Hull(NamedTuple):
 
 
 class Row(NamedTuple):
-    """A row: twelve figures, lever, range, heel and opening at each draught, make it kind 02, three given survivals kind 03."""
+    """A row: twelve figures, lever, range, heel and opening at each draught, make it kind 02, twelve more for a second set kind 05, three given
+    survivals kind 03."""
 
     a: int
     n: int
@@ -53,7 +54,7 @@ def hull_line(hull, zones=None):
 
 
 def row_line(row):
-    kind = {12: "02", 3: "03"}[len(row.figures)]
+    kind = {12: "02", 3: "03", 24: "05"}[len(row.figures)]
     return kind + number(row.a, 1) + number(row.n, 1) + pairs((row.b, row.h) + tuple(row.figures))
 
 

@@ -3,7 +3,7 @@
 from .frames import case_file, end_line, joined, lines_of
 from .shapes import seeded_case
 
-LIMITS = (0, 1, 2, 3, 20, 21, 255, 256, 499, 500, 501, 999, 1000, 1001, 1002, 5000, 5001, 5998, 6000, 6002, 7999, 8000, 9000, 9001,
+LIMITS = (0, 1, 2, 3, 5, 20, 21, 255, 256, 499, 500, 501, 999, 1000, 1001, 1002, 5000, 5001, 5998, 6000, 6002, 7999, 8000, 9000, 9001,
           10000, 10001, 12499, 12500, 19800, 19801, 30000, 30001, 32767, 32768, 35535, 35536, 60000, 60001, 65534, 65535)
 ALIEN = b"\x00\r \tABCDEFGg/:`@-\x7f\x80\xff\n"
 
@@ -90,8 +90,18 @@ def field_changed(dice, data):
     return b"\n".join(lines)
 
 
+def set_changed(dice, data):
+    """A row of another kind or length: its second set gone, or its openings, or one set more, or the kind alone."""
+    lines = data.split(b"\n")
+    at = dice.below(len(lines))
+    line = lines[at]
+    lines[at] = dice.pick((b"05" + line[2:], b"02" + line[2:], line[:62], line[:86], line[:110], line + line[14:62], b"05" + line[2:] + line[14:62],
+                           b"02" + line[2:62], line[:14] + line[62:110] + line[14:62]))
+    return b"\n".join(lines)
+
+
 WAYS = (flip, another_digit, another_digit, alien_byte, cut, twice, line_doubled, line_dropped, lines_swapped,
-        carriage_returns, upper_case, wrong_count) + 8 * (field_changed,)
+        carriage_returns, upper_case, wrong_count) + 2 * (set_changed,) + 8 * (field_changed,)
 
 
 def damaged(dice, data):
@@ -134,6 +144,6 @@ def seeded_file(dice):
         return joined(lines[:at] + [dice.pick(lines)] + lines[at:]), "a line put in"
     if way == 6 and dice.one_in(8):
         data = case_file(hull, rows)
-        size = dice.pick((32767, 32768, 32769, 40000))
+        size = dice.pick((32768, 32769, 65535, 65536, 65537, 80000))
         return (data * (size // len(data) + 1))[:size], "repeated to %d bytes" % size
     return damaged(dice, case_file(hull, rows))

@@ -20,7 +20,7 @@ class Line:
         self.before = rows[-1] if rows else None
         digits = [max(DIGITS.find(byte), 0) for byte in text.lower()]
         self.frame = bytes(16 * high + low for high, low in zip(digits[::2], digits[1::2]))
-        self.is_row = number > 1 and self.frame[:1] in (b"\x02", b"\x03")
+        self.is_row = number > 1 and self.frame[:1] in (b"\x02", b"\x03", b"\x05")
         self.is_end = number > 1 and self.frame[:1] == b"\x0f"
 
     def field(self, at):
@@ -34,11 +34,11 @@ class Line:
         return tuple(self.field(at) for at in range(10, len(self.frame), 2))
 
     def figures(self):
-        """The numbers after H; three results have an opening each, as their fourth."""
+        """The numbers after H; each result, of one set of three or of two, has an opening as its fourth."""
         places = range(7, len(self.frame), 2)
-        if len(places) != 12:
+        if len(places) not in (12, 24):
             return tuple(self.field(at) for at in places)
-        return tuple(self.opening(at) if at in (13, 21, 29) else self.field(at) for at in places)
+        return tuple(self.opening(at) if at % 8 == 5 else self.field(at) for at in places)
 
     def row(self):
         """The row that the line holds."""
@@ -49,10 +49,10 @@ class Judging:
     """The refusals of documents 01 and 02; a slip is a subclass that breaks one method, the order or the reading of a line."""
 
     reads = Line
-    longest = 32768
+    longest = 65536
     most_rows = 500
     order = (10, 2, 3, 4, 5, 6, 7, 8, 9)
-    lengths = {2: 31, 3: 13, 15: 3}
+    lengths = {2: 31, 3: 13, 5: 55, 15: 3}
     rise = 12500
     row_limits = ((5000, 9000, 9000, 30000), (10000,))
     lowest = -30000  # of an opening, the one figure that can be below zero
@@ -150,7 +150,7 @@ class Judging:
         if not line.is_row:
             return False
         row, hull = line.row(), line.hull
-        limits = self.row_limits[0 if len(row.figures) == 12 else 1]
+        limits = self.row_limits[0 if len(row.figures) in (12, 24) else 1]
         return (self.group_outside(row, hull) or not 1 <= row.b <= hull.half or not 1 <= row.h <= 60000
                 or any(not self.lowest <= figure <= limits[at % len(limits)] for at, figure in enumerate(row.figures)))
 

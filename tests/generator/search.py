@@ -3,7 +3,7 @@
 from pprint import pformat
 
 from .dice import Dice
-from .figures import BILLION, FULL, FULL_HEIGHT, Figures, down, up
+from .figures import BILLION, FULL, FULL_HEIGHT, ONE_FOURTH, Figures, down, up
 from .frames import Hull, Row
 from .shapes import every_group
 
@@ -155,7 +155,27 @@ def near_roots(most=6):
             "above": [one[1:] for one in sorted(over)[:most]], "below": [one[1:] for one in sorted(under)[:most]]}
 
 
-SEARCHES = (band_edges, depth_edges, wide_rows, full_ships, marks, near_roots)
+def near_ties():
+    """For two different bytes of marks, the lower result's first: the two results (lever, range, heel) that are closest in s to the fourth and not
+    equal, with the same bottom and top."""
+    figures, by_fourth, found = plain(12000), {}, {}
+    results = [(lever, reach, heel) for heel in (2500, 2750, 2999) for lever in range(1, 121) for reach in range(1, 1601)]
+    for result in results + [(120, 1600, heel) for heel in range(2501, 2999)]:
+        byte = figures.added_up(*figures.marked(*result, 0))
+        by_fourth.setdefault(figures.fourth(*result, 0), {}).setdefault(byte, result)
+    rising = sorted(by_fourth)
+    for low, high in zip(rising, rising[1:]):
+        for below, lower in by_fourth[low].items():
+            for above, higher in by_fourth[high].items():
+                apart = (high - low) / low  # what counts is how near they are for their size
+                if below == above or (below, above) in found and found[below, above][0] <= apart:
+                    continue
+                if figures.root(10 ** 16 * low, ONE_FOURTH) == figures.root(10 ** 16 * high, ONE_FOURTH):
+                    found[below, above] = apart, lower, higher
+    return {pair: results for pair, (_, *results) in sorted(found.items())}
+
+
+SEARCHES = (band_edges, depth_edges, wide_rows, full_ships, marks, near_roots, near_ties)
 
 
 def write(path):

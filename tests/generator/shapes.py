@@ -99,13 +99,15 @@ def mixed_figures(dice, hull):
     """Lever, range and heel at three draughts, or given survivals, many of them at a cap or a limit."""
     if dice.one_in(3):
         return tuple(dice.pick((0, 1, 9999, 10000)) if dice.one_in(3) else dice.below(10001) for _ in range(3))
-    figures = ()
-    for _ in range(3):
-        lever = dice.pick((0, 1, 119, 120, 121, 5000)) if dice.one_in(3) else dice.between(0, 130)
-        reach = dice.pick((0, 1, 1599, 1600, 1601, 9000)) if dice.one_in(3) else dice.between(0, 1700)
-        heel = dice.pick((0, 2499, 2500, 2501, 2999, 3000, 3001, 9000)) if dice.one_in(3) else dice.between(0, 3100)
-        figures += (lever, reach, heel)
-    return figures
+    return sum((mixed_result(dice) for _ in range(3)), ())
+
+
+def mixed_result(dice):
+    """Lever, range and heel of one draught, many of them at a cap or a limit."""
+    lever = dice.pick((0, 1, 119, 120, 121, 5000)) if dice.one_in(3) else dice.between(0, 130)
+    reach = dice.pick((0, 1, 1599, 1600, 1601, 9000)) if dice.one_in(3) else dice.between(0, 1700)
+    heel = dice.pick((0, 2499, 2500, 2501, 2999, 3000, 3001, 9000)) if dice.one_in(3) else dice.between(0, 3100)
+    return lever, reach, heel
 
 
 def mild_figures(dice, hull):
@@ -139,6 +141,34 @@ def seeded_openings(dice, rows):
     return [row._replace(figures=with_openings(row.figures, [seeded_opening(dice, count and dice.one_in(count)) for _ in range(3)])) for row in rows]
 
 
+def beside(dice, lever, reach, heel, opening):
+    """A result for the second set beside the first one's: the same, one of the same or nearly the same survival, one number moved, or any."""
+    way = dice.below(7)
+    if way == 0:
+        return lever, reach, heel, opening
+    if way == 1:  # lever and range in each other's part of their caps: the survival stays, but for rounding
+        return min(reach * 120 // 1600, 5000), min(lever * 1600 // 120, 9000), heel, opening
+    if way == 2:
+        by = dice.pick((-1, 1))
+        moved = dice.pick(((lever + by, reach, heel), (lever, reach + by, heel), (lever, reach, heel + by)))
+        return tuple(min(max(number, 0), most) for number, most in zip(moved, (5000, 9000, 9000))) + (opening,)
+    if way == 3:
+        return lever, reach, heel, seeded_opening(dice, opening >= 0)
+    return mixed_result(dice) + (seeded_opening(dice, dice.one_in(6)),)
+
+
+def seeded_second_sets(dice, rows):
+    """The rows with second sets: in half of the ships none, in the others in some rows of results or in all."""
+    count = dice.pick((0, 0, 1, 3))  # one in so many has a second set
+
+    def with_second(row):
+        first = row.figures
+        if len(first) == 3 or not count or not dice.one_in(count):
+            return row
+        return row._replace(figures=first + sum((tuple(beside(dice, *first[at:at + 4])) for at in (0, 4, 8)), ()))
+    return [with_second(row) for row in rows]
+
+
 def seeded_rows(dice, hull, most):
     """Closed groups in order, at most so many rows."""
     listed = groups_of(hull, dice.pick((1, 2, 3, hull.zones, hull.zones)))
@@ -155,7 +185,7 @@ def seeded_rows(dice, hull, most):
         if len(rows) + len(more) > most:
             break
         rows += more
-    return seeded_openings(dice, rows)
+    return seeded_second_sets(dice, seeded_openings(dice, rows))
 
 
 def seeded_case(dice, most=60, zones=None):

@@ -32,12 +32,25 @@ class Answer(NamedTuple):
         return len(self.shares)
 
 
+def result_survival(result):
+    """Height and survival: the survival of one result."""
+    return Survival(survival_ends(s_fourth(*result)), survival_marks(*result))
+
+
+def lower_survival(first, second):
+    """Smaller damage, worse result: of two results the lower bottom and the lower top; the marks of the lower exact s⁴, the first one's when equal."""
+    one, other = result_survival(first), result_survival(second)
+    ends = Ends(min(one.ends.lower, other.ends.lower), min(one.ends.upper, other.ends.upper))
+    return Survival(ends, one.marks if s_fourth(*first) <= s_fourth(*second) else other.marks)
+
+
 def row_survival(row, draught):
     """Height and survival: a row's survival at one draught; a given one has bottom = top, and no mark."""
     if row.given is not None:
         return Survival(Ends(row.given[draught], row.given[draught]), NO_MARKS)
-    result = row.results[draught]
-    return Survival(survival_ends(s_fourth(*result)), survival_marks(*result))
+    if row.second is None:
+        return result_survival(row.results[draught])
+    return lower_survival(row.results[draught], row.second[draught])
 
 
 def partial_ends(case, shares, survivals, draught):

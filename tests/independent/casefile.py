@@ -4,13 +4,13 @@ from typing import NamedTuple, Optional, Tuple
 
 from .regulation import Span
 
-LONGEST_INPUT = 32_768
+LONGEST_INPUT = 65_536
 MOST_ROWS = 500
 MOST_ZONES = 20
 ABOVE_DEEPEST = 12_500  # a layer's top lies this far above ds
 
-HULL, LEVER_ROW, GIVEN_ROW, END = 0x01, 0x02, 0x03, 0x0F
-LENGTHS = {LEVER_ROW: 31, GIVEN_ROW: 13, END: 3}
+HULL, LEVER_ROW, GIVEN_ROW, TWO_SETS_ROW, END = 0x01, 0x02, 0x03, 0x05, 0x0F
+LENGTHS = {LEVER_ROW: 31, GIVEN_ROW: 13, TWO_SETS_ROW: 55, END: 3}
 
 
 class Refusal(NamedTuple):
@@ -44,7 +44,7 @@ class Result(NamedTuple):
 
 
 class Row(NamedTuple):
-    """A row with results or given survivals by draught, the b of the layer before it and the H of the row below it."""
+    """A row with results or given survivals by draught, the b of the layer before it and the H of the row below it, and a second set of results or none."""
 
     a: int
     n: int
@@ -54,6 +54,11 @@ class Row(NamedTuple):
     given: Optional[Tuple[int, ...]]
     b_before: int = 0
     H_below: Optional[int] = None
+    second: Optional[Tuple[Result, ...]] = None
+
+    @property
+    def sets(self):
+        return tuple(results for results in (self.results, self.second) if results is not None)
 
     @property
     def group(self):
@@ -135,11 +140,14 @@ def result_of(frame, at):
 
 
 def row_of(frame):
-    """The case file: the fields of a row frame of either kind."""
+    """The case file: the fields of a row frame of any kind; Smaller damage, worse result: a second set of results after the first."""
     a, n, b, H = frame[1], frame[2], two_bytes(frame, 3), two_bytes(frame, 5)
+    if frame[0] == GIVEN_ROW:
+        return Row(a, n, b, H, None, tuple(two_bytes(frame, 7 + 2 * j) for j in range(3)))
+    first = tuple(result_of(frame, 7 + 8 * j) for j in range(3))
     if frame[0] == LEVER_ROW:
-        return Row(a, n, b, H, tuple(result_of(frame, 7 + 8 * j) for j in range(3)), None)
-    return Row(a, n, b, H, None, tuple(two_bytes(frame, 7 + 2 * j) for j in range(3)))
+        return Row(a, n, b, H, first, None)
+    return Row(a, n, b, H, first, None, second=tuple(result_of(frame, 31 + 8 * j) for j in range(3)))
 
 
 def result_is_within(result):
@@ -155,7 +163,7 @@ def row_is_within(row, hull):
         and row.a + row.n - 1 <= len(hull.zones)
         and 1 <= row.b <= hull.B // 2
         and 1 <= row.H <= 60_000
-        and all(result_is_within(result) for result in row.results or ())
+        and all(result_is_within(result) for results in row.sets for result in results)
         and all(survival <= 10_000 for survival in row.given or ())
     )
 

@@ -1,8 +1,15 @@
 """The faults that the tests must find, by file: what is wrong, the text as it stands, and the text with the fault."""
 
+DRY = "tuple(result._replace(opening=0) for result in row.results)"
+TABLE = "        if kind not in LENGTHS or"
+JUDGED = "result_is_within(result) for results in row.sets for result in results)"
+SECOND_ROW = "    return Row(a, n, b, H, first, None, second=tuple(result_of(frame, 31 + 8 * j) for j in range(3)))"
+BOTH = "return lower_survival(row.results[draught], row.second[draught])"
+LOWER_ENDS = "Ends(min(one.ends.lower, other.ends.lower), min(one.ends.upper, other.ends.upper))"
+BY_S_FOURTH = "one.marks if s_fourth(*first) <= s_fourth(*second) else other.marks"
+
 READING = [
     # Limits and lines
-    ("32,769 bytes are let through", "LONGEST_INPUT = 32_768", "LONGEST_INPUT = 32_769"),
     ("21 zones are let through", "MOST_ZONES = 20", "MOST_ZONES = 21"),
     ("Ls to 19,801", "L <= 19_800", "L <= 19_801"),
     ("an odd B is let through", "B % 2 == 0 and ", ""),
@@ -18,7 +25,7 @@ READING = [
     ("an opening from -30,001", "-30_000 <= result.opening", "-30_001 <= result.opening"),
     ("an opening of 30,000 is refused", "result.opening <= 30_000", "result.opening < 30_000"),
     ("an opening of -30,000 is refused", "-30_000 <= result.opening", "-30_000 < result.opening"),
-    ("the deepest draught's opening alone is judged", "for result in row.results or ()", "for result in (row.results or ())[:1]"),
+    ("the deepest draught's opening alone is judged", "for result in results)", "for result in results[:1])"),
     ("an opening has no sign", "return number - 65_536 if number >= 32_768 else number", "return number"),
     ("an opening's sign is dropped, and -1 is 1", "return number - 65_536 if", "return 65_536 - number if"),
     ("an opening is read in ones' complement", "return number - 65_536 if", "return number - 65_535 if"),
@@ -98,6 +105,7 @@ FIGURES = [
     ("a dry opening is taken for an immersed one", "if opening < 0:", "if opening > 0:"),
     ("survival stays as it was where the opening is immersed", "    if opening < 0:\n        return Fraction(0)\n", ""),
     ("survival is one where the opening is immersed", "        return Fraction(0)\n", "        return Fraction(1)\n"),
+    ("the higher s⁴ of two is the exact one", "return min(s_fourth(*results[draught])", "return max(s_fourth(*results[draught])"),
     ("the partial draught is the mean", "3 * (ds - dl) // 5", "(ds - dl) // 2"),
     # Marks
     ("a lever at its cap is marked", "lever < 120", "lever <= 120"),
@@ -163,13 +171,16 @@ ENDS = [
 ]
 
 ANSWER = [
-    ("a result is that of the deepest draught", "row.results[draught]", "row.results[0]"),
+    ("a result is that of the deepest draught", "result_survival(row.results[draught])", "result_survival(row.results[0])"),
     ("a given survival is marked where it is not one", "NO_MARKS)", "Marks(*(row.given[draught] < 10_000,) * 4))"),
     ("a given survival is read as a lever", "NO_MARKS)", "survival_marks(row.given[draught], 1_600, 0, 0))"),
     ("a given survival of nothing has the opening's mark", "NO_MARKS)", "NO_MARKS._replace(opening=row.given[draught] == 0))"),
-    ("the marks are those of the light draught", "survival_marks(*result)", "survival_marks(*row.results[2])"),
-    ("the opening is that of the deepest draught", "row.results[draught]", "row.results[draught]._replace(opening=row.results[0].opening)"),
-    ("the opening is that of the light draught", "row.results[draught]", "row.results[draught]._replace(opening=row.results[2].opening)"),
+    ("the marks are those of the light draught", "result_survival(row.results[draught])",
+     "result_survival(row.results[draught])._replace(marks=survival_marks(*row.results[2]))"),
+    ("the opening is that of the deepest draught", "result_survival(row.results[draught])",
+     "result_survival(row.results[draught]._replace(opening=row.results[0].opening))"),
+    ("the opening is that of the light draught", "result_survival(row.results[draught])",
+     "result_survival(row.results[draught]._replace(opening=row.results[2].opening))"),
     ("the opening is that of the first row", "(row_survival(row, draught) for draught in range(3))",
      "(row_survival(row if row.given else row._replace(results=tuple(result._replace(opening=(case.rows[0].results or row.results)[0].opening)"
      " for result in row.results)), draught) for draught in range(3))"),
@@ -192,7 +203,8 @@ TEXT = [
      "8 if marks.opening else 1 * marks.lever + 2 * marks.reach + 4 * marks.heel"),
     ("the opening's mark is not told", " + 8 * marks.opening", ""),
     ("heel and opening change their bytes", "4 * marks.heel + 8 * marks.opening", "8 * marks.heel + 4 * marks.opening"),
-    ("the exact survival has no eye for the opening", "s_fourth(*row.results[draught])", "s_fourth(*row.results[draught][:3], 0)"),
+    ("the exact survival has no eye for the opening", "row_s_fourth(row, draught)", "row_s_fourth(row._replace(results=%s), draught)" % DRY),
+    ("the exact survival has no eye for the second set", "row_s_fourth(row, draught)", "row_s_fourth(row._replace(second=None), draught)"),
     ("the marks of the light draught stand for the partial", "for survival in survivals)", "for survival in (survivals[0], *survivals[2:] * 2))"),
     ("the draughts come light first", "for survival in survivals)", "for survival in survivals[::-1])"),
     ("the first row's marks are repeated", "row_line(*row) for row in zip(answer.shares, answer.survivals)",
@@ -214,13 +226,140 @@ SETTLING = [
     ("the search does not stop at 200 places", "FIRST_PLACES, MOST_PLACES = 4, 200", "FIRST_PLACES, MOST_PLACES = 4, 256"),
     ("a root that is a fraction is rounded too", "if (top**4, bottom**4) == (fourth.numerator, fourth.denominator):", "if fourth == 0:"),
     ("a root is rounded down on both sides", "Fraction(down + 1, scale)", "Fraction(down, scale)"),
-    ("an immersed opening counts as dry", "s_fourth(*row.results[draught])", "s_fourth(*row.results[draught][:3], 0)"),
+    ("an immersed opening counts as dry", "row_s_fourth(row, draught)", "row_s_fourth(row._replace(results=%s), draught)" % DRY),
+    ("the second set does not count", "row_s_fourth(row, draught)", "row_s_fourth(row._replace(second=None), draught)"),
     ("v does not count", "share * row_v(row, d) / WHOLE_V", "share"),
     ("A weighs each draught alike", "(Fraction(2, 5), Fraction(2, 5), Fraction(1, 5))", "(Fraction(1, 3),) * 3"),
     ("the ship fails only where all fall short", "if any(one.reaches is False", "if all(one.reaches is False"),
     ("a figure that stays open lets the ship meet", "if all(one.reaches for", "if all(one.reaches is not False for"),
 ]
 
+# The input's limit and the second set, which show in what is printed: the corpus alone must find these too
+SECOND_READ = [
+    # Limits
+    ("65,537 bytes are let through", "LONGEST_INPUT = 65_536", "LONGEST_INPUT = 65_537"),
+    ("65,535 bytes are the most", "LONGEST_INPUT = 65_536", "LONGEST_INPUT = 65_535"),
+    ("32,768 bytes are the most", "LONGEST_INPUT = 65_536", "LONGEST_INPUT = 32_768"),
+    ("the second set is not judged", JUDGED, JUDGED.replace("row.sets", "row.sets[:1]")),
+    ("the first of two sets is not judged", JUDGED, JUDGED.replace("row.sets", "row.sets[-1:]")),
+    *((f"the second set is judged at one draught alone, number {draught + 1}", JUDGED,
+       f"result_is_within(result) for results in row.sets for result in (results[{draught}:{draught + 1}] if results is row.second else results))")
+      for draught in range(3)),
+    *((f"the second set's {name} is not judged", JUDGED,
+       f"result_is_within(result._replace({name}=0) if results is row.second else result) for results in row.sets for result in results)")
+      for name in ("lever", "reach", "heel", "opening")),
+    # Kinds and lengths
+    ("kind 05 is refused", "TWO_SETS_ROW: 55, ", ""),
+    ("kind 04 is let through for kind 05", TABLE, "        kind = TWO_SETS_ROW if kind == 4 else kind\n        frame = bytes([kind]) + frame[1:]\n" + TABLE),
+    ("kind 02 is let through with a second set", TABLE, """\
+        if kind == LEVER_ROW and len(frame) == 55:
+            kind, frame = TWO_SETS_ROW, bytes([TWO_SETS_ROW]) + frame[1:]
+""" + TABLE),
+    ("kind 05 is let through with one set", TABLE, """\
+        if kind == TWO_SETS_ROW and len(frame) == 31:
+            frame += frame[7:]
+""" + TABLE),
+    ("kind 05 is let through without openings, as dry", TABLE, """\
+        if kind == TWO_SETS_ROW and len(frame) == 43:
+            frame = frame[:7] + b"".join(frame[at:at + 6] + bytes(2) for at in range(7, 43, 6))
+""" + TABLE),
+    ("a row of two sets that is too short is let through", TABLE, "        frame = frame.ljust(55, bytes(1)) if kind == TWO_SETS_ROW else frame\n" + TABLE),
+    ("a row of two sets that is too long is let through", TABLE, "        frame = frame[:55] if kind == TWO_SETS_ROW else frame\n" + TABLE),
+    # Places
+    ("the second set is the first again", "result_of(frame, 31 + 8 * j)", "result_of(frame, 7 + 8 * j)"),
+    ("the second set stands before the first", SECOND_ROW, SECOND_ROW.replace("first, None, second=", "").replace("range(3)))", "range(3)), None, second=first)")),
+    ("the two sets stand draught by draught", SECOND_ROW, """\
+    first = tuple(result_of(frame, 7 + 16 * j) for j in range(3))
+    return Row(a, n, b, H, first, None, second=tuple(result_of(frame, 15 + 16 * j) for j in range(3)))"""),
+    ("the second set comes light first", "result_of(frame, 31 + 8 * j)", "result_of(frame, 47 - 8 * j)"),
+    ("the second set begins at its ranges", "result_of(frame, 31 + 8 * j)", "result_of((frame + bytes(2))[2:], 31 + 8 * j)"),
+    ("the second set's results have six bytes", "result_of(frame, 31 + 8 * j)", "result_of(frame, 31 + 6 * j)"),
+    ("the second set's deepest result stands for all", "result_of(frame, 31 + 8 * j)", "result_of(frame, 31)"),
+    ("the second set's openings have no sign", "result_of(frame, 31 + 8 * j)",
+     "result_of(frame, 31 + 8 * j)._replace(opening=two_bytes(frame, 37 + 8 * j))"),
+    ("the second set has the first one's openings", "result_of(frame, 31 + 8 * j)", "result_of(frame, 31 + 8 * j)._replace(opening=first[j].opening)"),
+    # Judging order
+    ("6 is judged before 3 at row 501 of kind 05", TABLE, """\
+        if kind == TWO_SETS_ROW and len(rows) == MOST_ROWS:
+            return Refusal(6, number)
+""" + TABLE),
+    ("row 501 of kind 05 is let through", "if len(rows) == MOST_ROWS:", "if len(rows) == MOST_ROWS and row.second is None:"),
+    ("7 is judged before 6 where the second set is outside", "if len(rows) == MOST_ROWS:",
+     "if len(rows) == MOST_ROWS and (row.second is None or row_is_within(row, hull)):"),
+    ("7 is judged before 3 where the second set is outside", TABLE, """\
+        if kind == TWO_SETS_ROW and len(frame) >= 39 and not result_is_within(result_of(frame, 31)):
+            return Refusal(7, number)
+""" + TABLE),
+    ("8 is judged before 7 where the second set is outside", "if not row_is_within(row, hull):",
+     "if not row_is_within(row, hull) and not (rows and row.second and is_out_of_order(row, rows[-1], hull)):"),
+    ("9 is judged before 7 where the second set is outside", "if not row_is_within(row, hull):",
+     "if not row_is_within(row, hull) and not (rows and row.second and leaves_open(row, rows[-1], hull)):"),
+    ("a row of two sets is held to no order", "if rows and is_out_of_order(row, rows[-1], hull):",
+     "if rows and row.second is None and is_out_of_order(row, rows[-1], hull):"),
+    ("a row of two sets may leave the last group open", "if rows and leaves_open(row, rows[-1], hull):",
+     "if rows and row.second is None and leaves_open(row, rows[-1], hull):"),
+    ("a row of two sets counts twice", "if two_bytes(frame, 1) != len(rows):",
+     "if two_bytes(frame, 1) != sum(max(len(row.sets), 1) for row in rows):"),
+    ("a row of two sets does not count", "if two_bytes(frame, 1) != len(rows):", "if two_bytes(frame, 1) != sum(row.second is None for row in rows):"),
+    ("the second set goes on into the next row of results", "rows.append(placed(row, rows))",
+     "rows.append(placed(row._replace(second=rows[-1].second) if rows and row.results and row.second is None else row, rows))"),
+]
+
+SECOND_ANSWERED = [
+    # Bottom and top
+    ("the higher survival counts", LOWER_ENDS, LOWER_ENDS.replace("min(", "max(")),
+    ("the second set is ignored", "if row.second is None:", "if row.results is not None:"),
+    ("the first of two sets is ignored", BOTH, "return result_survival(row.second[draught])"),
+    ("the first one's bottom and the second one's top", LOWER_ENDS, "Ends(one.ends.lower, other.ends.upper)"),
+    ("the second one's bottom and the first one's top", LOWER_ENDS, "Ends(other.ends.lower, one.ends.upper)"),
+    ("the lower bottom and the higher top", LOWER_ENDS, LOWER_ENDS.replace("min(one.ends.upper", "max(one.ends.upper")),
+    ("the higher bottom and the lower top", LOWER_ENDS, LOWER_ENDS.replace("min(one.ends.lower", "max(one.ends.lower")),
+    ("the ends of the lower bottom, the first one's when equal", LOWER_ENDS, "one.ends if one.ends.lower <= other.ends.lower else other.ends"),
+    ("the ends of the lower top, the first one's when equal", LOWER_ENDS, "one.ends if one.ends.upper <= other.ends.upper else other.ends"),
+    ("the mean of the two counts", LOWER_ENDS, "Ends((one.ends.lower + other.ends.lower) // 2, (one.ends.upper + other.ends.upper + 1) // 2)"),
+    ("the product of the two counts", LOWER_ENDS, "Ends(one.ends.lower * other.ends.lower // 10_000, -(-one.ends.upper * other.ends.upper // 10_000))"),
+    # Marks
+    ("the second one's marks when equal", BY_S_FOURTH, BY_S_FOURTH.replace("<=", "<")),
+    ("the marks of the higher one", BY_S_FOURTH, BY_S_FOURTH.replace("<=", ">=")),
+    ("the first one's marks always", BY_S_FOURTH, "one.marks"),
+    ("the second one's marks always", BY_S_FOURTH, "other.marks"),
+    ("the marks of both", BY_S_FOURTH, "Marks(*map(max, one.marks, other.marks))"),
+    ("the marks that both have", BY_S_FOURTH, "Marks(*map(min, one.marks, other.marks))"),
+    ("the marks of both when equal", BY_S_FOURTH,
+     "Marks(*map(max, one.marks, other.marks)) if s_fourth(*first) == s_fourth(*second) else " + BY_S_FOURTH),
+    ("marks by bottoms", BY_S_FOURTH, "one.marks if one.ends.lower <= other.ends.lower else other.marks"),
+    ("marks by tops", BY_S_FOURTH, "one.marks if one.ends.upper <= other.ends.upper else other.marks"),
+    ("marks by bottoms and tops", BY_S_FOURTH, "one.marks if one.ends <= other.ends else other.marks"),
+    ("marks by s⁴ in billionths", BY_S_FOURTH, "one.marks if int(10**9 * s_fourth(*first)) <= int(10**9 * s_fourth(*second)) else other.marks"),
+    ("marks by the lever, not capped", BY_S_FOURTH,
+     "one.marks if first[0] * s_fourth(120, *first[1:]) <= second[0] * s_fourth(120, *second[1:]) else other.marks"),
+    ("marks by the range, not capped", BY_S_FOURTH,
+     "one.marks if first[1] * s_fourth(first[0], 1_600, *first[2:]) <= second[1] * s_fourth(second[0], 1_600, *second[2:]) else other.marks"),
+    ("marks with no eye for the heel", BY_S_FOURTH,
+     "one.marks if s_fourth(*first[:2], 0, first[3]) <= s_fourth(*second[:2], 0, second[3]) else other.marks"),
+    ("marks with no eye for the opening", BY_S_FOURTH, "one.marks if s_fourth(*first[:3], 0) <= s_fourth(*second[:3], 0) else other.marks"),
+    # Draughts
+    ("the set that is lower at the deepest draught counts at all", BOTH,
+     "return result_survival((row.results if s_fourth(*row.results[0]) <= s_fourth(*row.second[0]) else row.second)[draught])"),
+    ("the set that is lower over all draughts counts at each", BOTH,
+     "return result_survival(min(row.sets, key=lambda results: sum(s_fourth(*result) for result in results))[draught])"),
+    ("the set with the lowest of all counts at each draught", BOTH,
+     "return result_survival(min(row.sets, key=lambda results: min(s_fourth(*result) for result in results))[draught])"),
+    ("the second set's deepest result counts at each draught", BOTH, BOTH.replace("row.second[draught]", "row.second[0]")),
+    ("the second set's draughts are turned round", BOTH, BOTH.replace("row.second[draught]", "row.second[2 - draught]")),
+    ("the second set counts at the deepest draught alone", "if row.second is None:", "if row.second is None or draught > 0:"),
+    # Numbers of two results taken for each other
+    ("the worse of each number counts", BOTH, "lever, reach, heel, opening = zip(row.results[draught], row.second[draught])\n"
+     "    return result_survival((min(lever), min(reach), max(heel), min(opening)))"),
+    ("an opening immersed in the second set does not count", BOTH,
+     BOTH.replace("row.second[draught]", "row.second[draught]._replace(opening=max(row.second[draught].opening, 0))")),
+    ("an opening immersed in one set is so in both", BOTH,
+     "opening = min(results[draught].opening for results in row.sets)\n"
+     "    return lower_survival(*(results[draught]._replace(opening=opening) for results in row.sets))"),
+]
+
+ON_CORPUS = {"casefile": SECOND_READ, "answering": SECOND_ANSWERED}
 FAULTS = {
-    "casefile": READING, "regulation": FIGURES, "rounding": ENDS, "answering": ANSWER, "printing": TEXT, "settling": SETTLING,
+    "casefile": READING + SECOND_READ, "regulation": FIGURES, "rounding": ENDS, "answering": ANSWER + SECOND_ANSWERED, "printing": TEXT,
+    "settling": SETTLING,
 }

@@ -4,7 +4,7 @@ from fractions import Fraction
 from math import floor
 
 from .casefile import Refusal
-from .regulation import R, WHOLE_SURVIVAL, WHOLE_V, draughts, group_share, row_share, row_v, s_fourth
+from .regulation import R, WHOLE_SURVIVAL, WHOLE_V, draughts, group_share, row_s_fourth, row_share, row_v
 
 DRAUGHTS = ("deepest", "partial", "light")
 
@@ -54,7 +54,7 @@ def exact_survival(row, draught):
     """Height and survival: a row's s⁴ at one draught as a fraction, or its given survival."""
     if row.given is not None:
         return f"s {row.given[draught]}/{WHOLE_SURVIVAL} given"
-    return f"s^4 {s_fourth(*row.results[draught])}"
+    return f"s^4 {row_s_fourth(row, draught)}"
 
 
 def exact_text(read):

@@ -180,6 +180,11 @@ def s_fourth(lever, reach, heel, opening):
     return Fraction(g, 120) * Fraction(t, 1_600) * k
 
 
+def row_s_fourth(row, draught):
+    """Height and survival: s⁴ of a row's result at one draught; Smaller damage, worse result: the lower one of its two."""
+    return min(s_fourth(*results[draught]) for results in row.sets)
+
+
 def survival_marks(lever, reach, heel, opening):
     """Why is this survival not one: lever below its cap, range below its cap, heel above 2,500; Openings: opening below the final waterline."""
     return Marks(lever < 120, reach < 1_600, heel > 2_500, opening < 0)

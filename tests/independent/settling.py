@@ -7,7 +7,7 @@ from typing import Callable, NamedTuple, Optional, Tuple
 from .answering import MEETS, UNSETTLED, answer_to_case
 from .casefile import Refusal
 from .printing import cut, decimal
-from .regulation import WHOLE_SURVIVAL, WHOLE_V, draughts, marks, row_share, row_v, s_fourth
+from .regulation import WHOLE_SURVIVAL, WHOLE_V, draughts, marks, row_s_fourth, row_share, row_v
 from .rounding import BILLION
 
 FIRST_PLACES, MOST_PLACES = 4, 200  # decimal places of the roots: the service's own, and where the search stops
@@ -72,7 +72,7 @@ def fourth_power(row, draught):
     """s⁴ of a row at one draught; a given survival counts as itself."""
     if row.given is not None:
         return Fraction(row.given[draught], WHOLE_SURVIVAL) ** 4
-    return s_fourth(*row.results[draught])
+    return row_s_fourth(row, draught)
 
 
 def partial_parts(case, shares, draught):

@@ -3,7 +3,7 @@
 import unittest
 
 from independent import Case, Result, judge, reading
-from independent.writing import end_line, file_of, given_row, hull_line, lever_row, whole_file
+from independent.writing import end_line, file_of, given_row, hull_line, lever_row, two_sets_row, whole_file
 
 ACCEPTED = (0, 0)
 HULL = hull_line(9_900, 1_600, 6_000, 4_000, [1_500, 5_000])
@@ -12,6 +12,7 @@ FINE = ((30, 400, 0, 0),) * 3
 ROW = lever_row(1, 1, 800, TOP, FINE)
 WITHOUT_OPENINGS = "02010103204844" + "001e01900000" * 3  # as a row was before it had openings
 GIVEN = given_row(2, 1, 800, TOP, (0, 5_000, 10_000))
+TWO_SETS = two_sets_row(1, 1, 800, TOP, FINE, ((60, 800, 0, 0),) * 3)
 END = end_line(1)
 
 
@@ -35,14 +36,16 @@ class WholeInput(ReadingTest):
         self.expect({
             "no rows": with_rows(),
             "one row": with_rows(ROW),
-            "both kinds": with_rows(ROW, GIVEN),
+            "two kinds": with_rows(ROW, GIVEN),
+            "three kinds": with_rows(ROW, GIVEN, "0503" + TWO_SETS[4:]),
             "one zone": whole_file(hull_line(9_900, 1_600, 6_000, 4_000, []), [ROW]),
         }, ACCEPTED)
 
     def test_too_long(self):
-        self.expect({"just too long": b"\n" * 32_769, "valid but for it": with_rows(ROW) + b"\n" * 32_768}, (1, 0))
-        self.expect({"as long as allowed": b"\n" * 32_768}, (2, 1))
-        self.expect({"long tail": (with_rows(ROW) + b"\n" * 32_768)[:32_768]}, (10, 4))
+        self.expect({"just too long": b"\n" * 65_537, "valid but for it": with_rows(ROW) + b"\n" * 65_536}, (1, 0))
+        self.expect({"as long as allowed": b"\n" * 65_536, "too long before there were second sets": b"\n" * 32_769}, (2, 1))
+        for length in (32_768, 32_769, 65_535, 65_536):
+            self.expect({length: (with_rows(ROW) + b"\n" * 65_536)[:length]}, (10, 4))
 
     def test_no_end_frame(self):
         self.expect({"empty": b""}, (10, 1))
@@ -79,18 +82,20 @@ class Lines(ReadingTest):
         self.expect({"long hull": file_of([hull_line(1, 1, 1, 1, []) + "00" * 300 + "0x"])}, (2, 1))
 
     def test_kind_of_line_one(self):
-        for kind in ("00", "02", "03", "0f", "10", "81"):
+        for kind in ("00", "02", "03", "05", "0f", "10", "81"):
             self.expect({kind: file_of([kind + HULL[2:], ROW, END])}, (3, 1))
 
     def test_kind_of_later_lines(self):
         for kind in ("00", "01", "04", "05", "0e", "10", "12", "f0", "82"):
             self.expect({kind: file_of([HULL, kind + ROW[2:], END])}, (3, 2))
+        for kind in ("00", "01", "02", "03", "04", "06", "07", "0d", "15", "45", "50", "85"):
+            self.expect({kind: file_of([HULL, kind + TWO_SETS[2:], END])}, (3, 2))
         self.expect({"hull again": file_of([HULL, HULL, END])}, (3, 2))
 
     def test_lengths(self):
         self.expect({"kind alone": file_of(["01"]), "nine bytes": file_of([HULL[:18]])}, (3, 1))
-        for bad in (ROW[:-2], ROW + "00", GIVEN[:-2], GIVEN + "00", "02", "03", "0f", "0f00", "0f000100",
-                    "02" + GIVEN[2:], "03" + ROW[2:]):
+        for bad in (ROW[:-2], ROW + "00", GIVEN[:-2], GIVEN + "00", TWO_SETS[:-2], TWO_SETS + "00", "02", "03", "05", "0f", "0f00", "0f000100",
+                    "02" + GIVEN[2:], "03" + ROW[2:], "05" + ROW[2:], "05" + GIVEN[2:], "0f" + TWO_SETS[2:]):
             self.expect({bad: file_of([HULL, bad, END])}, (3, 2))
 
     def test_lengths_of_kind_02(self):
@@ -100,9 +105,19 @@ class Lines(ReadingTest):
             self.expect({length: file_of([HULL, line, END])}, ACCEPTED if length == 31 else (3, 2))
         self.expect({"no openings": file_of([HULL, WITHOUT_OPENINGS, END])}, (3, 2))
 
+    def test_lengths_of_kind_05(self):
+        without_openings = "05" + WITHOUT_OPENINGS[2:] + "001e01900000" * 3
+        self.assertEqual((len(TWO_SETS), len(without_openings)), (2 * 55, 2 * 43))
+        for length in range(1, 112):
+            line = (TWO_SETS + "00" * 56)[:2 * length]
+            self.expect({length: file_of([HULL, line, END])}, ACCEPTED if length == 55 else (3, 2))
+        self.expect({"no openings": file_of([HULL, without_openings, END])}, (3, 2))
+
     def test_length_comes_before_numbers(self):
         outside = lever_row(1, 1, 800, TOP, ((30, 400, 0, 30_001),) * 3)
         self.expect({bad: file_of([HULL, bad, END]) for bad in (outside[:-2], outside + "00", "0200" + WITHOUT_OPENINGS[4:])}, (3, 2))
+        outside = two_sets_row(1, 1, 800, TOP, FINE, ((30, 400, 0, 30_001),) * 3)
+        self.expect({bad: file_of([HULL, bad, END]) for bad in (outside[:-2], outside + "00", outside[:86], "02" + outside[2:])}, (3, 2))
 
 
 class HullNumbers(ReadingTest):
@@ -152,16 +167,27 @@ class RowNumbers(ReadingTest):
         full = [given_row(1, 1, 800, H, (0, 0, 0)) for H in range(TOP - 499, TOP + 1)]
         self.assertEqual(len(full), 500)
         self.expect({"five hundred": with_rows(*full)}, ACCEPTED)
-        for last in (GIVEN, full[0], given_row(0, 0, 0, 0, (0, 0, 0))):
+        for last in (GIVEN, full[0], given_row(0, 0, 0, 0, (0, 0, 0)), TWO_SETS, two_sets_row(2, 1, 800, TOP, FINE, ((5_001, 0, 0, 0),) * 3)):
             self.expect({last: with_rows(*full, last)}, (6, 502))
-        for last in ("04", "02", "03", "0f", ROW[:-2], ROW + "00", GIVEN[:-2], GIVEN + "00"):
+        for last in ("04", "02", "03", "05", "0f", ROW[:-2], ROW + "00", GIVEN[:-2], GIVEN + "00", TWO_SETS[:-2], TWO_SETS + "00"):
             self.expect({last: file_of([HULL, *full, last])}, (3, 502))
         self.expect({"odd digits": file_of([HULL, *full, GIVEN + "0"])}, (2, 502))
+
+    def test_five_hundred_rows_of_two_sets(self):
+        hull = hull_line(9_900, 1_600, 6_000, 4_000, range(100, 2_000, 100))
+        full = [two_sets_row(1, 1, 800, H, FINE, FINE) for H in range(TOP - 499, TOP + 1)]
+        self.assertEqual(len(whole_file(hull, full)), 55_604)
+        self.expect({"five hundred": whole_file(hull, full)}, ACCEPTED)
+        self.expect({"one more": whole_file(hull, [*full, "0502" + TWO_SETS[4:]])}, (6, 502))
+        for count in (0, 499, 501, 1_000):
+            self.expect({count: file_of([hull, *full, end_line(count)])}, (6, 502))
 
     def test_within_the_limits(self):
         for row in (given_row(1, 3, 800, TOP, (0, 0, 0)), given_row(3, 1, 800, TOP, (10_000,) * 3),
                     given_row(1, 1, 800, 60_000, (0, 0, 0)), lever_row(1, 1, 800, TOP, ((0, 0, 0, -30_000),) * 3),
-                    lever_row(1, 1, 800, TOP, ((5_000, 9_000, 9_000, 30_000),) * 3)):
+                    lever_row(1, 1, 800, TOP, ((5_000, 9_000, 9_000, 30_000),) * 3),
+                    two_sets_row(1, 1, 800, TOP, FINE, ((5_000, 9_000, 9_000, 30_000),) * 3),
+                    two_sets_row(1, 1, 800, TOP, ((0, 0, 0, -30_000),) * 3, ((0, 0, 0, -30_000),) * 3)):
             self.expect({row: with_rows(row)}, ACCEPTED)
         low = [given_row(1, 1, b, H, (0, 0, 0)) for b, H in ((1, 1), (1, TOP), (800, TOP))]
         self.expect({"least b and H": with_rows(*low)}, ACCEPTED)
@@ -175,8 +201,12 @@ class RowNumbers(ReadingTest):
             for wrong in ((5_001, 0, 0, 0), (0, 9_001, 0, 0), (0, 0, 9_001, 0), (0, 0, 0, 30_001), (0, 0, 0, -30_001)):
                 results = [(0, 0, 0, 0)] * draught + [wrong] + [(0, 0, 0, 0)] * (2 - draught)
                 self.expect({(draught, wrong): with_rows(lever_row(1, 1, 800, TOP, results))}, (7, 2))
+                for first, second in ((results, FINE), (FINE, results)):
+                    self.expect({(draught, wrong): with_rows(two_sets_row(1, 1, 800, TOP, first, second))}, (7, 2))
             survivals = [10_001 if j == draught else 0 for j in range(3)]
             self.expect({draught: with_rows(given_row(1, 1, 800, TOP, survivals))}, (7, 2))
+        for a, n, b, H in ((0, 1, 800, TOP), (1, 4, 800, TOP), (1, 1, 801, TOP), (1, 1, 800, 60_001)):
+            self.expect({(a, n, b, H): with_rows(two_sets_row(a, n, b, H, FINE, FINE))}, (7, 2))
 
     def test_openings(self):
         inside = (-30_000, -29_999, -257, -256, -2, -1, 0, 1, 255, 256, 29_999, 30_000, 35_536, 65_535)
@@ -186,26 +216,54 @@ class RowNumbers(ReadingTest):
                 for draught in range(3):
                     results = [(30, 400, 0, opening if j == draught else 0) for j in range(3)]
                     self.expect({(draught, opening): with_rows(lever_row(1, 1, 800, TOP, results))}, refusal)
+                    self.expect({(draught, opening, "second"): with_rows(two_sets_row(1, 1, 800, TOP, FINE, results))}, refusal)
 
     def test_limits_come_before_order(self):
         self.expect({"earlier and outside": with_rows(GIVEN, given_row(1, 1, 801, TOP, (0, 0, 0)))}, (7, 3))
         outside = lever_row(1, 1, 800, TOP, ((30, 400, 0, -30_001),) * 3)
         self.expect({"earlier group, opening outside": with_rows(GIVEN, outside), "row again, opening outside": with_rows(ROW, outside)}, (7, 3))
+        outside = two_sets_row(1, 1, 800, TOP, FINE, ((30, 9_001, 0, 0),) * 3)
+        self.expect({"earlier group, second set outside": with_rows(GIVEN, outside), "row again, second set outside": with_rows(ROW, outside),
+                     "open group, second set outside": with_rows(given_row(1, 1, 700, TOP, (0, 0, 0)), "0502" + outside[4:])}, (7, 3))
 
 
 class RowFields(unittest.TestCase):
     """What is read from a row of results."""
 
-    def results(self, line):
+    def row(self, line):
         read = reading(with_rows(line))
         self.assertIsInstance(read, Case)
-        return read.rows[0].results
+        return read.rows[0]
+
+    def results(self, line):
+        self.assertEqual(self.row(line).sets, (self.row(line).results,))
+        return self.row(line).results
 
     def test_each_number_has_its_place(self):
         results = tuple(Result(*range(4 * j + 1, 4 * j + 5)) for j in range(3))
         self.assertEqual(self.results(lever_row(1, 1, 800, TOP, results)), results)
         results = tuple(result._replace(opening=-result.opening) for result in results)
         self.assertEqual(self.results(lever_row(1, 1, 800, TOP, results)), results)
+
+    def test_each_number_of_two_sets_has_its_place(self):
+        for sign in (1, -1):
+            results = [Result(4 * j + 1, 4 * j + 2, 4 * j + 3, sign * (4 * j + 4)) for j in range(6)]
+            row = self.row(two_sets_row(1, 1, 800, TOP, results[:3], results[3:]))
+            self.assertEqual((row.results, row.second), (tuple(results[:3]), tuple(results[3:])))
+            self.assertEqual(row.sets, (row.results, row.second))
+            self.assertIsNone(row.given)
+
+    def test_row_of_two_sets_in_digits(self):
+        line = "05010103204844" + "001e019000000000" * 3 + "00780640" + "09c4ffff" + "003c0320" + "00000000" + "00000000" + "0bb87530"
+        row = self.row(line)
+        self.assertEqual(row[:4], (1, 1, 800, TOP))
+        self.assertEqual(row.results, (Result(30, 400, 0, 0),) * 3)
+        self.assertEqual(row.second, (Result(120, 1_600, 2_500, -1), Result(60, 800, 0, 0), Result(0, 0, 3_000, 30_000)))
+        self.assertEqual(two_sets_row(1, 1, 800, TOP, row.results, row.second), line)
+
+    def test_rows_have_their_own_sets(self):
+        rows = reading(with_rows(TWO_SETS, GIVEN, "0203" + ROW[4:])).rows
+        self.assertEqual([len(row.sets) for row in rows], [2, 0, 1])
 
     def test_bytes_of_an_opening(self):
         for digits, opening in (("0000", 0), ("0001", 1), ("00ff", 255), ("0100", 256), ("7530", 30_000), ("ffff", -1), ("fffe", -2),
@@ -231,6 +289,18 @@ class Order(ReadingTest):
             "layers": self.rows((1, 1, 1, TOP), (1, 1, 2, TOP + 5), (1, 1, 800, TOP)),
             "heights": self.rows((1, 1, 800, 1), (1, 1, 800, TOP - 1), (1, 1, 800, TOP)),
         }, ACCEPTED)
+
+    def test_rows_of_two_sets_have_the_same_order(self):
+        def rows(*heads):
+            return with_rows(*(two_sets_row(*head, FINE, FINE) for head in heads))
+
+        self.expect({"layers and heights": rows((1, 1, 700, 1), (1, 1, 700, TOP), (1, 1, 800, TOP), (2, 1, 800, TOP))}, ACCEPTED)
+        self.expect({"earlier group": rows((2, 1, 800, TOP), (1, 3, 800, TOP)), "smaller b": rows((1, 1, 700, TOP), (1, 1, 699, TOP)),
+                     "lower": rows((1, 1, 800, 5_000), (1, 1, 800, 5_000)), "after the top": rows((1, 1, 800, TOP), (1, 1, 800, TOP + 1))}, (8, 3))
+        self.expect({"group left open": rows((1, 1, 799, TOP), (1, 2, 800, TOP)), "layer left open": rows((1, 1, 700, TOP - 1), (1, 1, 800, TOP)),
+                     "end": rows((1, 1, 800, TOP - 1))}, (9, 3))
+        for before, after in ((ROW, TWO_SETS), (TWO_SETS, ROW), (TWO_SETS, TWO_SETS)):
+            self.expect({(before, after): with_rows(before, after)}, (8, 3))
 
     def test_group_earlier(self):
         self.expect({

@@ -61,7 +61,7 @@ class Printed(unittest.TestCase):
 
     def test_refusals(self):
         self.assertEqual(run(b""), b"8f0a0001\n")
-        self.assertEqual(run(b"\n" * 40_000), b"8f010000\n")
+        self.assertEqual(run(b"\n" * 70_000), b"8f010000\n")
         self.assertEqual(run(file_of([hull_line(9_900, 1_600, 6_000, 4_000, [])] + ["0f"])), b"8f030002\n")
         self.assertEqual(figures(answer(b"")), [10, 1] + 10 * [0])
 

@@ -17,6 +17,11 @@ def lever_row(a, n, b, H, results):
     return f"02{a:02x}{n:02x}{b:04x}{H:04x}" + "".join(result_digits(*result) for result in results)
 
 
+def two_sets_row(a, n, b, H, first, second):
+    """Smaller damage, worse result: a row of kind 05, the three results of the first set and then those of the second."""
+    return "05" + lever_row(a, n, b, H, (*first, *second))[2:]
+
+
 def given_row(a, n, b, H, survivals):
     """The case file: a row of kind 03 with three given survivals."""
     return f"03{a:02x}{n:02x}{b:04x}{H:04x}" + "".join(f"{survival:04x}" for survival in survivals)

@@ -51,7 +51,7 @@ def survivals(dice, count):
     for _ in range(count):
         yield (2, near(dice, LEVERS, dice.choice((130, 5000))), near(dice, RANGES, dice.choice((1700, 9000))),
                near(dice, HEELS, dice.choice((3100, 9000))), near_opening(dice), dice.choice((0, 10000)))
-    for kind in (0, 1, 2, 4, MOST):  # whatever is not kind 3 has lever, range, heel and opening, as large as numbers are
+    for kind in (0, 1, 2, 4, 5, MOST):  # whatever is not kind 3 has lever, range, heel and opening, as large as numbers are
         for three in ((MOST, 1600, 2500), (120, MOST, 2500), (120, 1600, MOST), (MOST, MOST, MOST), (119, 1600, 2500), (0, 0, 2501)):
             for opening in OPENINGS + FAR:
                 yield kind, *three, opening, 10000

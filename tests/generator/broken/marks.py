@@ -101,7 +101,7 @@ def changed_given(words, byte):
     """Marks for given survivals."""
     class Broken(Figures):
         def marks_at(self, row, draught):
-            return super().marks_at(row, draught) if len(row.figures) == 12 else byte(self, row.figures, draught)
+            return byte(self, row.figures, draught) if len(row.figures) == 3 else super().marks_at(row, draught)
     slip(words)(Broken)
 
 

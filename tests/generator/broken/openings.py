@@ -7,7 +7,7 @@ from .slip import Slips
 read = Slips()
 slip = Slips()
 
-OPENINGS = (13, 21, 29)  # where they stand in a row of kind 02
+OPENINGS = (13, 21, 29)  # where they stand in a row of kind 02, and in the first set of kind 05
 
 
 def changed_opening(words, opening):
@@ -66,7 +66,7 @@ for length, line_read in ((25, Without), (30, Line), (32, Line)):
     read("kind 02 in %d bytes too" % length)(type("Broken", (Judging,), {
         "reads": line_read,
         "rule_3": lambda self, line, length=length: Judging.rule_3(self, line) and not (line.frame[0] == 2 and len(line.frame) == length)}))
-read("kind 02 in 25 bytes")(type("Broken", (Judging,), {"reads": Without, "lengths": {2: 25, 3: 13, 15: 3}}))
+read("kind 02 in 25 bytes")(type("Broken", (Judging,), {"reads": Without, "lengths": {**Judging.lengths, 2: 25}}))
 for words, values in (("an opening to 30,001", {"row_limits": ((5000, 9000, 9000, 30001), (10000,))}), ("an opening from -30,001", {"lowest": -30001}),
                       ("an opening to 29,999", {"row_limits": ((5000, 9000, 9000, 29999), (10000,))}), ("an opening from -29,999", {"lowest": -29999}),
                       ("an opening to 32,767", {"row_limits": ((5000, 9000, 9000, 32767), (10000,))}), ("an opening from -32,768", {"lowest": -32768}),
@@ -107,17 +107,17 @@ class BottomStays(Figures):
 
 
 def changed_result(words, opening):
-    """Another opening for a row's survival and marks, from the rows, the row itself, the draught and the right one."""
+    """Another opening for the first set of a row, from the rows, the row itself, the draught and the right one."""
     class Broken(Figures):
-        def result(self, row, draught):
-            lever, reach, heel, right = super().result(row, draught)
-            return lever, reach, heel, opening(self.rows, row, draught, right)
+        def result(self, row, draught, of=0):
+            lever, reach, heel, right = super().result(row, draught, of)
+            return lever, reach, heel, right if of else opening(self.rows, row, draught, right)
     slip(words)(Broken)
 
 
 def openings_of(row):
-    """The openings of a row at the three draughts; a given survival has none."""
-    return row.figures[3::4] if len(row.figures) == 12 else ()
+    """The openings of a row's first set at the three draughts; a given survival has none."""
+    return row.figures[3:12:4]
 
 
 changed_result("an opening immersed at one draught is so at all", lambda rows, row, draught, right: min(openings_of(row)))

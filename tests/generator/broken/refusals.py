@@ -10,8 +10,9 @@ def constant(words, **values):
     slip(words)(type("Broken", (Judging,), values))
 
 
-constant("32,769 bytes are let through", longest=32769)
-constant("32,767 bytes are the most", longest=32767)
+constant("65,537 bytes are let through", longest=65537)
+constant("65,535 bytes are the most", longest=65535)
+constant("32,768 bytes are the most, as before there were second sets", longest=32768)
 constant("501 rows are let through", most_rows=501)
 constant("499 rows are the most", most_rows=499)
 constant("the top is ds + 12,499", rise=12499)
@@ -24,10 +25,10 @@ constant("lever to 4,999", row_limits=((4999, 9000, 9000, 30000), (10000,)))
 constant("range to 8,999", row_limits=((5000, 8999, 9000, 30000), (10000,)))
 constant("heel to 8,999", row_limits=((5000, 9000, 8999, 30000), (10000,)))
 constant("survival to 9,999", row_limits=((5000, 9000, 9000, 30000), (9999,)))
-constant("kind 02 in 32 bytes", lengths={2: 32, 3: 13, 15: 3})
-constant("kind 03 in 12 bytes", lengths={2: 31, 3: 12, 15: 3})
-constant("the end frame in two bytes", lengths={2: 31, 3: 13, 15: 2})
-constant("kind 04 is let through", lengths={2: 31, 3: 13, 4: 13, 15: 3})
+constant("kind 02 in 32 bytes", lengths={**Judging.lengths, 2: 32})
+constant("kind 03 in 12 bytes", lengths={**Judging.lengths, 3: 12})
+constant("the end frame in two bytes", lengths={**Judging.lengths, 15: 2})
+constant("kind 04 is let through", lengths={**Judging.lengths, 4: 13})
 
 
 def turned(first, second):

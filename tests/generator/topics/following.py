@@ -33,7 +33,7 @@ GOES_ON = (6, 10)
 
 
 def rows_in(lines):
-    return sum(line[:2] in ("02", "03") for line in lines)
+    return sum(line[:2] in ("02", "03", "05") for line in lines)
 
 
 def both(early, where, before, late, what, after):
@@ -57,9 +57,9 @@ def in_two_lines():
 
 def after_too_long():
     for late, (where, lines) in EARLY.items():
-        data = (joined(lines) + joined([row_line(Row(4, 1, HALF, TOP, (0,) * 12))] * 700))[:32769]
+        data = (joined(lines) + joined([row_line(Row(4, 1, HALF, TOP, (0,) * 24))] * 700))[:65537]
         assert without(1).refusal(data) == (late, len(lines)), "%d is not broken after 1" % late
-        yield refused("1-then-%d-%s" % (late, where), data, 1, 0, "32,769 bytes, and %d on a line of them" % late)
+        yield refused("1-then-%d-%s" % (late, where), data, 1, 0, "65,537 bytes, and %d on a line of them" % late)
 
 
 def cases():

@@ -1,4 +1,4 @@
-"""Accepted files of every shape: few and many zones, rows, layers and heights, groups left out, both kinds of row."""
+"""Accepted files of every shape: few and many zones, rows, layers and heights, groups left out, kinds of row."""
 
 from ..case import accepted
 from ..dice import Dice

@@ -102,6 +102,11 @@ def tops():
                       "a higher row in a layer that has reached its top")
 
 
+def of_its_own(at):
+    """Two sets of results that no other row has."""
+    return sum((((7 * at + 13 * j) % 131, (31 * at + 57 * j) % 1701, (17 * at + 400 * j) % 3101, (11 * at + j) % 40 - 2) for j in range(6)), ())
+
+
 def many_rows():
     """Refusal 6 and the counts of rows; refusal 1 and the size of the input."""
     tall = tuple(range(1, 500))
@@ -117,11 +122,13 @@ def many_rows():
         yield refused("rows-%d-counted-%d" % (count, given), case_file(hull, rows, given), 6, count + 2,
                       "%d rows and an end count of %d" % (count, given))
     long = Hull(12000, 2000, 8000, 5000, tuple(600 * i for i in range(1, 20)))
-    longest = case_file(long, group(long, 1, 20, heights=tall, figures=SAFE))
-    assert len(longest) == 31604
-    yield accepted("longest-file", longest, "20 zones and 500 rows of kind 02: 31,604 bytes, the longest file that is accepted")
-    for size in (32768, 32769):
-        outside = size > 32768
+    one_set = case_file(long, group(long, 1, 20, heights=tall, figures=SAFE))
+    longest = case_file(long, [row._replace(figures=of_its_own(at)) for at, row in enumerate(group(long, 1, 20, heights=tall))])
+    assert (len(one_set), len(longest)) == (31604, 55604)
+    yield accepted("longest-file-of-one-set", one_set, "20 zones and 500 rows of kind 02: 31,604 bytes")
+    yield accepted("longest-file", longest, "20 zones and 500 rows of kind 05: 55,604 bytes, the longest file that is accepted")
+    for size in (65536, 65537):
+        outside = size > 65536
         padded = longest + b"0" * (size - len(longest) - 1) + b"\n"
         yield refused("bytes-%d-after-the-end" % size, padded, 1 if outside else 10, 0 if outside else 503,
                       "%d bytes: a valid file and one line more" % size)
@@ -129,15 +136,27 @@ def many_rows():
         one_line = joined([hull_line(PRINTED) + "0" * (size - 25)])
         yield refused("bytes-%d-in-one-line" % size, one_line, 1 if outside else 2, 0 if outside else 1,
                       "%d bytes in a single hull line" % size)
-        more = joined(lines_of(long, group(long, 1, 20, heights=tuple(range(1, 645)), figures=SAFE)))
+        more = joined(lines_of(long, group(long, 1, 20, heights=tuple(range(1, 645)), figures=SAFE + SAFE)))
         yield refused("bytes-%d-of-rows" % size, more[:size - 1] + b"\n", 1 if outside else 6, 0 if outside else 502,
                       "%d bytes of rows: more than 500 of them" % size)
-    yield refused("bytes-32767-in-one-line", joined([hull_line(PRINTED) + "0" * 32742]), 5, 1,
-                  "32,767 bytes in a single hull line: an even number of digits, all of them good")
-    yield refused("bytes-65536", b"0" * 65536, 1, 0, "65,536 bytes: a size that two bytes would lose")
+    yield refused("bytes-65535-in-one-line", joined([hull_line(PRINTED) + "0" * 65510]), 5, 1,
+                  "65,535 bytes in a single hull line: an even number of digits, all of them good")
+    yield refused("bytes-65536", b"0" * 65536, 2, 1, "65,536 bytes with no line feed: a size that two bytes would lose")
+    yield refused("bytes-65537", b"0" * 65537, 1, 0, "65,537 bytes with no line feed: one, where two bytes have their size")
+
+
+def too_long_before():
+    """Inputs of 32,769 bytes, one more than could be before there were second sets: they are judged line by line as others are."""
+    hull = Hull(12000, 2000, 8000, 5000, tuple(600 * i for i in range(1, 20)))
+    rows = group(hull, 1, 20, heights=tuple(range(1, 645)), figures=SAFE)
+    whole = case_file(hull, rows[145:])
+    yield refused("bytes-32769-after-the-end", whole + b"0" * (32768 - len(whole)) + b"\n", 10, 503, "32769 bytes: a valid file and one line more")
+    yield refused("bytes-32769-of-line-feeds", b"\n" * 32769, 2, 1, "32769 line feeds")
+    yield refused("bytes-32769-in-one-line", joined([hull_line(PRINTED) + "0" * 32744]), 5, 1, "32769 bytes in a single hull line")
+    yield refused("bytes-32769-of-rows", case_file(hull, rows)[:32768] + b"\n", 6, 502, "32769 bytes of rows: more than 500 of them")
 
 
 def cases():
-    for part in (hull_numbers, zones, row_numbers, tops, many_rows):
+    for part in (hull_numbers, zones, row_numbers, tops, many_rows, too_long_before):
         for case in part():
             yield case

@@ -30,4 +30,4 @@ def cases():
                       "a sheet of no numbers, and %d on line %d" % (number, len(lines)), 0)
     yield refused("11-and-10-no-input", b"", 10, 1, "a sheet of no numbers and no input", 0)
     yield refused("11-and-10-no-end", joined([HULL]), 10, 2, "a sheet of no numbers and no end frame", 0)
-    yield refused("11-and-1", b"0" * 32769, 1, 0, "a sheet of no numbers and an input too long", 0)
+    yield refused("11-and-1", b"0" * 65537, 1, 0, "a sheet of no numbers and an input too long", 0)

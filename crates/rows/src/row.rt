@@ -136,14 +136,7 @@ pub fn begin() -> Running
 }
 
 // One row more: the one that is kept at place i.
-pub fn enter(
-    t: &[u64],
-    h: Hull,
-    at: [u64; 3],
-    s: Running,
-    kept: &[u8],
-    i: usize,
-) -> Running
+pub fn enter(t: &[u64], h: Hull, at: [u64; 3], s: Running, kept: &[u8], i: usize) -> Running
     requires { ⌜ Ready h (now t) × (at ≡ draughts (h .deepest) (h .light)) × (placeWidth * i + placeWidth ≤ length (now kept)) × Stood h (stands (s .standing) (keptRow (now kept) i .head)) × Given (keptRow (now kept) i .results) × (s .part ≡ partAt h (s .standing)) × Few (s .part .group) × Within (2 ^ 61) (s .sums) ⌝ }
     ensures { λ r. ⌜ (r ≡ entered h s (keptRow (now (kept .entry)) i .head) (keptRow (now (kept .entry)) i .results)) × Few (r .part .group) ⌝ }
 {

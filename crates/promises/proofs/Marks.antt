@@ -30,7 +30,7 @@ use Rattle.promises.specs.Printing.{resultMarks, marksOfRows, ReportTell
 use Rattle.promises.proofs.Fits.{same-shares, printed-reads-back}
 
 -- rows whose results have the marks of lever, range and heel in turn, and at one draught that of the opening; and one of two sets, the second of which is
--- worse first, then the first, and then neither
+-- worse at the deepest and at the partial draught, and at the light one neither
 abbrev found : ℕ → ℕ → ℕ → ℤ → Finding
 found lever range heel opening = record { lever = lever; range = range; heel = heel; opening = opening; given = 0 }
 

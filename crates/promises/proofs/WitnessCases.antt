@@ -136,7 +136,7 @@ abbrev pub seconded : Case
 seconded =
     let whole : Finding = record { lever = 120; range = 1600; heel = 0; opening = pos 0; given = 0 } in
     let worse : Finding = record { lever = 33; range = 341; heel = 0; opening = pos 0; given = 0 } in
-    oneZone (row 5 1 1 800 18500 (whole ∷ worse ∷ whole ∷ worse ∷ whole ∷ worse ∷ []) ∷ [])
+    oneZone (row 5 1 1 800 18500 (whole ∷ whole ∷ worse ∷ worse ∷ worse ∷ whole ∷ []) ∷ [])
 
 pub record Answers : Type 0 where
   pub of-decked : answer decked ≡ deckedAnswer

@@ -5,7 +5,7 @@ use mathlib.Core.Path.{_≡_}
 use mathlib.Core.List.{List, [], _∷_}
 use mathlib.Core.Logic.{_⊎_}
 use lib.ListN.{getD}
-use Rattle.laws.specs.Fraction.{Fraction, _≈_}
+use Rattle.laws.specs.Fraction.{Fraction, _≈_, lesser}
 use Rattle.records.specs.declared.Finding.{Finding}
 use Rattle.regulation.specs.Regulation.{IsRoot, under√, pi}
 use Rattle.regulation.specs.RegulationIndex.{Numbers, fourth, Order, Least}
@@ -26,17 +26,20 @@ SharesOfSolas = (f : List ℕ) (c : Case) → reading f ≡ accepted c → (√ 
     Each (λ (y : Standing) (r : exact.Row). pi (shipOf (c .hull)) √ (y .before) (y .head .depth) (y .head .first) (y .head .count) ≈ r .share)
     (standings nowhere (c .rows)) (exactRows (c .hull) nowhere (c .rows))
 
-module _ (N : Numbers) (O : Order N) where
+module _ (N : Numbers) where
   -- s is what 7-2 gives for a result, be the openings which they may of which this one is the critical one
   abbrev pub Gives : Finding → N .Number → Type 0
   Gives f s = FactorOf N (f .lever) (f .range) (f .heel) (f .opening) s
 
-  -- a row's survival at a draught, from its results there and in the second set: of kind 2 the fourth root of q, where q is the fourth power of whatever 7-2
-  -- gives for s; of kind 5 of whatever is the least of the two, s-min; of kind 3 what was given
+  -- q is the fourth power of whatever that is
+  abbrev pub FourthPowerOf : Finding → Fraction → Type 0
+  FourthPowerOf f q = (s : N .Number) → Gives f s → N ._≐_ (fourth N s) (N .fraction q)
+
+  -- a row's survival at a draught, from its result there and that of the second set: of kind 2 the fourth root of such a q, of kind 5 of the lesser of two, of
+  -- kind 3 what was given
   abbrev pub SurvivalOfSolas : ℕ → Finding → Finding → Factor → Type 0
   SurvivalOfSolas kind f g (root q) =
-      ((kind ≡ 2) × ((s : N .Number) → Gives f s → N ._≐_ (fourth N s) (N .fraction q)))
-      ⊎ ((kind ≡ 5) × ((s₁ s₂ s : N .Number) → Gives f s₁ → Gives g s₂ → Least N O (s₁ ∷ s₂ ∷ []) s → N ._≐_ (fourth N s) (N .fraction q)))
+      ((kind ≡ 2) × FourthPowerOf f q) ⊎ ((kind ≡ 5) × (a : Fraction) × (b : Fraction) × (q ≡ lesser a b) × FourthPowerOf f a × FourthPowerOf g b)
   SurvivalOfSolas kind f g (given n) = (kind ≡ 3) × (n ≡ f .given)
 
   -- a row's three
@@ -45,4 +48,14 @@ module _ (N : Numbers) (O : Order N) where
 
 -- among whatever numbers the roots are found
 abbrev pub SurvivalsOfSolas : Type 1
-SurvivalsOfSolas = (N : Numbers) (O : Order N) (f : List ℕ) (c : Case) → reading f ≡ accepted c → Each (RowOfSolas N O) (c .rows) (exactRows (c .hull) nowhere (c .rows))
+SurvivalsOfSolas = (N : Numbers) (f : List ℕ) (c : Case) → reading f ≡ accepted c → Each (RowOfSolas N) (c .rows) (exactRows (c .hull) nowhere (c .rows))
+
+-- 002, 2.7.7.3, where these numbers have an order: a row of two sets survives by s-min, the least of what 7-2 gives for either
+module _ (N : Numbers) (O : Order N) where
+  abbrev pub LeastOfSolas : Row → exact.Row → Type 0
+  LeastOfSolas row r =
+      row .head .kind ≡ 5 → (j : ℕ) → j < 3 → (q : Fraction) × (getD (r .factors) j (given 0) ≡ root q)
+      × ((s₁ s₂ s : N .Number) → Gives N (getD (row .results) j nothing) s₁ → Gives N (getD (row .results) (3 + j) nothing) s₂ → Least N O (s₁ ∷ s₂ ∷ []) s → N ._≐_ (fourth N s) (N .fraction q))
+
+abbrev pub LeastSurvivalsOfSolas : Type 1
+LeastSurvivalsOfSolas = (N : Numbers) (O : Order N) (f : List ℕ) (c : Case) → reading f ≡ accepted c → Each (LeastOfSolas N O) (c .rows) (exactRows (c .hull) nowhere (c .rows))

@@ -4,3 +4,4 @@ pub mod Bounds
 pub mod Values
 pub mod Telling
 pub mod Worse
+pub mod OneOfTwo

@@ -54,9 +54,11 @@ pub second-sets :
     ≡ s 9979 9980 true false false false ∷ s 8408 8409 true false false false ∷ s 0 0 false false false true ∷ [])
     × (survivalsOf 5 (found 119 1600 0 (pos 0) ∷ found 120 800 0 (pos 0) ∷ found 120 1600 0 (negsuc 0) ∷ found 120 1587 0 (pos 0) ∷ found 60 1600 0 (pos 0) ∷ found 120 1600 0 (pos 0) ∷ [])
     ≡ s 9979 9980 true false false false ∷ s 8408 8409 false true false false ∷ s 0 0 false false false true ∷ [])
+    × (survivalsOf 5 (found 60 800 0 (pos 0) ∷ found 120 1600 0 (pos 0) ∷ found 60 800 0 (pos 0) ∷ found 120 1600 0 (pos 0) ∷ found 120 1600 2995 (pos 0) ∷ found 120 1600 0 (pos 0) ∷ [])
+    ≡ s 7071 7072 true true false false ∷ s 1000 1000 false false true false ∷ s 7071 7072 true true false false ∷ [])
     × (survivalOf 5 (found 120 1587 0 (pos 0)) ≡ s 9979 9980 false true false false)
 unfolding survivalsOf countsAt worseOf survivalOf factorOf marksOf foundMarks unlessImmersed s⁴ k ratioOf scaledOf roundedOf rootDown rootUp withDigits ceil _≼?_ _⊛_ _less_over_
-second-sets = (refl, refl, refl)
+second-sets = (refl, refl, refl, refl)
 
 -- at the cap, and one below or above it; where survival is 0 for another reason the rest is still told
 pub edges :

@@ -2,12 +2,14 @@
 -- own set. Assumes nothing.
 use Prim.Native.Nat.{ℕ, _+_, _<_, min}
 use mathlib.Core.List.{List}
+use mathlib.Core.Logic.{_↔_}
 use mathlib.Core.Path.{_≡_}
 use lib.ListN.{getD}
 use Rattle.laws.specs.Fraction.{Fraction, _≼_, _≺_, lesser}
 use Rattle.records.specs.declared.Finding.{Finding}
-use Rattle.survival.specs.Marks.{foundMarks}
+use Rattle.survival.specs.Marks.{unmarked, foundMarks}
 use Rattle.survival.specs.Survival.{root, given, ends, Sensible, fourthOf, nothing, noSurvival, survivalOf, worseOf, factorsOf, survivalsOf}
+use Rattle.survival.specs.Telling.{IsOne}
 
 -- ---- of any two fractions from 0 to 1 the lesser has the lesser ends: to round the lesser is to take the lesser of what is rounded
 pub record LesserEnds (f g : Fraction) : Type 0 where
@@ -30,6 +32,10 @@ pub record LowerCounts (f g : Finding) : Type 0 where
   -- so it is the survival of one of the two, whole
   pub first-whole : fourthOf f ≼ fourthOf g → survivalOf 5 (worseOf f g) ≡ survivalOf 5 f
   pub second-whole : fourthOf g ≺ fourthOf f → survivalOf 5 (worseOf f g) ≡ survivalOf 5 g
+
+-- ---- the survival of two results is one exactly when neither of them has a mark: to raise a number of the one that counts is not enough where the other has some
+abbrev pub OneOfTwo : Type 0
+OneOfTwo = (f g : Finding) → IsOne (survivalOf 5 (worseOf f g)) ↔ ((survivalOf 5 f .marks ≡ unmarked) × (survivalOf 5 g .marks ≡ unmarked))
 
 -- ---- of a row's results, at each of the three draughts j
 pub record RowCounts (fs : List Finding) (j : ℕ) : Type 0 where

@@ -144,6 +144,15 @@ second-set-missing : reading (hullLine ++ lineOf (5 ∷ drop 1 (rowBytes unlikeR
 unfolding read
 second-set-missing = refl
 
+-- nor are two sets without their openings; and 04 is no kind
+second-set-without-openings : reading (hullLine ++ lineOf (5 ∷ replicate 42 0) ++ endOfOne) ≡ refused 3 2
+unfolding read
+second-set-without-openings = refl
+
+kind-04 : reading (hullLine ++ lineOf (4 ∷ replicate 54 0) ++ endOfOne) ≡ refused 3 2
+unfolding read
+kind-04 = refl
+
 second-set-too-many : reading (hullLine ++ lineOf (2 ∷ drop 1 (rowBytes unlikeSets)) ++ endOfOne) ≡ refused 3 2
 unfolding read
 second-set-too-many = refl

@@ -2,6 +2,9 @@
 use records::Hull;
 use records::RowHead;
 
+// An input has at most so many bytes.
+pub const LONGEST_INPUT: usize = 65_536;
+
 // A row is kept in a place of its own, as wide as the longest row; there is room for 500 rows and a line more.
 pub const PLACE_WIDTH: usize = 55;
 

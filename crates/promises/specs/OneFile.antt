@@ -57,3 +57,17 @@ OneFileIsRead = reading file ≡ accepted printedCase
 
 abbrev pub OneFileInFull : Type 0
 OneFileInFull = report (reading file) ≡ text
+
+-- ---- a file with a second set: 80 m long, 13 m broad, one zone. The first set is the worse at the deepest draught, the second at the partial one, and at the
+-- light one both are survived alike, where the mark is the first's
+abbrev pub twoSets : List ℕ
+twoSets =
+    line "011f40051413880bb801"
+    ++ line "050101028a445c003c032000000000007806400000012c003c0640000000000078064000000000007806400bb300000078032000000000"
+    ++ line "0f0001"
+
+abbrev pub textOfTwoSets : List ℕ
+textOfTwoSets = line "81021d4410c01d44fb202a257d602a27040005f5e10005f5e100321d9700321f1da0" ++ lineWith "823b9aca003b9aca00" "030401"
+
+abbrev pub TwoSetsInFull : Type 0
+TwoSetsInFull = report (reading twoSets) ≡ textOfTwoSets

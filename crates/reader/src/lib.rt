@@ -10,6 +10,7 @@ ghost use Rattle.casefile.specs.Judging.{stepped, judgementAt};
 ghost use Rattle.casefile.specs.Kept.{placeWidth, Keeps};
 use casefile::Frame;
 use casefile::Judgement;
+use casefile::LONGEST_INPUT;
 use casefile::PLACE_WIDTH;
 use casefile::Progress;
 use casefile::Step;
@@ -135,7 +136,7 @@ pub fn judge(input: &[u8], kept: &mut [u8]) -> Judgement
     ensures rows { λ r. ⌜ Keeps (reading (now (input .entry))) (now (kept .exit)) ⌝ }
 {
     let n = input.len();
-    if 65536 < n {
+    if LONGEST_INPUT < n {
         return refusal(1, 0);
     }
     if n == 0 {

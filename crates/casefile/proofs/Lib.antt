@@ -20,5 +20,6 @@ pub mod EndFrames
 pub mod Refusal
 pub mod TableOrder
 pub mod Kept
+pub mod Longest
 pub mod Groups
 pub mod GroupRows

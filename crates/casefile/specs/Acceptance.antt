@@ -17,6 +17,13 @@ use Rattle.casefile.specs.Valid.{Valid}
 abbrev pub Acceptance : Type 0
 Acceptance = (f : List ℕ) (c : Case) → (reading f ≡ accepted c) ↔ ((length f ≤ longestInput) × Valid c × (f ≡ encode c))
 
+-- no valid case has a longer file than a hull of 20 zones with 500 rows of two sets: of each the file is read, and as that case
+abbrev pub longestFile : ℕ
+longestFile = 55604
+
+abbrev pub EveryCaseIsRead : Type 0
+EveryCaseIsRead = (c : Case) → Valid c → (length (encode c) ≤ longestFile) × (reading (encode c) ≡ accepted c)
+
 -- ---- and its lines, by what each is judged to be, say the case
 
 -- the values of lines in turn, from a stage on

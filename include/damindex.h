@@ -11,8 +11,8 @@
  * they write what is said below and leave every other element as it was; the same input with the same lengths gives the same answer.
  *
  * Run, not proved, because no contract speaks of it: 64 kilobytes of stack are enough, in whatever thread, and a call takes 36,800 bytes of them
- * at most, the first one beside what the system's loader takes to find memcpy and memset, which alone are called of the C library; nothing is taken
- * from the heap and nothing is kept between calls; loading the shared object runs nothing.
+ * at most; the first call also has what the system's loader takes to find memcpy and memset, which alone are called of the C library; nothing is
+ * taken from the heap and nothing is kept between calls; loading the shared object runs nothing.
  *
  * What the caller keeps, because no proof reaches into C:
  *   - no pointer is NULL, also where the length is 0; numbers of 64 bits are aligned as C aligns them;

@@ -79,7 +79,7 @@ fn group_fits(first: u64, count: u64, zones: usize) -> bool
     count - 1 <= m - first
 }
 
-// Refusal 7 is given where this does not hold of a row's head, or the next of a set of its results.
+// Refusal 7 is given where this does not hold of a row's head, or `set_fits` not of a set of its results.
 pub fn head_fits(h: Hull, r: RowHead) -> bool
     ensures { λ b. ⌜ b ≡ headFits h r ⌝ }
 {

@@ -1,5 +1,5 @@
--- Document 01, "One file in full", with document 02's openings and marks: what `damindex` reads and what it writes, character by character, and the case that it is. Assumes
--- nothing.
+-- Document 01, "One file in full", with document 02's openings and marks: what `damindex` reads and what it writes, character by character, and the case that it is; and a file
+-- with a second set. Assumes nothing.
 use Prim.Native.Nat.{ℕ}
 use Prim.Native.Char.{code}
 use Prim.Native.String.{String, [] as none, _∷_ as _then_}

@@ -15,7 +15,7 @@ use Rattle.casefile.specs.Layout.{hullBytes, rowBytes, endBytes}
 use Rattle.casefile.specs.Limits.{sizesFit, zonesFit}
 use Rattle.casefile.specs.Valid.{ValidRow}
 use Rattle.casefile.specs.Encode.{rowLines, encode}
-use Rattle.casefile.specs.Acceptance.{EveryCaseIsRead}
+use Rattle.casefile.specs.Acceptance.{longestFile, EveryCaseIsRead}
 use Rattle.casefile.proofs.Limits.{Sizes, Zones, sizes-are, zones-are}
 use Rattle.casefile.proofs.HullLayout.{hull-length}
 use Rattle.casefile.proofs.RowLayout.{row-length}
@@ -42,5 +42,5 @@ every-case-is-read c v =
     let z : Zones h = zones-are h (holds (zonesFit h) (v .hull .zones)) in
     let hull = hull-length h s z (v .hull .places) in
     let end = line-length (endBytes (length (c .rows))) in
-    let fits : length (encode c) ≤ 55604 = rw (length-append, length-append) (omega (arith, line-length (hullBytes h), hull, z .most, rows-length h s z (c .rows) (v .rows), v .few, end)) in
+    let fits : length (encode c) ≤ longestFile = rw (length-append, length-append) (omega (arith, line-length (hullBytes h), hull, z .most, rows-length h s z (c .rows) (v .rows), v .few, end)) in
     (fits, complete c v (omega (arith, fits)))

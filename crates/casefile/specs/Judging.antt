@@ -2,7 +2,7 @@
 use Prim.Native.Nat.{ℕ, _+_}
 use mathlib.Core.Bool.{Bool, false, cond, not, _||_, _&&_}
 use mathlib.Core.List.{List, [], _∷_}
-use lib.Dec.{leb, eqb}
+use lib.Dec.{eqb}
 use Rattle.records.specs.declared.Hull.{Hull}
 use Rattle.records.specs.declared.RowHead.{RowHead}
 use Rattle.casefile.specs.declared.FirstLine.{FirstLine}
@@ -12,9 +12,8 @@ use Rattle.casefile.specs.declared.Judgement.{Judgement}
 use Rattle.casefile.specs.declared.Step.{Step}
 use Rattle.casefile.specs.Record.{Row}
 use Rattle.casefile.specs.Layout.{kindOf, isRow, hullLength, rowOf, countOf}
-use Rattle.casefile.specs.Limits.{mostRows, sizesFit, zonesFit, headFits}
-use Rattle.casefile.specs.Order.{outOfOrder, leavesOpen}
-use Rattle.casefile.specs.Table.{_when_, firstHolds, wrongFrame, rowChecks, endChecks}
+use Rattle.casefile.specs.Limits.{sizesFit, zonesFit, headFits}
+use Rattle.casefile.specs.Table.{_when_, firstHolds, wrongFrame, checksOfRow, rowChecks, endChecks}
 use Rattle.casefile.specs.Reading.{refused, withEnd}
 use Rattle.casefile.specs.Answer.{unlessRefused, unlessWrong, judgementOf}
 
@@ -22,13 +21,7 @@ use Rattle.casefile.specs.Answer.{unlessRefused, unlessWrong, judgementO
 
 -- a row's number, by its head and by whether its results fit
 unfoldable pub rowNumber : Hull → Progress → RowHead → Bool → ℕ
-rowNumber h p head fit =
-    firstHolds
-    ((6 when leb mostRows (p .rows))
-    ∷ (7 when not (headFits h head && fit))
-    ∷ (8 when outOfOrder h (p .last) head)
-    ∷ (9 when leavesOpen h (p .last) head)
-    ∷ [])
+rowNumber h p head fit = firstHolds (checksOfRow h p head (headFits h head && fit))
 
 unfoldable pub rowJudged : Hull → Progress → Row → Frame
 rowJudged h p r = unlessWrong (firstHolds (rowChecks h p r)) (Frame.Row (r .head))

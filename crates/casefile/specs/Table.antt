@@ -5,6 +5,7 @@ use mathlib.Core.List.{List, [], _∷_}
 use lib.ListN.{length}
 use lib.Dec.{leb, ltb, eqb}
 use Rattle.records.specs.declared.Hull.{Hull}
+use Rattle.records.specs.declared.RowHead.{RowHead}
 use Rattle.lines.specs.Lines.{Line}
 use Rattle.hexadecimal.specs.Hex.{pairs, badlyWritten}
 use Rattle.casefile.specs.declared.Progress.{Progress}
@@ -46,14 +47,17 @@ hullChecks l =
     let h = hullOf (fieldsOf bs) in
     (2 when badlyWritten l) ∷ (3 when wrongHullFrame bs) ∷ (4 when not (sizesFit h)) ∷ (5 when wrongZones bs h) ∷ []
 
--- a row after the hull h and the rows before it
-unfoldable pub rowChecks : Hull → Progress → Row → List Check
-rowChecks h p r =
+-- a row after the hull h and the rows before it, by its head and by whether it keeps its limits
+abbrev pub checksOfRow : Hull → Progress → RowHead → Bool → List Check
+checksOfRow h p head fits =
     (6 when leb mostRows (p .rows))
-    ∷ (7 when not (rowFits h r))
-    ∷ (8 when outOfOrder h (p .last) (r .head))
-    ∷ (9 when leavesOpen h (p .last) (r .head))
+    ∷ (7 when not fits)
+    ∷ (8 when outOfOrder h (p .last) head)
+    ∷ (9 when leavesOpen h (p .last) head)
     ∷ []
+
+unfoldable pub rowChecks : Hull → Progress → Row → List Check
+rowChecks h p r = checksOfRow h p (r .head) (rowFits h r)
 
 -- the end frame, with the count that it gives
 unfoldable pub endChecks : Hull → Progress → ℕ → List Check

@@ -7,6 +7,8 @@ pub mod Share
 pub mod Height
 pub mod Survival
 pub mod Index
+-- document 02: passenger ships
+pub mod Passengers
 -- what is promised of them
 pub mod Count
 pub mod Total

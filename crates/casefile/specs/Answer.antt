@@ -2,20 +2,20 @@
 use Prim.Native.Nat.{ℕ, _+_, _-_, _*_}
 use mathlib.Core.Bool.{true, false, cond}
 use mathlib.Core.Path.{_≡_}
-use mathlib.Core.List.{List, [], _∷_}
+use mathlib.Core.List.{List, [], _∷_, _++_}
 use lib.ListN.{length, replicate}
 use lib.Dec.{eqb}
 use Rattle.laws.specs.Lists.{tabulate}
-use Rattle.records.specs.declared.Finding.{Finding}
 use Rattle.records.specs.declared.Hull.{Hull}
+use Rattle.records.specs.Results.{Results, found}
 use Rattle.lines.specs.Lines.{Line}
 use Rattle.hexadecimal.specs.Hex.{pairs}
-use Rattle.fields.specs.Fields.{byteAt, wordAt}
+use Rattle.fields.specs.Fields.{byteAt, wordAt, longAt}
 use Rattle.casefile.specs.declared.FirstLine.{FirstLine}
 use Rattle.casefile.specs.declared.Frame.{Frame}
 use Rattle.casefile.specs.declared.Progress.{Progress}
 use Rattle.casefile.specs.declared.Judgement.{Judgement}
-use Rattle.casefile.specs.Layout.{kindOf, fieldsOf, isRow, hullOf, resultsOf, rowOf, countOf, resultNumbers, innerOf}
+use Rattle.casefile.specs.Layout.{kindOf, fieldsOf, isRow, hullOf, resultsOf, rowOf, countOf, resultNumbers, hullValues}
 use Rattle.casefile.specs.Table.{firstHolds, hullChecks, lineChecks}
 use Rattle.casefile.specs.Reading.{Reading, refused, accepted, Stage, begin, inside}
 
@@ -28,10 +28,10 @@ numberOf (Frame.Row r) = 0
 numberOf (Frame.End count) = 0
 numberOf (Frame.Wrong k) = k
 
--- the kind and the fields after it, with what stands beside the frame, a hull and a row's results: 01: Ls, B, ds, dl, zone count, inner bulkheads;
--- 02, 03, 05: a, n, b, H, and the results, each opening as its two bytes have it without a sign; 0f: row count
-abbrev pub valuesOf : Hull → List Finding → Frame → List ℕ
-valuesOf h rs Frame.Hull = 1 ∷ h .length ∷ h .breadth ∷ h .deepest ∷ h .light ∷ h .zones ∷ innerOf h
+-- the kind and the fields after it, with what stands beside the frame, a hull and a row's results: 01 and 06: Ls, B, ds, dl, of 06 the persons, zone count,
+-- inner bulkheads; 02, 03, 05, 07: a, n, b, H, and the results, each opening as its two bytes have it without a sign; 0f: row count
+abbrev pub valuesOf : Hull → Results → Frame → List ℕ
+valuesOf h rs Frame.Hull = hullValues h
 valuesOf h rs (Frame.Row r) = r .kind ∷ r .first ∷ r .count ∷ r .depth ∷ r .height ∷ resultNumbers (r .kind) rs
 valuesOf h rs (Frame.End count) = 15 ∷ count ∷ []
 valuesOf h rs (Frame.Wrong k) = []
@@ -39,7 +39,7 @@ valuesOf h rs (Frame.Wrong k) = []
 -- ---- line 1, judged
 
 abbrev pub noHull : Hull
-noHull = record { length = 0; breadth = 0; deepest = 0; light = 0; zones = 0; places = replicate 21 0 }
+noHull = record { kind = 0; length = 0; breadth = 0; deepest = 0; light = 0; lifeboats = 0; excess = 0; zones = 0; places = replicate 21 0 }
 
 abbrev pub givenFirst : Hull → FirstLine
 givenFirst h = record { frame = Frame.Hull; hull = h }
@@ -52,7 +52,7 @@ abbrev pub unlessRefused : ℕ → Hull → FirstLine
 unlessRefused k h = cond (eqb k 0) (givenFirst h) (refusedFirst k)
 
 unfoldable pub firstJudged : Line → FirstLine
-firstJudged l = unlessRefused (firstHolds (hullChecks l)) (hullOf (fieldsOf (pairs (l .text))))
+firstJudged l = let bs = pairs (l .text) in unlessRefused (firstHolds (hullChecks l)) (hullOf (kindOf bs) (fieldsOf bs))
 
 -- ---- a line after the hull, judged
 
@@ -67,18 +67,30 @@ unlessWrong k frame = cond (eqb k 0) frame (Frame.Wrong k)
 unfoldable pub judged : Hull → Progress → Line → Frame
 judged h p l = unlessWrong (firstHolds (lineChecks h p l)) (frameOf (pairs (l .text)))
 
+-- no row, no results
+abbrev pub none : Results
+none = found []
+
+-- what a passenger ship's row tells at one draught besides, from a place of its fields on
+abbrev pub besides : List ℕ → ℕ → List ℕ
+besides f at = longAt f at ∷ longAt f (at + 4) ∷ wordAt f (at + 8) ∷ wordAt f (at + 10) ∷ wordAt f (at + 12) ∷ byteAt f (at + 14) ∷ []
+
 -- ---- what an answer says, of either: the number of the first check that holds; or the line's own kind byte and the fields after it
 pub record SaysTheLine : Type 0 where
   pub first-number : (l : Line) → numberOf (firstJudged l .frame) ≡ firstHolds (hullChecks l)
-  pub hull : (l : Line) → firstHolds (hullChecks l) ≡ 0 → let f = fieldsOf (pairs (l .text)) in
-      valuesOf (firstJudged l .hull) [] (firstJudged l .frame)
-      ≡ kindOf (pairs (l .text)) ∷ wordAt f 0 ∷ wordAt f 2 ∷ wordAt f 4 ∷ wordAt f 6 ∷ byteAt f 8 ∷ tabulate (λ i. wordAt f (9 + 2 * i)) (byteAt f 8 - 1)
+  pub cargo : (l : Line) → firstHolds (hullChecks l) ≡ 0 → kindOf (pairs (l .text)) ≡ 1 → let f = fieldsOf (pairs (l .text)) in
+      valuesOf (firstJudged l .hull) none (firstJudged l .frame)
+      ≡ 1 ∷ wordAt f 0 ∷ wordAt f 2 ∷ wordAt f 4 ∷ wordAt f 6 ∷ byteAt f 8 ∷ tabulate (λ i. wordAt f (9 + 2 * i)) (byteAt f 8 - 1)
+  pub passenger : (l : Line) → firstHolds (hullChecks l) ≡ 0 → kindOf (pairs (l .text)) ≡ 6 → let f = fieldsOf (pairs (l .text)) in
+      valuesOf (firstJudged l .hull) none (firstJudged l .frame)
+      ≡ 6 ∷ wordAt f 0 ∷ wordAt f 2 ∷ wordAt f 4 ∷ wordAt f 6 ∷ wordAt f 8 ∷ wordAt f 10 ∷ byteAt f 12 ∷ tabulate (λ i. wordAt f (13 + 2 * i)) (byteAt f 12 - 1)
   pub number : (h : Hull) (p : Progress) (l : Line) → numberOf (judged h p l) ≡ firstHolds (lineChecks h p l)
   pub row : (h : Hull) (p : Progress) (l : Line) → firstHolds (lineChecks h p l) ≡ 0 → isRow (kindOf (pairs (l .text))) ≡ true →
       let kind = kindOf (pairs (l .text)) in let f = fieldsOf (pairs (l .text)) in
-      valuesOf h (resultsOf kind f) (judged h p l) ≡ kind ∷ byteAt f 0 ∷ byteAt f 1 ∷ wordAt f 2 ∷ wordAt f 4 ∷ tabulate (λ i. wordAt f (6 + 2 * i)) (cond (eqb kind 2) 12 (cond (eqb kind 5) 24 3))
+      valuesOf h (resultsOf kind f) (judged h p l)
+      ≡ kind ∷ byteAt f 0 ∷ byteAt f 1 ∷ wordAt f 2 ∷ wordAt f 4 ∷ tabulate (λ i. wordAt f (6 + 2 * i)) (cond (eqb kind 3) 3 (cond (eqb kind 5) 24 12)) ++ cond (eqb kind 7) (besides f 30 ++ besides f 45 ++ besides f 60) []
   pub end : (h : Hull) (p : Progress) (l : Line) → firstHolds (lineChecks h p l) ≡ 0 → isRow (kindOf (pairs (l .text))) ≡ false →
-      let f = fieldsOf (pairs (l .text)) in valuesOf h [] (judged h p l) ≡ kindOf (pairs (l .text)) ∷ wordAt f 0 ∷ []
+      let f = fieldsOf (pairs (l .text)) in valuesOf h none (judged h p l) ≡ kindOf (pairs (l .text)) ∷ wordAt f 0 ∷ []
 
 -- ---- the lines in turn: what a line is at a stage, and what stands beside it
 abbrev pub frameAt : Stage → Line → Frame
@@ -89,8 +101,8 @@ abbrev pub hullAt : Stage → Line → Hull
 hullAt begin l = firstJudged l .hull
 hullAt (inside h p) l = h
 
-abbrev pub resultsAt : Stage → Line → List Finding
-resultsAt begin l = []
+abbrev pub resultsAt : Stage → Line → Results
+resultsAt begin l = none
 resultsAt (inside h p) l = rowOf (pairs (l .text)) .results
 
 -- ---- a file

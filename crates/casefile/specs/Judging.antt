@@ -32,13 +32,13 @@ endJudged h p count = unlessWrong (firstHolds (endChecks h p count)) (Frame.End 
 -- the bytes of a well written line that no end frame came before
 unfoldable pub frameJudged : Hull → Progress → List ℕ → Frame
 frameJudged h p bs =
-    cond (wrongFrame bs) (Frame.Wrong 3) (cond (isRow (kindOf bs)) (rowJudged h p (rowOf bs)) (endJudged h p (countOf bs)))
+    cond (wrongFrame (h .kind) bs) (Frame.Wrong 3) (cond (isRow (kindOf bs)) (rowJudged h p (rowOf bs)) (endJudged h p (countOf bs)))
 
 -- ---- line 1
 
 -- refusals 4 and 5, of a hull whose frame has n bytes
 unfoldable pub hullNumber : Hull → ℕ → ℕ
-hullNumber h n = firstHolds ((4 when not (sizesFit h)) ∷ (5 when (not (zonesFit h) || not (eqb n (hullLength (h .zones))))) ∷ [])
+hullNumber h n = firstHolds ((4 when not (sizesFit h)) ∷ (5 when (not (zonesFit h) || not (eqb n (hullLength (h .kind) (h .zones))))) ∷ [])
 
 unfoldable pub hullJudged : Hull → ℕ → FirstLine
 hullJudged h n = unlessRefused (hullNumber h n) h

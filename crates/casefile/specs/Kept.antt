@@ -9,7 +9,7 @@ use Rattle.casefile.specs.Reading.{Reading, refused, accepted}
 
 -- the bytes of a place: as many as the longest row has
 abbrev pub placeWidth : ℕ
-placeWidth = 55
+placeWidth = 76
 
 -- the row at place i
 unfoldable pub keptRow : List ℕ → ℕ → Row

@@ -1,7 +1,7 @@
--- Document 01, "The case file", "Limits", and document 02's of an opening, each once: of the input, of a hull (refusals 4 and 5) and of a row (refusal 7).
+-- Document 01, "The case file", "Limits", and document 02's of an opening and of passenger ships, each once: of the input, of a hull (refusals 4 and 5) and of a row (refusal 7).
 -- Assumes nothing.
 use Prim.Native.Nat.{ℕ, zero, suc, _+_, _-_, _/_, _%_}
-use mathlib.Core.Bool.{Bool, true, _&&_}
+use mathlib.Core.Bool.{Bool, true, cond, _&&_}
 use mathlib.Core.List.{List, [], _∷_}
 use lib.ListN.{getD}
 use lib.Dec.{leb, ltb, eqb}
@@ -9,7 +9,9 @@ use lib.IntN.{ℤ, pos, negℤ}
 use lib.Signed.{leZ}
 use Rattle.records.specs.declared.Hull.{Hull}
 use Rattle.records.specs.declared.Finding.{Finding}
+use Rattle.records.specs.declared.Flooding.{Flooding}
 use Rattle.records.specs.declared.RowHead.{RowHead}
+use Rattle.records.specs.Results.{Results}
 use Rattle.casefile.specs.Record.{Row}
 
 unfoldable pub between : ℕ → ℕ → ℕ → Bool
@@ -23,13 +25,21 @@ longestInput = 65536
 abbrev pub mostRows : ℕ
 mostRows = 500
 
--- Ls 8,000 to 19,800; B even, 1,000 to 6,000; ds 1,000 to 30,000; dl 500 to ds with ds - dl a multiple of 5
+-- Ls from 8,000 and B from 1,000; of a passenger ship "Length: 20 to 198 m, breadth from 400 cm"
+abbrev pub shortestShip : ℕ → ℕ
+shortestShip kind = cond (eqb kind 6) 2000 8000
+
+abbrev pub narrowestShip : ℕ → ℕ
+narrowestShip kind = cond (eqb kind 6) 400 1000
+
+-- Ls to 19,800; B even, to 6,000; ds 1,000 to 30,000; dl 500 to ds with ds - dl a multiple of 5; persons "at most 10,000 each"
 unfoldable pub sizesFit : Hull → Bool
 sizesFit h =
-    between 8000 19800 (h .length)
-    && (eqb (h .breadth % 2) 0 && between 1000 6000 (h .breadth))
+    between (shortestShip (h .kind)) 19800 (h .length)
+    && (eqb (h .breadth % 2) 0 && between (narrowestShip (h .kind)) 6000 (h .breadth))
     && between 1000 30000 (h .deepest)
     && (between 500 (h .deepest) (h .light) && eqb ((h .deepest - h .light) % 5) 0)
+    && (leb (h .lifeboats) 10000 && leb (h .excess) 10000)
 
 -- each of the places up to place k is above the one before
 unfoldable pub risingTo : List ℕ → ℕ → Bool
@@ -61,5 +71,20 @@ unfoldable pub findingsFit : List Finding → Bool
 findingsFit [] = true
 findingsFit (r ∷ rs) = findingFits r && findingsFit rs
 
+-- "displacement (t, 1 to 300,000) and heeling moment (tm, 1 to 2,000,000) .. one intermediate stage's lever, range and heel .. with 01's limits, and a ro-ro
+-- mark, 0 or 1"
+unfoldable pub floodingFits : Flooding → Bool
+floodingFits w =
+    between 1 300000 (w .displacement) && between 1 2000000 (w .moment)
+    && (leb (w .lever) 5000 && leb (w .range) 9000 && leb (w .heel) 9000)
+    && leb (w .roro) 1
+
+unfoldable pub floodingsFit : List Flooding → Bool
+floodingsFit [] = true
+floodingsFit (w ∷ ws) = floodingFits w && floodingsFit ws
+
+unfoldable pub resultsFit : Results → Bool
+resultsFit rs = findingsFit (rs .findings) && floodingsFit (rs .floodings)
+
 unfoldable pub rowFits : Hull → Row → Bool
-rowFits h r = headFits h (r .head) && findingsFit (r .results)
+rowFits h r = headFits h (r .head) && resultsFit (r .results)

@@ -44,7 +44,7 @@ checks begin l = hullChecks l
 checks (inside h p) l = lineChecks h p l
 
 abbrev pub next : Stage → Line → Stage
-next begin l = inside (hullOf (fieldsOf (pairs (l .text)))) start
+next begin l = let bs = pairs (l .text) in inside (hullOf (kindOf bs) (fieldsOf bs)) start
 next (inside h p) l = inside h (progressed p (pairs (l .text)))
 
 -- the row that a line that passes adds to the case

@@ -10,7 +10,7 @@ use Rattle.lines.specs.Lines.{Line}
 use Rattle.hexadecimal.specs.Hex.{pairs, badlyWritten}
 use Rattle.casefile.specs.declared.Progress.{Progress}
 use Rattle.casefile.specs.Record.{Row}
-use Rattle.casefile.specs.Layout.{kindOf, fieldsOf, isHull, isRow, isEnd, frameLength, hullLength, shortestHull, hullOf, rowOf, countOf}
+use Rattle.casefile.specs.Layout.{kindOf, fieldsOf, isHull, isRow, isEnd, takes, frameLength, hullLength, shortestHull, hullOf, rowOf, countOf}
 use Rattle.casefile.specs.Limits.{mostRows, sizesFit, zonesFit, rowFits}
 use Rattle.casefile.specs.Order.{outOfOrder, leavesOpen, endsOpen}
 
@@ -28,23 +28,23 @@ unfoldable pub firstHolds : List Check → ℕ
 firstHolds [] = 0
 firstHolds (c ∷ cs) = cond (c .holds) (c .number) (firstHolds cs)
 
--- line 1, by its bytes: not kind 01, or under 10 bytes
+-- line 1, by its bytes: not kind 01 or 06, or under 10 bytes, of kind 06 under 14: "a hull frame too short for one zone"
 unfoldable pub wrongHullFrame : List ℕ → Bool
-wrongHullFrame bs = not (isHull (kindOf bs)) || ltb (length bs) shortestHull
+wrongHullFrame bs = not (isHull (kindOf bs)) || ltb (length bs) (shortestHull (kindOf bs))
 
--- a later line, by its bytes: not 02, 03, 05, 0f, or wrong length
-unfoldable pub wrongFrame : List ℕ → Bool
-wrongFrame bs = not (isRow (kindOf bs) || isEnd (kindOf bs)) || not (eqb (length bs) (frameLength (kindOf bs)))
+-- a later line, by its bytes, after a hull of a kind: no row that it takes and not 0f ("a row of the other ship type"), or wrong length
+unfoldable pub wrongFrame : ℕ → List ℕ → Bool
+wrongFrame hull bs = not (takes hull (kindOf bs) || isEnd (kindOf bs)) || not (eqb (length bs) (frameLength (kindOf bs)))
 
 -- zone count, hull length or bulkheads wrong
 unfoldable pub wrongZones : List ℕ → Hull → Bool
-wrongZones bs h = not (zonesFit h) || not (eqb (length bs) (hullLength (h .zones)))
+wrongZones bs h = not (zonesFit h) || not (eqb (length bs) (hullLength (h .kind) (h .zones)))
 
 -- line 1
 unfoldable pub hullChecks : Line → List Check
 hullChecks l =
     let bs = pairs (l .text) in
-    let h = hullOf (fieldsOf bs) in
+    let h = hullOf (kindOf bs) (fieldsOf bs) in
     (2 when badlyWritten l) ∷ (3 when wrongHullFrame bs) ∷ (4 when not (sizesFit h)) ∷ (5 when wrongZones bs h) ∷ []
 
 -- a row after the hull h and the rows before it, by its head and by whether it keeps its limits
@@ -67,4 +67,4 @@ endChecks h p count = (6 when not (eqb count (p .rows))) ∷ (9 when endsOpen h 
 unfoldable pub lineChecks : Hull → Progress → Line → List Check
 lineChecks h p l =
     let bs = pairs (l .text) in
-    (10 when p .ended) ∷ (2 when badlyWritten l) ∷ (3 when wrongFrame bs) ∷ cond (isRow (kindOf bs)) (rowChecks h p (rowOf bs)) (endChecks h p (countOf bs))
+    (10 when p .ended) ∷ (2 when badlyWritten l) ∷ (3 when wrongFrame (h .kind) bs) ∷ cond (isRow (kindOf bs)) (rowChecks h p (rowOf bs)) (endChecks h p (countOf bs))

@@ -1,4 +1,4 @@
--- Document 01, "The case file", with document 02's openings and second sets: which cases keep its limits and its order, said of records alone. Assumes nothing.
+-- Document 01, "The case file", with document 02's openings, second sets and passenger ships: which cases keep its limits and its order, said of records alone. Assumes nothing.
 use Prim.Native.Nat.{ℕ, _/_, _≤_, _<_}
 use mathlib.Core.Path.{_≡_}
 use mathlib.Core.Logic.{_⊎_}
@@ -11,7 +11,7 @@ use Rattle.records.specs.declared.Hull.{Hull}
 use Rattle.records.specs.declared.Finding.{Finding}
 use Rattle.records.specs.declared.RowHead.{RowHead}
 use Rattle.casefile.specs.Record.{Row, Case}
-use Rattle.casefile.specs.Layout.{placesOf, resultCount}
+use Rattle.casefile.specs.Layout.{takes, placesOf, resultCount, floodingCount}
 use Rattle.casefile.specs.Limits.{mostRows, sizesFit, zonesFit, rowFits}
 use Rattle.casefile.specs.Order.{top}
 
@@ -21,22 +21,31 @@ use Rattle.casefile.specs.Order.{top}
 abbrev pub Placed : Hull → Type 0
 Placed h = h .places ≡ placesOf (λ k. getD (h .places) k 0) (h .zones) (h .length)
 
+-- a cargo ship, with no persons counted, or a passenger ship
+pub data ShipType (h : Hull) : Type 0 where
+  cargo : h .kind ≡ 1 → h .lifeboats ≡ 0 → h .excess ≡ 0 → ShipType h
+  passenger : h .kind ≡ 6 → ShipType h
+
 pub record ValidHull (h : Hull) : Type 0 where
+  pub type : ShipType h
   pub sizes : T (sizesFit h)
   pub zones : T (zonesFit h)
   pub places : Placed h
 
 -- ---- a row
 
--- kinds 02 and 05 have lever, range, heel and opening, kind 03 a given survival; what a kind does not have is 0
+-- kinds 02, 05 and 07 have lever, range, heel and opening, kind 03 a given survival; what a kind does not have is 0
 pub data Formed (kind : ℕ) (r : Finding) : Type 0 where
-  found : (kind ≡ 2) ⊎ (kind ≡ 5) → r .given ≡ 0 → Formed kind r
+  found : (kind ≡ 2) ⊎ ((kind ≡ 5) ⊎ (kind ≡ 7)) → r .given ≡ 0 → Formed kind r
   given : kind ≡ 3 → r .lever ≡ 0 → r .range ≡ 0 → r .heel ≡ 0 → r .opening ≡ pos 0 → Formed kind r
 
+-- of the ship's type, within its limits, with the results of its kind
 pub record ValidRow (h : Hull) (r : Row) : Type 0 where
+  pub taken : T (takes (h .kind) (r .head .kind))
   pub limits : T (rowFits h r)
-  pub results : length (r .results) ≡ resultCount (r .head .kind)
-  pub formed : Every (Formed (r .head .kind)) (r .results)
+  pub findings : length (r .results .findings) ≡ resultCount (r .head .kind)
+  pub formed : Every (Formed (r .head .kind)) (r .results .findings)
+  pub floodings : length (r .results .floodings) ≡ floodingCount (r .head .kind)
 
 -- ---- the order
 

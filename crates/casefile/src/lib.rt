@@ -6,7 +6,7 @@ use records::RowHead;
 pub const LONGEST_INPUT: usize = 65_536;
 
 // A row is kept in a place of its own, as wide as the longest row; there is room for 500 rows and a line more.
-pub const PLACE_WIDTH: usize = 55;
+pub const PLACE_WIDTH: usize = 76;
 
 pub const KEPT: usize = 501 * PLACE_WIDTH;
 

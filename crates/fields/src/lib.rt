@@ -1,8 +1,8 @@
-// Fields of a frame: numbers of one and of two bytes, the high byte first, and of two bytes with a sign, at a place of a part of its bytes.
+// Fields of a frame: numbers of one, of two and of four bytes, the high byte first, and of two bytes with a sign, at a place of a part of its bytes.
 ghost use mathlib.Core.Path.{_≡_};
 ghost use Prim.Native.Nat.{_+_, _≤_, _<_};
 ghost use lib.ListN.{length};
-ghost use Rattle.fields.specs.Fields.{byteAt, wordAt, signed, signedAt};
+ghost use Rattle.fields.specs.Fields.{byteAt, wordAt, longAt, signed, signedAt};
 
 // A byte of a part of a line, 0 past its end.
 pub fn byte_at(f: &[u8], at: usize) -> u64
@@ -42,6 +42,15 @@ pub fn word_in(f: &[u8], at: usize) -> u64
     ensures small { λ r. ⌜ r < 65536 ⌝ }
 {
     f[at] as u64 * 256 + f[at + 1] as u64
+}
+
+// Four bytes of a part of a line that has them, the highest first.
+pub fn long_in(f: &[u8], at: usize) -> u64
+    requires { ⌜ at + 4 ≤ length (now f) ⌝ }
+    ensures value { λ r. ⌜ r ≡ longAt (now (f .entry)) at ⌝ }
+    ensures small { λ r. ⌜ r < 4294967296 ⌝ }
+{
+    word_in(f, at) * 65536 + word_in(f, at + 2)
 }
 
 // The number with a sign that two bytes have in two's complement: with no jump.

@@ -15,10 +15,13 @@ pub fn no_hull() -> Hull
     ensures { λ r. ⌜ r ≡ noHull ⌝ }
 {
     Hull {
+        kind: 0,
         length: 0,
         breadth: 0,
         deepest: 0,
         light: 0,
+        lifeboats: 0,
+        excess: 0,
         zones: 0,
         places: [0; 21],
     }
@@ -46,17 +49,17 @@ fn hull_number(h: Hull, n: usize) -> u64
     if !limits::zones_fit(h) {
         return 5;
     }
-    if n != 8 + 2 * m {
+    if n != readers::hull_length(h.kind, m) {
         return 5;
     }
     0
 }
 
-// The hull from the fields of its frame, which has n bytes.
-fn judge_hull(f: &[u8], n: usize) -> FirstLine
-    ensures { λ r. ⌜ r ≡ hullJudged (hullOf (now (f .entry))) n ⌝ }
+// The hull of a kind from the fields of its frame, which has n bytes.
+fn judge_hull(kind: u64, f: &[u8], n: usize) -> FirstLine
+    ensures { λ r. ⌜ r ≡ hullJudged (hullOf kind (now (f .entry))) n ⌝ }
 {
-    let h = readers::hull(f);
+    let h = readers::hull(kind, f);
     let number = hull_number(h, n);
     if number != 0 {
         return refused(number);
@@ -67,23 +70,23 @@ fn judge_hull(f: &[u8], n: usize) -> FirstLine
     }
 }
 
-// Line 1: its frame, with the hull beside it. However long the line is, 50 bytes hold all that a hull record has.
+// Line 1: its frame, with the hull beside it. However long the line is, 54 bytes hold all that a hull record has.
 pub fn judge_first(text: &[u8], closed: bool) -> FirstLine
     ensures { λ r. ⌜ r ≡ firstJudged (record { text = now (text .entry); closed = closed }) ⌝ }
 {
     if !closed {
         return refused(2);
     }
-    let mut bytes = [0u8; 50];
+    let mut bytes = [0u8; 54];
     let Written::Bytes(n) = frames::decode_text(text, &mut bytes) else {
         return refused(2);
     };
-    if n < 10 {
+    let kind = bytes[0] as u64;
+    if n < readers::hull_length(kind, 1) {
         return refused(3);
     }
-    let kind = bytes[0];
     match kind {
-        1 => judge_hull(&bytes[1..], n),
+        1 | 6 => judge_hull(kind, &bytes[1..], n),
         _ => refused(3),
     }
 }

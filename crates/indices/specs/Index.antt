@@ -5,10 +5,10 @@ use lib.ListN.{getD}
 use Rattle.laws.specs.Rounding.{ceil}
 use Rattle.laws.specs.Sums.{sumOf}
 use Rattle.records.specs.declared.Ends.{Ends}
-use Rattle.records.specs.declared.Finding.{Finding}
 use Rattle.records.specs.declared.Survival.{Survival}
 use Rattle.records.specs.declared.Trio.{Trio}
-use Rattle.survival.specs.Survival.{nothing, noSurvival}
+use Rattle.records.specs.Results.{Results}
+use Rattle.survival.specs.Survival.{nothing, noSurvival, still, Loaded}
 
 -- 916,500ths times ten-thousandths
 abbrev pub scale : ℕ
@@ -68,9 +68,10 @@ pub record Weights (v : ℕ) (s : Survival) : Type 0 where
 pub record RowWeights (vs : List ℕ) (ss : List Survival) : Type 0 where
   pub each : (i : ℕ) → Weights (getD vs i 0) (getD ss i noSurvival)
 
--- given survivals are in ten-thousandths
-pub record Given (fs : List Finding) : Type 0 where
-  pub each : (i : ℕ) → getD fs i nothing .given ≤ 10 ^ 4
+-- a row's given survivals are in ten-thousandths, and a passenger ship's loads keep to their limits
+pub record Given (rs : Results) : Type 0 where
+  pub each : (i : ℕ) → getD (rs .findings) i nothing .given ≤ 10 ^ 4
+  pub loads : (i : ℕ) → Loaded (getD (rs .findings) i nothing) (getD (rs .floodings) i still)
 
 pub record Small (k : ℕ) (a : List ℕ) : Type 0 where
   pub each : (i : ℕ) → getD a i 0 ≤ k

@@ -4,6 +4,7 @@ ghost use Prim.Native.Nat.{_≤_, _<_};
 ghost use lib.ListN.{length};
 ghost use lib.Seq.{sets};
 ghost use Rattle.hexadecimal.specs.Hex.{bytesOf};
+ghost use Rattle.casefile.specs.Layout.{takes};
 ghost use Rattle.casefile.specs.Answer.{judged};
 ghost use Rattle.casefile.specs.Judging.{frameJudged};
 ghost use Rattle.casefile.specs.Kept.{placeWidth};
@@ -17,7 +18,17 @@ use rowlines::readers::frame_length;
 mod ends; // the end
 mod row; // a row
 
-// A frame after the hull: 02, 03 and 05 are rows, 0f the end.
+// Whether a frame of a kind is a row that a hull takes: a passenger ship's are of kind 07 alone.
+fn is_taken(hull: u64, kind: u64) -> bool
+    ensures { λ r. ⌜ r ≡ takes hull kind ⌝ }
+{
+    if hull == 6 {
+        return kind == 7;
+    }
+    (kind == 2) | (kind == 3) | (kind == 5)
+}
+
+// A frame after the hull: a row that it takes, or 0f, the end.
 fn judge_frame(frame: &[u8], h: Hull, p: Progress) -> Frame
     requires { ⌜ 0 < length (now frame) ⌝ }
     ensures { λ r. ⌜ r ≡ frameJudged h p (now (frame .entry)) ⌝ }
@@ -26,11 +37,13 @@ fn judge_frame(frame: &[u8], h: Hull, p: Progress) -> Frame
     if frame.len() != frame_length(kind) {
         return Frame::Wrong(3);
     }
-    match kind {
-        2 | 3 | 5 => row::judge_row(kind, &frame[1..], h, p),
-        15 => ends::judge_end(&frame[1..], h, p),
-        _ => Frame::Wrong(3),
+    if kind == 15 {
+        return ends::judge_end(&frame[1..], h, p);
     }
+    if !is_taken(h.kind, kind) {
+        return Frame::Wrong(3);
+    }
+    row::judge_row(kind, &frame[1..], h, p)
 }
 
 // A line after the hull h and what the lines before it left. What it writes goes to the front of the place that is lent, as many bytes as go in.

@@ -2,8 +2,8 @@
 ghost use mathlib.Core.Path.{_≡_};
 ghost use Prim.Native.Nat.{_+_, _*_, _≤_};
 ghost use lib.ListN.{length};
-ghost use Rattle.casefile.specs.Layout.{resultLength, resultCount, headOf, resultsOf};
-ghost use Rattle.casefile.specs.Limits.{findingsFit};
+ghost use Rattle.casefile.specs.Layout.{resultLength, resultCount, floodingLength, floodingCount, headOf, resultsOf};
+ghost use Rattle.casefile.specs.Limits.{resultsFit};
 ghost use Rattle.casefile.specs.Judging.{rowNumber, rowJudged};
 use casefile::Frame;
 use casefile::Progress;
@@ -11,14 +11,17 @@ use records::Hull;
 use records::RowHead;
 use rowlines::readers;
 
-// Whether the results of a row of a kind fit, from the fields of its frame: a set, and of kind 05 a second.
+// Whether the results of a row of a kind fit, from the fields of its frame: a set, of kind 05 a second, and of kind 07 what it tells besides.
 fn results_fit(kind: u64, f: &[u8]) -> bool
-    requires { ⌜ 6 + resultCount kind * resultLength kind ≤ length (now f) ⌝ }
-    ensures { λ r. ⌜ r ≡ findingsFit (resultsOf kind (now (f .entry))) ⌝ }
+    requires { ⌜ 6 + resultCount kind * resultLength kind + floodingCount kind * floodingLength ≤ length (now f) ⌝ }
+    ensures { λ r. ⌜ r ≡ resultsFit (resultsOf kind (now (f .entry))) ⌝ }
 {
     let first = limits::set_fits(readers::set(kind, &f[6..]));
     if kind == 5 {
         return first & limits::set_fits(readers::set(kind, &f[30..]));
+    }
+    if kind == 7 {
+        return first & limits::floodings_fit(readers::floodings(&f[30..]));
     }
     first
 }
@@ -45,7 +48,7 @@ fn row_number(h: Hull, p: Progress, head: RowHead, fit: bool) -> u64
 
 // A row of a kind, from the fields of its frame.
 pub fn judge_row(kind: u64, f: &[u8], h: Hull, p: Progress) -> Frame
-    requires { ⌜ 6 + resultCount kind * resultLength kind ≤ length (now f) ⌝ }
+    requires { ⌜ 6 + resultCount kind * resultLength kind + floodingCount kind * floodingLength ≤ length (now f) ⌝ }
     ensures { λ r. ⌜ r ≡ rowJudged h p (record { head = headOf kind (now (f .entry)); results = resultsOf kind (now (f .entry)) }) ⌝ }
 {
     let head = readers::head(kind, f);

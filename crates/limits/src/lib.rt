@@ -1,10 +1,11 @@
-// Document 01's limits on records, and document 02's of an opening: of a hull (refusals 4 and 5) and of a row (refusal 7).
+// Document 01's limits on records, and document 02's of an opening and of passenger ships: of a hull (refusals 4 and 5) and of a row (refusal 7).
 ghost use mathlib.Core.Path.{_≡_};
 ghost use mathlib.Core.Bool.{_&&_};
 ghost use Prim.Native.Nat.{_+_, _-_, _%_, _≤_};
 ghost use lib.Dec.{leb, eqb};
-ghost use Rattle.casefile.specs.Limits.{between, sizesFit, risingTo, zonesFit, headFits, openingFits, findingFits, findingsFit};
+ghost use Rattle.casefile.specs.Limits.{between, shortestShip, narrowestShip, sizesFit, risingTo, zonesFit, headFits, openingFits, findingFits, findingsFit, floodingFits, floodingsFit};
 use records::Finding;
+use records::Flooding;
 use records::Hull;
 use records::RowHead;
 
@@ -24,14 +25,35 @@ fn differ_by_fifths(deepest: u64, light: u64) -> bool
     (deepest - light) % 5 == 0
 }
 
+// The least length of a ship of a kind.
+fn shortest(kind: u64) -> u64
+    ensures { λ r. ⌜ r ≡ shortestShip kind ⌝ }
+{
+    if kind == 6 {
+        return 2000;
+    }
+    8000
+}
+
+// Its least breadth.
+fn narrowest(kind: u64) -> u64
+    ensures { λ r. ⌜ r ≡ narrowestShip kind ⌝ }
+{
+    if kind == 6 {
+        return 400;
+    }
+    1000
+}
+
 // Refusal 4 is given where this does not hold.
 pub fn sizes_fit(h: Hull) -> bool
     ensures { λ r. ⌜ r ≡ sizesFit h ⌝ }
 {
-    is_between(8000, 19800, h.length)
-        & ((h.breadth % 2 == 0) & is_between(1000, 6000, h.breadth))
+    is_between(shortest(h.kind), 19800, h.length)
+        & ((h.breadth % 2 == 0) & is_between(narrowest(h.kind), 6000, h.breadth))
         & is_between(1000, 30000, h.deepest)
         & (is_between(500, h.deepest, h.light) & differ_by_fifths(h.deepest, h.light))
+        & ((h.lifeboats <= 10000) & (h.excess <= 10000))
 }
 
 fn is_rising(places: [u64; 21], m: usize) -> bool
@@ -79,7 +101,7 @@ fn group_fits(first: u64, count: u64, zones: usize) -> bool
     count - 1 <= m - first
 }
 
-// Refusal 7 is given where this does not hold of a row's head, or `set_fits` not of a set of its results.
+// Refusal 7 is given where this does not hold of a row's head, or `set_fits` not of a set of its results, or `floodings_fit` not of what else it tells.
 pub fn head_fits(h: Hull, r: RowHead) -> bool
     ensures { λ b. ⌜ b ≡ headFits h r ⌝ }
 {
@@ -112,4 +134,23 @@ pub fn set_fits(results: [Finding; 3]) -> bool
     let partial = results[1];
     let light = results[2];
     finding_fits(deepest) & (finding_fits(partial) & finding_fits(light))
+}
+
+fn flooding_fits(w: Flooding) -> bool
+    ensures { λ b. ⌜ b ≡ floodingFits w ⌝ }
+{
+    is_between(1, 300000, w.displacement)
+        & is_between(1, 2000000, w.moment)
+        & ((w.lever <= 5000) & (w.range <= 9000) & (w.heel <= 9000))
+        & (w.roro <= 1)
+}
+
+// What a passenger ship's row tells besides, at each draught.
+pub fn floodings_fit(floodings: [Flooding; 3]) -> bool
+    ensures { λ r. ⌜ r ≡ floodingsFit floodings ⌝ }
+{
+    let deepest = floodings[0];
+    let partial = floodings[1];
+    let light = floodings[2];
+    flooding_fits(deepest) & (flooding_fits(partial) & flooding_fits(light))
 }

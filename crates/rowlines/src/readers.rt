@@ -2,8 +2,9 @@
 ghost use mathlib.Core.Path.{_≡_};
 ghost use Prim.Native.Nat.{_+_, _*_, _≤_};
 ghost use lib.ListN.{length};
-ghost use Rattle.casefile.specs.Layout.{frameLength, headOf, resultLength, findingOf, setOf};
+ghost use Rattle.casefile.specs.Layout.{frameLength, headOf, resultLength, findingOf, setOf, floodingLength, floodingOf, floodingsOf};
 use records::Finding;
+use records::Flooding;
 use records::RowHead;
 
 pub fn head(kind: u64, f: &[u8]) -> RowHead
@@ -66,6 +67,29 @@ pub fn set(kind: u64, f: &[u8]) -> [Finding; 3]
     ]
 }
 
+// What a passenger ship's row tells at one draught besides, read from where it starts.
+fn flooding(f: &[u8]) -> Flooding
+    requires { ⌜ floodingLength ≤ length (now f) ⌝ }
+    ensures { λ r. ⌜ r ≡ floodingOf (now (f .entry)) ⌝ }
+{
+    Flooding {
+        displacement: fields::long_in(f, 0),
+        moment: fields::long_in(f, 4),
+        lever: fields::word_in(f, 8),
+        range: fields::word_in(f, 10),
+        heel: fields::word_in(f, 12),
+        roro: fields::byte_in(f, 14),
+    }
+}
+
+// At each draught, in the order deepest, partial, light, read from where it starts.
+pub fn floodings(f: &[u8]) -> [Flooding; 3]
+    requires { ⌜ 3 * floodingLength ≤ length (now f) ⌝ }
+    ensures { λ r. ⌜ r ≡ floodingsOf (now (f .entry)) ⌝ }
+{
+    [flooding(f), flooding(&f[15..]), flooding(&f[30..])]
+}
+
 // The bytes of a frame after the hull, by its kind.
 pub fn frame_length(kind: u64) -> usize
     ensures { λ r. ⌜ r ≡ frameLength kind ⌝ }
@@ -74,6 +98,7 @@ pub fn frame_length(kind: u64) -> usize
         2 => 31,
         3 => 13,
         5 => 55,
+        7 => 76,
         _ => 3,
     }
 }

@@ -4,7 +4,7 @@ use mathlib.Core.Path.{_≡_}
 use mathlib.Core.List.{List, [], _∷_}
 use Rattle.records.specs.declared.Hull.{Hull}
 use Rattle.records.specs.declared.RowHead.{RowHead}
-use Rattle.records.specs.declared.Finding.{Finding}
+use Rattle.records.specs.Results.{Results}
 use Rattle.solas.specs.Count.{Group}
 use Rattle.spans.specs.Hull.{shipOf, Hulled}
 use Rattle.spans.specs.Table.{tableOf}
@@ -23,7 +23,7 @@ unfoldable pub begun : Running
 begun = record { standing = nowhere; part = record { group = nothing; share = record { lower = 0; upper = 0 } }; survivals = noSurvival ∷ noSurvival ∷ noSurvival ∷ []; sums = partials [] }
 
 -- after one row more
-unfoldable pub entered : Hull → Running → RowHead → List Finding → Running
+unfoldable pub entered : Hull → Running → RowHead → Results → Running
 entered h s head results =
     let z = stands (s .standing) head in
     record { standing = z; part = partAt h z; survivals = survivalsOf (head .kind) results; sums = plus (s .sums) (addsAt h z results) }

@@ -3,7 +3,7 @@ use Prim.Native.Nat.{ℕ}
 use mathlib.Core.List.{List, [], _∷_}
 use Rattle.records.specs.declared.Hull.{Hull}
 use Rattle.records.specs.declared.Ends.{Ends}
-use Rattle.records.specs.declared.Finding.{Finding}
+use Rattle.records.specs.Results.{Results}
 use Rattle.records.specs.declared.Trio.{Trio}
 use Rattle.solas.specs.Index.{draughts}
 use Rattle.spans.specs.Hull.{shipOf}
@@ -30,12 +30,12 @@ abbrev pub partAt : Hull → Standing → Part
 partAt h y = record { group = sumsAt h y; share = shareAt h y }
 
 -- what the row there adds, with its results
-unfoldable pub addsAt : Hull → Standing → List Finding → Trio
-addsAt h y fs = rowAdds (shareAt h y) (rowVs (y .below) (y .head .height) (draughts (h .deepest) (h .light))) (survivalsOf (y .head .kind) fs)
+unfoldable pub addsAt : Hull → Standing → Results → Trio
+addsAt h y rs = rowAdds (shareAt h y) (rowVs (y .below) (y .head .height) (draughts (h .deepest) (h .light))) (survivalsOf (y .head .kind) rs)
 
 -- what its line is printed from
-abbrev pub lineAt : Hull → Standing → List Finding → RowLine
-lineAt h y fs = record { share = shareAt h y; survivals = survivalsOf (y .head .kind) fs }
+abbrev pub lineAt : Hull → Standing → Results → RowLine
+lineAt h y rs = record { share = shareAt h y; survivals = survivalsOf (y .head .kind) rs }
 
 -- the rows in turn, after one that stood at y
 unfoldable pub sharesFrom : Hull → Standing → List Row → List Ends

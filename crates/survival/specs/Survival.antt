@@ -1,5 +1,5 @@
--- Document 01, "Height and survival": what a survival is exactly, its bottom and top in ten-thousandths, and document 02's openings, marks and second sets with them.
--- Assumes nothing.
+-- Document 01, "Height and survival": what a survival is exactly, its bottom and top in ten-thousandths, and document 02's openings, marks, second sets and
+-- passenger ships with them. Assumes nothing.
 use Prim.Native.Nat.{ℕ, _+_, _*_, _/_, _^_, _≤_}
 use mathlib.Core.Bool.{cond}
 use mathlib.Core.List.{List, [], _∷_}
@@ -10,14 +10,17 @@ use Rattle.laws.specs.Fraction.{Fraction, _over_, whole, _≼_, _≼?_, _⊛_}
 use Rattle.laws.specs.Rounding.{ceil}
 use Rattle.roots.specs.Root.{rootDown, rootUp}
 use Rattle.records.specs.declared.Finding.{Finding}
+use Rattle.records.specs.declared.Flooding.{Flooding}
 use Rattle.records.specs.declared.Marks.{Marks}
 use Rattle.records.specs.declared.Survival.{Survival}
+use Rattle.records.specs.Results.{Results}
 use Rattle.solas.specs.Survival.{s⁴, unlessImmersed}
+use Rattle.solas.specs.Passengers.{final⁴, intermediate⁴, sMom, together⁴}
 use Rattle.numbers.specs.Ratio.{ratioOf}
 use Rattle.records.specs.declared.Ratio.{Ratio}
 use Rattle.survival.specs.declared.finding.Multiple.{Multiple}
 use Rattle.survival.specs.declared.finding.Roots.{Roots}
-use Rattle.survival.specs.Marks.{unmarked, marksOf}
+use Rattle.survival.specs.Marks.{unmarked, marksOf, passengerMarks}
 
 -- the fourth root of a fraction, or so many ten-thousandths
 pub data Factor : Type 0 where
@@ -101,8 +104,39 @@ worseOf f g = cond (fourthOf f ≼? fourthOf g) f g
 unfoldable pub countsAt : ℕ → List Finding → ℕ → Finding
 countsAt kind fs j = cond (eqb kind 5) (worseOf (getD fs j nothing) (getD fs (3 + j) nothing)) (getD fs j nothing)
 
-unfoldable pub factorsOf : ℕ → List Finding → List Factor
-factorsOf kind fs = factorOf kind (countsAt kind fs 0) ∷ factorOf kind (countsAt kind fs 1) ∷ factorOf kind (countsAt kind fs 2) ∷ []
+-- ---- a passenger ship's result, of kind 7: what was found at the final stage, and what its row tells besides
 
-unfoldable pub survivalsOf : ℕ → List Finding → List Survival
-survivalsOf kind fs = survivalOf kind (countsAt kind fs 0) ∷ survivalOf kind (countsAt kind fs 1) ∷ survivalOf kind (countsAt kind fs 2) ∷ []
+-- the exact s⁴: the lesser of s-int⁴ and (s-final · s-mom)⁴, or zero
+abbrev pub passengerFourth : Finding → Flooding → Fraction
+passengerFourth f w =
+    unlessImmersed (f .opening)
+    (together⁴ (intermediate⁴ (w .lever) (w .range) (w .heel)) (final⁴ (w .roro) (f .lever) (f .range) (f .heel)) (sMom (f .lever) (w .displacement) (w .moment)))
+
+unfoldable pub passengerSurvival : Finding → Flooding → Survival
+passengerSurvival f w = marked (ends (root (passengerFourth f w))) (passengerMarks (w .roro) (f .lever) (f .range) (f .heel) (f .opening))
+
+-- past the third draught
+abbrev pub still : Flooding
+still = record { displacement = 1; moment = 1; lever = 0; range = 0; heel = 0; roro = 0 }
+
+-- "displacement (t, 1 to 300,000) and heeling moment (tm, 1 to 2,000,000)", and the lever's limit: what the moments need
+pub record Loaded (f : Finding) (w : Flooding) : Type 0 where
+  pub lever : f .lever ≤ 5000
+  pub displacement : w .displacement ≤ 300000
+  pub some : 1 ≤ w .moment
+  pub moment : w .moment ≤ 2000000
+
+-- ---- a row's survivals at the three draughts, exact and rounded
+unfoldable pub factorAt : ℕ → Results → ℕ → Factor
+factorAt kind rs j =
+    cond (eqb kind 7) (root (passengerFourth (getD (rs .findings) j nothing) (getD (rs .floodings) j still))) (factorOf kind (countsAt kind (rs .findings) j))
+
+unfoldable pub survivalAt : ℕ → Results → ℕ → Survival
+survivalAt kind rs j =
+    cond (eqb kind 7) (passengerSurvival (getD (rs .findings) j nothing) (getD (rs .floodings) j still)) (survivalOf kind (countsAt kind (rs .findings) j))
+
+unfoldable pub factorsOf : ℕ → Results → List Factor
+factorsOf kind rs = factorAt kind rs 0 ∷ factorAt kind rs 1 ∷ factorAt kind rs 2 ∷ []
+
+unfoldable pub survivalsOf : ℕ → Results → List Survival
+survivalsOf kind rs = survivalAt kind rs 0 ∷ survivalAt kind rs 1 ∷ survivalAt kind rs 2 ∷ []

@@ -1,12 +1,12 @@
 -- Document 02, "Smaller damage, worse result": of two results at a draught the lower survival counts, by bottom, by top and exactly, with the marks of its
 -- own set. Assumes nothing.
 use Prim.Native.Nat.{ℕ, _+_, _<_, min}
-use mathlib.Core.List.{List}
 use mathlib.Core.Logic.{_↔_}
 use mathlib.Core.Path.{_≡_}
 use lib.ListN.{getD}
 use Rattle.laws.specs.Fraction.{Fraction, _≼_, _≺_, lesser}
 use Rattle.records.specs.declared.Finding.{Finding}
+use Rattle.records.specs.Results.{Results}
 use Rattle.survival.specs.Marks.{unmarked, foundMarks}
 use Rattle.survival.specs.Survival.{root, given, ends, Sensible, fourthOf, nothing, noSurvival, survivalOf, worseOf, factorsOf, survivalsOf}
 use Rattle.survival.specs.Telling.{IsOne}
@@ -38,15 +38,15 @@ abbrev pub OneOfTwo : Type 0
 OneOfTwo = (f g : Finding) → IsOne (survivalOf 5 (worseOf f g)) ↔ ((survivalOf 5 f .marks ≡ unmarked) × (survivalOf 5 g .marks ≡ unmarked))
 
 -- ---- of a row's results, at each of the three draughts j
-pub record RowCounts (fs : List Finding) (j : ℕ) : Type 0 where
+pub record RowCounts (rs : Results) (j : ℕ) : Type 0 where
   -- kind 5: of the results j and 3 + j the worse, by its survival and by its exact s⁴
-  pub worse : getD (survivalsOf 5 fs) j noSurvival ≡ survivalOf 5 (worseOf (getD fs j nothing) (getD fs (3 + j) nothing))
-  pub bottom : getD (survivalsOf 5 fs) j noSurvival .bottom ≡ min (survivalOf 5 (getD fs j nothing) .bottom) (survivalOf 5 (getD fs (3 + j) nothing) .bottom)
-  pub top : getD (survivalsOf 5 fs) j noSurvival .top ≡ min (survivalOf 5 (getD fs j nothing) .top) (survivalOf 5 (getD fs (3 + j) nothing) .top)
-  pub exact : getD (factorsOf 5 fs) j (given 0) ≡ root (lesser (fourthOf (getD fs j nothing)) (fourthOf (getD fs (3 + j) nothing)))
-  -- any other kind: the one result
-  pub alone : (kind : ℕ) → (kind ≡ 5 → ⊥) → getD (survivalsOf kind fs) j noSurvival ≡ survivalOf kind (getD fs j nothing)
+  pub worse : getD (survivalsOf 5 rs) j noSurvival ≡ survivalOf 5 (worseOf (getD (rs .findings) j nothing) (getD (rs .findings) (3 + j) nothing))
+  pub bottom : getD (survivalsOf 5 rs) j noSurvival .bottom ≡ min (survivalOf 5 (getD (rs .findings) j nothing) .bottom) (survivalOf 5 (getD (rs .findings) (3 + j) nothing) .bottom)
+  pub top : getD (survivalsOf 5 rs) j noSurvival .top ≡ min (survivalOf 5 (getD (rs .findings) j nothing) .top) (survivalOf 5 (getD (rs .findings) (3 + j) nothing) .top)
+  pub exact : getD (factorsOf 5 rs) j (given 0) ≡ root (lesser (fourthOf (getD (rs .findings) j nothing)) (fourthOf (getD (rs .findings) (3 + j) nothing)))
+  -- another kind of a cargo ship: the one result
+  pub alone : (kind : ℕ) → (kind ≡ 5 → ⊥) → (kind ≡ 7 → ⊥) → getD (survivalsOf kind rs) j noSurvival ≡ survivalOf kind (getD (rs .findings) j nothing)
 
 pub record LowerSurvivalCounts : Type 0 where
   pub results : (f g : Finding) → LowerCounts f g
-  pub rows : (fs : List Finding) (j : ℕ) → j < 3 → RowCounts fs j
+  pub rows : (rs : Results) (j : ℕ) → j < 3 → RowCounts rs j

@@ -10,6 +10,7 @@ ghost use mathlib.Core.Path.{_≡_};
 ghost use mathlib.Core.List.{_++_};
 ghost use Prim.Native.Nat.{_*_, _/_, _^_, _≤_, min};
 ghost use Rattle.solas.specs.Survival.{k, s⁴, immersed, unlessImmersed};
+ghost use Rattle.records.specs.Results.{found};
 ghost use Rattle.survival.specs.Thirds.{Parts, InThirds, thirds};
 ghost use Rattle.survival.specs.Marks.{foundMarks};
 ghost use Rattle.survival.specs.Survival.{scaledOf, roundedOf, survivalOf, worseOf, survivalsOf};
@@ -145,10 +146,10 @@ pub fn survival(kind: u64, lever: u64, range: u64, heel: u64, opening: i64, give
     }
 }
 
-// The survivals of a row's three results, where it has no second set.
+// The survivals of a cargo ship's three results, where its row has no second set.
 pub fn survivals(kind: u64, fs: [Finding; 3]) -> [Survival; 3]
-    requires { ⌜ (kind ≡ 5 → ⊥) ⌝ }
-    ensures { λ r. ⌜ r ≡ survivalsOf kind fs ⌝ }
+    requires { ⌜ (kind ≡ 5 → ⊥) × (kind ≡ 7 → ⊥) ⌝ }
+    ensures { λ r. ⌜ r ≡ survivalsOf kind (found fs) ⌝ }
 {
     let deepest = fs[0];
     let partial = fs[1];
@@ -202,7 +203,7 @@ fn worse(f: Finding, g: Finding) -> Survival
 
 // The survivals of a row of kind 5, from its two sets of results: at each draught the lower.
 pub fn worse_survivals(first: [Finding; 3], second: [Finding; 3]) -> [Survival; 3]
-    ensures { λ r. ⌜ r ≡ survivalsOf 5 (first ++ second) ⌝ }
+    ensures { λ r. ⌜ r ≡ survivalsOf 5 (found (first ++ second)) ⌝ }
 {
     let deepest = first[0];
     let partial = first[1];

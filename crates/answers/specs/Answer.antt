@@ -6,10 +6,11 @@ use lib.ListN.{length, drop}
 use lib.Dec.{ltb}
 use Rattle.records.specs.declared.Answer.{Answer}
 use Rattle.records.specs.declared.Ends.{Ends}
+use Rattle.records.specs.declared.Hull.{Hull}
 use Rattle.records.specs.declared.Trio.{Trio}
-use Rattle.solas.specs.Index.{R, partialMark}
 use Rattle.numbers.specs.Ratio.{ratioOf}
 use Rattle.indices.specs.Index.{partials, attainedOf}
+use Rattle.verdicts.specs.Required.{requiredOf, markOf}
 use Rattle.verdicts.specs.Verdict.{verdictOf}
 use Rattle.casefile.specs.Record.{Case}
 use Rattle.casefile.specs.Reading.{Reading, refused, accepted}
@@ -22,20 +23,20 @@ use Rattle.rows.specs.Work.{sharesFrom, addsFrom, numbers}
 unfoldable pub partialsOf : Case → Trio
 partialsOf c = partials (addsFrom (c .hull) nowhere (c .rows))
 
--- A, the verdict, and the partial indices that they come from, for a ship of so many centimetres and so many rows
-unfoldable pub figures : ℕ → ℕ → Trio → Answer
-figures size rows ps =
+-- A, the verdict, and the partial indices that they come from, for a hull and so many rows
+unfoldable pub figures : Hull → ℕ → Trio → Answer
+figures h rows ps =
     record {
       number = 0;
       line = 0;
-      verdict = verdictOf (attainedOf ps) ps (ratioOf (R size)) (ratioOf (partialMark size));
+      verdict = verdictOf (attainedOf ps) ps (ratioOf (requiredOf h)) (ratioOf (markOf h));
       rows = rows;
       attained = attainedOf ps;
       partials = ps;
     }
 
 unfoldable pub answer : Case → Answer
-answer c = figures (c .hull .length) (length (c .rows)) (partialsOf c)
+answer c = figures (c .hull) (length (c .rows)) (partialsOf c)
 
 unfoldable pub shares : Case → List ℕ
 shares c = numbers (sharesFrom (c .hull) nowhere (c .rows))

@@ -4,6 +4,7 @@ ghost use mathlib.Core.List.{_++_};
 ghost use Prim.Native.Nat.{_*_, _^_, _≤_};
 ghost use lib.ListN.{length, drop};
 ghost use Rattle.indices.specs.Index.{Within};
+ghost use Rattle.verdicts.specs.Required.{Sized};
 ghost use Rattle.casefile.specs.Kept.{placeWidth};
 ghost use Rattle.casefile.specs.Reading.{reading};
 ghost use Rattle.casefile.specs.Valid.{Valid};
@@ -40,13 +41,13 @@ fn refuse(number: u64, line: u64) -> Answer
 }
 
 // A and the verdict from the partial indices.
-fn conclude(size: u64, rows: u64, partials: Trio) -> Answer
-    requires { ⌜ (size ≤ 10 ^ 6) × Within (2 ^ 60) partials ⌝ }
-    ensures { λ r. ⌜ r ≡ figures size rows partials ⌝ }
+fn conclude(h: Hull, rows: u64, partials: Trio) -> Answer
+    requires { ⌜ Sized h × Within (2 ^ 60) partials ⌝ }
+    ensures { λ r. ⌜ r ≡ figures h rows partials ⌝ }
 {
     let attained = sums::attained(partials);
-    let required = verdicts::required(size);
-    let mark = verdicts::partial_mark(size);
+    let required = verdicts::required_of(h);
+    let mark = verdicts::mark_of(h);
     let verdict = verdicts::verdict(attained, partials, required, mark);
     Answer {
         number: 0,
@@ -66,7 +67,7 @@ fn complete(kept: &[u8], h: Hull, rows: u64, sheet: &mut [u64]) -> Answer
     let mut t = [0u64; TABLE];
     spans::fill_table(h, &mut t);
     let partials = fill(kept, rows as usize, h, &t, sheet);
-    conclude(h.length, rows, partials)
+    conclude(h, rows, partials)
 }
 
 // Any bytes whatever: a refusal, which leaves the sheet as it is, or the answer, with each row's share on the sheet. There is room to

@@ -4,6 +4,9 @@ ghost use mathlib.Core.List.{[], _∷_, _++_};
 ghost use Prim.Native.Nat.{_+_, _*_, _≤_};
 ghost use lib.ListN.{length, drop};
 ghost use lib.Seq.{sets};
+ghost use Rattle.laws.specs.Lists.{Every};
+ghost use Rattle.indices.specs.Index.{Given};
+ghost use Rattle.casefile.specs.Record.{Row};
 ghost use Rattle.casefile.specs.Kept.{placeWidth, keptRows};
 ghost use Rattle.listing.specs.Survivals.{threeNumbers, survivalNumbers, survivalsFrom};
 use printing::mark_byte;
@@ -42,7 +45,7 @@ fn put_survivals(ss: [Survival; 3], out: &mut [u64], at: usize)
 
 // So many rows, as they are kept.
 pub fn list(kept: &[u8], rows: usize, out: &mut [u64])
-    requires { ⌜ (placeWidth * rows ≤ length (now kept)) × (9 * rows ≤ length (now out)) ⌝ }
+    requires { ⌜ (placeWidth * rows ≤ length (now kept)) × (9 * rows ≤ length (now out)) × Every (λ (r : Row). Given (r .results)) (keptRows rows (now kept) 0) ⌝ }
     ensures { λ _. ⌜ now (out .exit) ≡ survivalsFrom (keptRows rows (now (kept .entry)) 0) ++ drop (9 * rows) (now (out .entry)) ⌝ }
 {
     let mut i: usize = 0;

@@ -16,16 +16,19 @@ use Rattle.casefile.specs.Limits.{sizesFit, zonesFit, headFits}
 abbrev pub number : List ℕ → ℕ → ℕ
 number ns k = getD ns k 0
 
--- the hull's numbers in the order of its record: Ls, B, ds, dl, the zone count, the 21 places
+-- the hull's numbers in the order of its record: its kind, Ls, B, ds, dl, the zone count, the 21 places; persons count for no share
 unfoldable pub hullIn : List ℕ → Hull
 hullIn ns =
     record {
-      length = number ns 0;
-      breadth = number ns 1;
-      deepest = number ns 2;
-      light = number ns 3;
-      zones = number ns 4;
-      places = tabulate (λ k. number ns (5 + k)) 21;
+      kind = number ns 0;
+      length = number ns 1;
+      breadth = number ns 2;
+      deepest = number ns 3;
+      light = number ns 4;
+      lifeboats = 0;
+      excess = 0;
+      zones = number ns 5;
+      places = tabulate (λ k. number ns (6 + k)) 21;
     }
 
 -- a hull that no case file would be refused for

@@ -25,12 +25,12 @@ fn number_at(ns: &[u64], k: usize) -> u64
 }
 
 fn places_in(ns: &[u64]) -> [u64; 21]
-    ensures { λ r. ⌜ r ≡ tabulate (λ k. number (now (ns .entry)) (5 + k)) 21 ⌝ }
+    ensures { λ r. ⌜ r ≡ tabulate (λ k. number (now (ns .entry)) (6 + k)) 21 ⌝ }
 {
     let mut at = [0u64; 21];
     let mut k: usize = 0;
     while k < 21 {
-        at[k] = number_at(ns, 5 + k);
+        at[k] = number_at(ns, 6 + k);
         k = k + 1;
     }
     at
@@ -41,11 +41,14 @@ fn hull_in(ns: &[u64]) -> Hull
 {
     let places = places_in(ns);
     Hull {
-        length: number_at(ns, 0),
-        breadth: number_at(ns, 1),
-        deepest: number_at(ns, 2),
-        light: number_at(ns, 3),
-        zones: number_at(ns, 4) as usize,
+        kind: number_at(ns, 0),
+        length: number_at(ns, 1),
+        breadth: number_at(ns, 2),
+        deepest: number_at(ns, 3),
+        light: number_at(ns, 4),
+        lifeboats: 0,
+        excess: 0,
+        zones: number_at(ns, 5) as usize,
         places,
     }
 }

@@ -4,8 +4,7 @@ use Prim.Native.Nat.{ℕ}
 use mathlib.Core.Path.{_≡_}
 use mathlib.Core.List.{List, [], _∷_}
 use Rattle.records.specs.declared.Marks.{Marks}
-use Rattle.survival.specs.Marks.{marksOf}
-use Rattle.survival.specs.Survival.{countsAt}
+use Rattle.survival.specs.Survival.{survivalAt}
 use Rattle.printing.specs.ReadBack.{figures, endsOf, Printable, toldBy, readBack}
 use Rattle.casefile.specs.Record.{Row, Case}
 use Rattle.casefile.specs.Reading.{accepted, reading}
@@ -19,9 +18,9 @@ EveryFigureFits = (f : List ℕ) → Printable (answered (reading f) 1000) (line
 abbrev pub PrintedReadsBack : Type 0
 PrintedReadsBack = (f : List ℕ) → readBack (report (reading f)) ≡ toldBy (answered (reading f) 1000) (linesIn (reading f))
 
--- the marks of the result that counts in a row at draught j: 0 deepest, 1 partial, 2 light
+-- a row's marks at draught j, 0 deepest, 1 partial, 2 light: of a cargo ship those of the result that counts there, of a passenger ship those of its final stage
 abbrev pub resultMarks : Row → ℕ → Marks
-resultMarks r j = marksOf (r .head .kind) (countsAt (r .head .kind) (r .results) j)
+resultMarks r j = survivalAt (r .head .kind) (r .results) j .marks
 
 -- in row order
 unfoldable pub marksOfRows : List Row → List Marks

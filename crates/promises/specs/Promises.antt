@@ -8,9 +8,9 @@ use Rattle.laws.specs.Fraction.{Fraction, whole, _≈_, _≼_}
 use Rattle.numbers.specs.Figures.{billionths}
 use Rattle.records.specs.declared.Answer.{Answer}
 use Rattle.records.specs.declared.Ends.{Ends}
-use Rattle.solas.specs.Index.{R, partialMark}
 use Rattle.indices.specs.Index.{at}
 use Rattle.indices.specs.Exact.{RowAt, NoneAbove, NoneBelow, weightedSum, Thrice, AtEach, exactA}
+use Rattle.verdicts.specs.Required.{requiredOf, markOf}
 use Rattle.verdicts.specs.Promises.{ByEnds, ReachAll, OneShort}
 use Rattle.casefile.specs.Record.{Case}
 use Rattle.casefile.specs.Reading.{accepted, reading}
@@ -44,13 +44,13 @@ module _ (c : Case) (r : Answer) where
     pub at-most-one : AtDraughts (λ rows ends. chances rows ≼ whole 1)
     pub one : AtDraughts (λ rows ends. (chances rows ≈ whole 1) ↔ AllListed c)
 
-  -- ---- 4: '"meets" is never said of a ship that falls short, nor "fails" of one that reaches'. 1 only if A reaches R and each partial index R/2 for all
+  -- ---- 4: '"meets" is never said of a ship that falls short, nor "fails" of one that reaches'. 1 only if A reaches R and each partial index its mark for all
   -- lists with no fourth power below; 2 only if one of the four, fixed first, is below its mark for every list with none above. 1 exactly when each lower
   -- end reaches its mark, 2 exactly when not and some upper end is below its mark, 3 exactly when neither; and no other verdict is given
   pub record Verdict : Type 0 where
-    pub meets : r .verdict ≡ 1 → (xs : Thrice (List Fraction)) → AtEach NoneBelow (rowsOf c) xs → ReachAll (rowsOf c) (R (c .hull .length)) (partialMark (c .hull .length)) xs
-    pub fails : r .verdict ≡ 2 → OneShort (rowsOf c) (R (c .hull .length)) (partialMark (c .hull .length))
-    pub by-ends : ByEnds (r .attained) (r .partials) (R (c .hull .length)) (partialMark (c .hull .length)) (r .verdict)
+    pub meets : r .verdict ≡ 1 → (xs : Thrice (List Fraction)) → AtEach NoneBelow (rowsOf c) xs → ReachAll (rowsOf c) (requiredOf (c .hull)) (markOf (c .hull)) xs
+    pub fails : r .verdict ≡ 2 → OneShort (rowsOf c) (requiredOf (c .hull)) (markOf (c .hull))
+    pub by-ends : ByEnds (r .attained) (r .partials) (requiredOf (c .hull)) (markOf (c .hull)) (r .verdict)
     pub no-other : (r .verdict ≡ 1) ⊎ ((r .verdict ≡ 2) ⊎ (r .verdict ≡ 3))
 
   -- ---- all four; and no line, and the file's own row count

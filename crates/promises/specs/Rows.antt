@@ -3,8 +3,8 @@ use Prim.Native.Nat.{ℕ, _/_}
 use mathlib.Core.Path.{_≡_}
 use mathlib.Core.List.{List, [], _∷_, map, List·Memᴰ}
 use Rattle.laws.specs.Fraction.{Fraction, whole, _≈_, total}
-use Rattle.records.specs.declared.Finding.{Finding}
 use Rattle.records.specs.declared.Hull.{Hull}
+use Rattle.records.specs.Results.{Results}
 use Rattle.solas.specs.Share.{share, rowShare}
 use Rattle.solas.specs.Count.{Group}
 use Rattle.solas.specs.Index.{draughts}
@@ -21,7 +21,7 @@ use Rattle.rows.specs.Work.{shareAt}
 -- ---- rows
 
 -- a row that stands at y: its exact share and the ends of it, and at each draught its v and what its survival is exactly
-abbrev pub exactRow : Hull → Standing → List Finding → exact.Row
+abbrev pub exactRow : Hull → Standing → Results → exact.Row
 exactRow h y results =
     record {
       share = rowShare (shipOf h) (y .head .first) (y .head .count) (y .before) (y .head .depth);

@@ -3,7 +3,7 @@ use Prim.Native.Nat.{ℕ, _+_, _*_, _<_}
 use mathlib.Core.Path.{_≡_}
 use mathlib.Core.List.{List}
 use lib.ListN.{length, getD}
-use Rattle.survival.specs.Survival.{countsAt, survivalOf}
+use Rattle.survival.specs.Survival.{survivalAt}
 use Rattle.printing.specs.Marks.{markByte}
 use Rattle.printing.specs.Written.{countIn, writtenIn}
 use Rattle.casefile.specs.Record.{Row, Case}
@@ -13,8 +13,8 @@ use Rattle.promises.specs.Printing.{resultMarks}
 
 -- of row r at draught j (0 deepest, 1 partial, 2 light) the bottom, the top and the byte of the marks of the result that counts, from the place at on
 pub record RowAt (numbers : List ℕ) (at : ℕ) (r : Row) (j : ℕ) : Type 0 where
-  pub bottom : getD numbers at 0 ≡ survivalOf (r .head .kind) (countsAt (r .head .kind) (r .results) j) .bottom
-  pub top : getD numbers (at + 1) 0 ≡ survivalOf (r .head .kind) (countsAt (r .head .kind) (r .results) j) .top
+  pub bottom : getD numbers at 0 ≡ survivalAt (r .head .kind) (r .results) j .bottom
+  pub top : getD numbers (at + 1) 0 ≡ survivalAt (r .head .kind) (r .results) j .top
   pub marks : getD numbers (at + 2) 0 ≡ markByte (resultMarks r j)
 
 -- row i, counted from 0, has the nine numbers from 9i on

@@ -1,4 +1,4 @@
--- Document 01, "Height and survival": the middle draught, the weights of the three draughts, R and the partial mark. Assumes nothing.
+-- Document 01, "Height and survival": the middle draught, the weights of the three draughts, R and the partial mark; and document 02's of passenger ships. Assumes nothing.
 use Prim.Native.Nat.{ℕ, _+_, _-_, _*_, _/_}
 use mathlib.Core.Bool.{cond}
 use mathlib.Core.List.{List, [], _∷_}
@@ -25,3 +25,17 @@ R L = cond (ltb 10000 L) ((L + 2400) over (L + 15200)) ((L * (L + 2400)) over (L
 -- what each partial index must reach
 unfoldable pub partialMark : ℕ → Fraction
 partialMark L = half (R L)
+
+-- ---- a passenger ship's
+
+-- "N = N1 + 2N2": persons in excess of those for whom there are lifeboats count twice
+unfoldable pub persons : ℕ → ℕ → ℕ
+persons n1 n2 = n1 + 2 * n2
+
+-- the required index of a passenger ship of L centimetres with n persons so counted
+unfoldable pub passengerR : ℕ → ℕ → Fraction
+passengerR L n = (L + 250 * n + 1022500) over (L + 250 * n + 1522500)
+
+-- "each partial must reach 0.9 R"
+unfoldable pub passengerMark : ℕ → ℕ → Fraction
+passengerMark L n = (9 over 10) ⊛ passengerR L n

@@ -1,2 +1,3 @@
+pub mod Required
 pub mod Verdict
 pub mod Promises

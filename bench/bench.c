@@ -1,7 +1,7 @@
 /* Times the proved library against plain C in one process, on the files that are named, after their answers were compared.
  *
  *   bench check FILE..              each file's printed answer, byte for byte; the last line: N the same
- *   bench rows FILE TURNS           shares of the rows of FILE: 26 numbers of a hull and four of each row, eight bytes each, low byte first
+ *   bench rows FILE TURNS           shares of the rows of FILE: 27 numbers of a hull and four of each row, eight bytes each, low byte first
  *   bench files TURNS FILE..        whole files to their printed answers: a line for each file
  *   bench one WHO TIMES FILE        WHO (proved, plain, tabled, whole) on one file so many times and nothing else, for a count of instructions
  *
@@ -127,15 +127,15 @@ typedef struct { uint64_t numbers[LONGEST / 8]; size_t fields; } Rows;
 static void share(int who, long times, const void *what) {
     const Rows *r = what;
     uint64_t out[LONGEST / 16];
-    while (times-- > 0) shares[who](r->numbers, 26, r->numbers + 26, r->fields, out, LONGEST / 16);
+    while (times-- > 0) shares[who](r->numbers, 27, r->numbers + 27, r->fields, out, LONGEST / 16);
 }
 
 static void rows(const char *name, long turns) {
     static Rows r;
     static uint64_t out[ALL][LONGEST / 16];
-    r.fields = read_file(name, (uint8_t *)r.numbers) / 8 - 26;
+    r.fields = read_file(name, (uint8_t *)r.numbers) / 8 - 27;
     for (int who = 0; who < ALL; who++)
-        if (shares[who](r.numbers, 26, r.numbers + 26, r.fields, out[who], LONGEST / 16) != r.fields / 4) die("not all rows were told", name);
+        if (shares[who](r.numbers, 27, r.numbers + 27, r.fields, out[who], LONGEST / 16) != r.fields / 4) die("not all rows were told", name);
     for (int who = 1; who < ALL; who++)
         if (memcmp(out[0], out[who], r.fields / 4 * 16)) die("the shares differ", name);
     Times t = timed(share, &r, turns);

@@ -87,10 +87,10 @@ def slow_files():
 
 
 def row_numbers(zones=20, count=500):
-    """A hull's 26 numbers and four for each row: groups of up to five zones, first layers and deeper ones."""
+    """A hull's 27 numbers and four for each row: groups of up to five zones, first layers and deeper ones."""
     dice, hull = Dice(11), ship(zones)
     places = (0,) + hull.bulkheads + (hull.ls,)
-    numbers = [hull.ls, hull.breadth, hull.ds, hull.dl, zones, *places] + [0] * (21 - len(places))
+    numbers = [1, hull.ls, hull.breadth, hull.ds, hull.dl, zones, *places] + [0] * (21 - len(places))
     groups = groups_of(hull, 5)
     for _ in range(count):
         a, n = dice.pick(groups)

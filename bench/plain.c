@@ -1,21 +1,25 @@
 /* The whole job of damindex in plain C, to time the proved program against: reads a case file, judges it, works it out and prints the answer.
  *
- * Numbers of 64 bits, and of 128 where those are too few. With TABLE defined, it goes the proved program's ways: the chances of a hull's spans are worked out
+ * Numbers of 64 bits, and where those are too few of 128, or of the compiler's own 192. With TABLE defined, it goes the proved program's ways: the chances of a hull's spans are worked out
  * once for each file, and s^4 is a whole number; with WHOLE, the fourth root is found by halving and not from the processor's square root. The names of the two functions that a caller sees
  * are given by REPORT and SHARES. No header is needed. */
 typedef unsigned char u8;
 typedef unsigned long u64;
 typedef unsigned __int128 u128;
+typedef unsigned _BitInt(192) u192;
 
 #define BILLION 1000000000ul
-enum { LONGEST = 65536, MOST_ROWS = 500, MOST_ZONES = 20, LONGEST_FRAME = 55, NUMBERS = 26 };
+enum { LONGEST = 65536, MOST_ROWS = 500, MOST_ZONES = 20, LONGEST_FRAME = 76, NUMBERS = 27 };
 
 typedef struct { u64 lower, upper; } Ends;
-typedef struct { u64 length, breadth, deepest, light, zones, places[MOST_ZONES + 1]; } Hull;
+/* A hull of kind 06 is a passenger ship's. */
+typedef struct { u64 kind, length, breadth, deepest, light, lifeboats, excess, zones, places[MOST_ZONES + 1]; } Hull;
 /* A given survival stands in the lever's place. */
 typedef struct { u64 lever, range, heel; long opening; } Result;
+/* What a passenger ship's row tells besides: the intermediate stage's lever, range and heel, and whether a ro-ro space is involved. */
+typedef struct { u64 displacement, moment, lever, range, heel, roro; } Flooding;
 /* A row of kind 05 has a second set of three results after the first. */
-typedef struct { u64 kind, first, count, depth, height; Result results[6]; } Row;
+typedef struct { u64 kind, first, count, depth, height; Result results[6]; Flooding floodings[3]; } Row;
 typedef struct { u64 number, line; } Refusal;
 
 /* ---- the chance of damage within a span */
@@ -189,6 +193,44 @@ static Ends survival(Fourth f) {
 /* What holds a survival down: 1 for the lever, 2 for the range, 4 for the heel, 8 for an immersed opening. */
 static u8 marks(const Result *r) { return (u8)((r->lever < 120) | (r->range < 1600) << 1 | (r->heel > 2500) << 2 | (r->opening < 0) << 3); }
 
+/* ---- a passenger ship's survival, at the final stage and at an intermediate one */
+
+/* A fourth root in ten-thousandths of n/d, at most one, where 10^16 n is within 128 bits. */
+static Ends root_of(u64 n, u64 d) {
+    u128 scaled = (u128)n * 10000000000000000ul;
+    u64 s = fourth_root((u64)(scaled / d));
+    return (Ends){s, s + ((u128)fourth_power(s) * d != scaled)};
+}
+
+static Ends lesser(Ends a, Ends b) { return (Ends){a.lower < b.lower ? a.lower : b.lower, a.upper < b.upper ? a.upper : b.upper}; }
+
+static Ends passenger_survival(const Result *r, const Flooding *w) {
+    u64 lever_cap = w->roro ? 200 : 120, range_cap = w->roro ? 2000 : 1600, k = r->heel <= 700 ? 800 : less(1500, r->heel);
+    u64 n = (r->lever < lever_cap ? r->lever : lever_cap) * (r->range < range_cap ? r->range : range_cap) * k * k, d = lever_cap * range_cap * 640000;
+    u64 heeling = less(r->lever, 40) * w->displacement, full = 1000 * w->moment;
+    Ends final;
+    if (r->opening < 0) return (Ends){0, 0};
+    if (heeling >= full) {
+        final = root_of(n, d);
+    } else { /* s-mom is below one: d / 10^4 s^4 moment^4 against n heeling^4 */
+        u192 root = (u192)n * heeling * heeling * heeling * heeling, unit = (u192)(d / 10000) * w->moment * w->moment * w->moment * w->moment;
+#ifdef WHOLE
+        u64 s = fourth_root((u64)((u128)n * 10000000000000000ul / d)) * heeling / full;
+#else
+        u64 s = (u64)(__builtin_sqrt(__builtin_sqrt((double)n / (double)d)) * 1e4 * ((double)heeling / (double)full));
+#endif
+        while (unit * fourth_power(s) > root) s--;
+        while (unit * fourth_power(s + 1) <= root) s++;
+        final = (Ends){s, s + (unit * fourth_power(s) != root)};
+    }
+    if (w->heel > 1500) return (Ends){0, 0};
+    return lesser(final, root_of((w->lever < 50 ? w->lever : 50) * (w->range < 700 ? w->range : 700), 50 * 700));
+}
+
+static u8 passenger_marks(const Result *r, const Flooding *w) {
+    return (u8)((r->lever < (w->roro ? 200 : 120)) | (r->range < (w->roro ? 2000 : 1600)) << 1 | (r->heel > 700) << 2 | (r->opening < 0) << 3);
+}
+
 /* ---- the answer */
 
 typedef struct { Ends share; u8 marks[3]; } Line;
@@ -196,13 +238,14 @@ typedef struct { u64 verdict; Ends figures[4]; Line *lines; } Answer;
 
 static int reaches(u64 end, u64 n, u64 d) { return (u128)end * d >= (u128)n * BILLION; }
 
-static u64 verdict(u64 L, const Ends *figures) {
-    u64 n = L > 10000 ? L + 2400 : L * (L + 2400), d = L > 10000 ? L + 15200 : n + 128000000;
+static u64 verdict(const Hull *h, const Ends *figures) {
+    u64 L = h->length, n = L > 10000 ? L + 2400 : L * (L + 2400), d = L > 10000 ? L + 15200 : n + 128000000, part = 1, of = 2;
     int meets = 1, fails = 0;
+    if (h->kind == 6) n = L + 250 * (h->lifeboats + 2 * h->excess) + 1022500, d = n + 500000, part = 9, of = 10;
     for (int k = 0; k < 4; k++) {
-        u64 den = k ? 2 * d : d;
-        meets &= reaches(figures[k].lower, n, den);
-        fails |= !reaches(figures[k].upper, n, den);
+        u64 num = k ? part * n : n, den = k ? of * d : d;
+        meets &= reaches(figures[k].lower, num, den);
+        fails |= !reaches(figures[k].upper, num, den);
     }
     return meets ? 1 : fails ? 2 : 3;
 }
@@ -227,7 +270,9 @@ static void work_out(const Hull *h, const Row *rows, u64 count, Answer *answer) 
             u64 v = height_factor(r->height, draughts[k]) - (same_layer ? height_factor(last->height, draughts[k]) : 0);
             const Result *f = r->results + k;
             Ends s = {f->lever, f->lever};
-            if (r->kind != 3) {
+            if (r->kind == 7) {
+                s = passenger_survival(f, r->floodings + k);
+            } else if (r->kind != 3) {
                 Fourth fourth = fourth_of(f);
                 if (r->kind == 5) { /* the lower of two counts, the first when equal */
                     Fourth second = fourth_of(f + 3);
@@ -235,14 +280,14 @@ static void work_out(const Hull *h, const Row *rows, u64 count, Answer *answer) 
                 }
                 s = survival(fourth);
             }
-            answer->lines[i].marks[k] = r->kind == 3 ? 0 : marks(f);
+            answer->lines[i].marks[k] = r->kind == 3 ? 0 : r->kind == 7 ? passenger_marks(f, r->floodings + k) : marks(f);
             figures[k + 1].lower += one.lower * v * s.lower / 9165000000ul;
             figures[k + 1].upper += up(one.upper * v * s.upper, 9165000000ul);
         }
     }
     figures[0].lower = (2 * figures[1].lower + 2 * figures[2].lower + figures[3].lower) / 5;
     figures[0].upper = up(2 * figures[1].upper + 2 * figures[2].upper + figures[3].upper, 5);
-    answer->verdict = verdict(h->length, figures);
+    answer->verdict = verdict(h, figures);
 }
 
 /* ---- the case file */
@@ -251,6 +296,8 @@ static void work_out(const Hull *h, const Row *rows, u64 count, Answer *answer) 
 static const u8 DIGITS[256] = {['0'] = 1, 2, 3, 4, 5, 6, 7, 8, 9, 10, ['a'] = 11, 12, 13, 14, 15, 16};
 
 static u64 word(const u8 *f) { return 256ul * f[0] + f[1]; }
+
+static u64 long_word(const u8 *f) { return 65536 * word(f) + word(f + 2); }
 
 /* A number of two bytes in two's complement. */
 static long signed_word(const u8 *f) { return (long)(word(f) ^ 0x8000) - 0x8000; }
@@ -267,12 +314,15 @@ static u64 decode(const u8 *text, u64 digits, u8 *frame) {
 }
 
 static u64 read_hull(const u8 *f, u64 size, Hull *h) {
-    if (size < 10 || f[0] != 1) return 3;
-    *h = (Hull){word(f + 1), word(f + 3), word(f + 5), word(f + 7), f[9], {0}};
-    if (h->length < 8000 || h->length > 19800 || h->breadth % 2 || h->breadth < 1000 || h->breadth > 6000) return 4;
+    int boats = f[0] == 6;
+    u64 more = boats ? 4 : 0;
+    if ((f[0] != 1 && !boats) || size < 10 + more) return 3;
+    *h = (Hull){f[0], word(f + 1), word(f + 3), word(f + 5), word(f + 7), boats ? word(f + 9) : 0, boats ? word(f + 11) : 0, f[9 + more], {0}};
+    if (h->length < (boats ? 2000 : 8000) || h->length > 19800 || h->breadth % 2 || h->breadth < (boats ? 400 : 1000) || h->breadth > 6000) return 4;
     if (h->deepest < 1000 || h->deepest > 30000 || h->light < 500 || h->light > h->deepest || (h->deepest - h->light) % 5) return 4;
-    if (h->zones < 1 || h->zones > MOST_ZONES || size != 8 + 2 * h->zones) return 5;
-    for (u64 k = 1; k < h->zones; k++) h->places[k] = word(f + 8 + 2 * k);
+    if (h->lifeboats > 10000 || h->excess > 10000) return 4;
+    if (h->zones < 1 || h->zones > MOST_ZONES || size != 8 + more + 2 * h->zones) return 5;
+    for (u64 k = 1; k < h->zones; k++) h->places[k] = word(f + 8 + more + 2 * k);
     h->places[h->zones] = h->length;
     for (u64 k = 0; k < h->zones; k++)
         if (h->places[k] >= h->places[k + 1]) return 5;
@@ -285,6 +335,12 @@ static int closes(const Hull *h, const Row *r) { return !r || (r->depth == h->br
 
 static Result read_result(const u8 *f) { return (Result){word(f), word(f + 2), word(f + 4), signed_word(f + 6)}; }
 
+static Flooding read_flooding(const u8 *f) { return (Flooding){long_word(f), long_word(f + 4), word(f + 8), word(f + 10), word(f + 12), f[14]}; }
+
+static int is_sensible(Flooding w) {
+    return w.displacement >= 1 && w.displacement <= 300000 && w.moment >= 1 && w.moment <= 2000000 && w.lever <= 5000 && w.range <= 9000 && w.heel <= 9000 && w.roro <= 1;
+}
+
 static int within_limits(Result r) { return r.lever <= 5000 && r.range <= 9000 && r.heel <= 9000 && r.opening >= -30000 && r.opening <= 30000; }
 
 static u64 read_row(const u8 *f, const Hull *h, const Row *last, Row *r) {
@@ -295,6 +351,10 @@ static u64 read_row(const u8 *f, const Hull *h, const Row *last, Row *r) {
     for (u64 k = 0; k < count; k++) {
         r->results[k] = f[0] == 3 ? (Result){word(f + 7 + 2 * k), 0, 0, 0} : read_result(f + 7 + 8 * k);
         if (f[0] == 3 ? r->results[k].lever > 10000 : !within_limits(r->results[k])) return 7;
+    }
+    for (u64 k = 0; f[0] == 7 && k < 3; k++) {
+        r->floodings[k] = read_flooding(f + 31 + 15 * k);
+        if (!is_sensible(r->floodings[k])) return 7;
     }
     if (!last) return 0;
     if (r->first < last->first || (r->first == last->first && r->count < last->count)) return 8;
@@ -319,7 +379,7 @@ static Refusal read_case(const u8 *input, u64 size, Hull *h, Row *rows, u64 *cou
         const Row *last = *count ? rows + *count - 1 : 0;
         if (line == 1) {
             number = read_hull(f, bytes, h);
-        } else if ((f[0] == 2 && bytes == 31) || (f[0] == 3 && bytes == 13) || (f[0] == 5 && bytes == 55)) {
+        } else if (h->kind == 6 ? f[0] == 7 && bytes == 76 : (f[0] == 2 && bytes == 31) || (f[0] == 3 && bytes == 13) || (f[0] == 5 && bytes == 55)) {
             number = *count == MOST_ROWS ? 6 : read_row(f, h, last, rows + *count);
             ++*count;
         } else if (f[0] == 15 && bytes == 3) {
@@ -371,10 +431,10 @@ u64 REPORT(const u8 *input, u64 size, u8 *out, u64 room) {
 
 /* The shares of rows by their numbers, a, n, b' and b, in a hull by its numbers, as probe_shares of the proved crates takes them. */
 u64 SHARES(const u64 *hull, u64 numbers, const u64 *rows, u64 fields, u64 *out, u64 room) {
-    Hull h = {hull[0], hull[1], hull[2], hull[3], hull[4], {0}};
+    Hull h = {hull[0], hull[1], hull[2], hull[3], hull[4], 0, 0, hull[5], {0}};
     u64 count = fields / 4 < room / 2 ? fields / 4 : room / 2;
     if (numbers != NUMBERS) return 0;
-    for (int k = 0; k <= MOST_ZONES; k++) h.places[k] = hull[5 + k];
+    for (int k = 0; k <= MOST_ZONES; k++) h.places[k] = hull[6 + k];
     Spans t;
     work_spans(&h, &t);
     for (u64 i = 0; i < count; i++) {

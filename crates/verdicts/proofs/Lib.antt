@@ -1,3 +1,4 @@
 pub mod Marks
+pub mod Required
 pub mod Verdicts
 pub mod Values

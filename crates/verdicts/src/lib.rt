@@ -1,11 +1,13 @@
 // The required index of a cargo ship and of a passenger ship, the mark of each partial index, and the verdict from ends that reach them or do not.
 use records::Ends;
+use records::Hull;
 use records::Ratio;
 use records::Trio;
 ghost use mathlib.Core.Path.{_≡_};
 ghost use Prim.Native.Nat.{_^_, _≤_};
 ghost use Rattle.solas.specs.Index.{R, partialMark, passengerR, passengerMark};
 ghost use Rattle.numbers.specs.Ratio.{Proper, ratioOf};
+ghost use Rattle.verdicts.specs.Required.{Sized, requiredOf, markOf};
 ghost use Rattle.verdicts.specs.Verdict.{reaches, allReach, verdictOf};
 
 // What a whole comes to in billionths.
@@ -62,6 +64,28 @@ pub fn passenger_mark(length: u64, persons: u64) -> Ratio
         num: whole.num * 9,
         den: whole.den * 10,
     }
+}
+
+// What A of a ship must reach, by its hull.
+pub fn required_of(h: Hull) -> Ratio
+    requires { ⌜ Sized h ⌝ }
+    ensures { λ r. ⌜ r ≡ ratioOf (requiredOf h) ⌝ }
+{
+    if h.kind == 6 {
+        return passenger_required(h.length, h.lifeboats + 2 * h.excess);
+    }
+    required(h.length)
+}
+
+// What each of its partial indices must reach.
+pub fn mark_of(h: Hull) -> Ratio
+    requires { ⌜ Sized h ⌝ }
+    ensures { λ r. ⌜ r ≡ ratioOf (markOf h) ⌝ }
+{
+    if h.kind == 6 {
+        return passenger_mark(h.length, h.lifeboats + 2 * h.excess);
+    }
+    partial_mark(h.length)
 }
 
 // An end in billionths is not below the mark. No product of an end from 10⁹ on is made: it reaches every mark.

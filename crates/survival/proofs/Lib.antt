@@ -1,5 +1,5 @@
 pub mod Factors
-pub mod Thirds
+pub mod Parts
 pub mod Bounds
 pub mod Values
 pub mod Telling

@@ -1,7 +1,11 @@
 pub mod Factors
-pub mod Thirds
+pub mod Parts
 pub mod Bounds
 pub mod Values
 pub mod Telling
 pub mod Worse
 pub mod OneOfTwo
+pub mod PassengerValues
+pub mod Portions
+pub mod Passengers
+pub mod Rows

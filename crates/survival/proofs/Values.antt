@@ -10,10 +10,11 @@ use Rattle.roots.specs.Root.{withDigits, rootDown, rootUp}
 use Rattle.records.specs.declared.Finding.{Finding}
 use Rattle.records.specs.declared.Marks.{Marks}
 use Rattle.records.specs.declared.Survival.{Survival}
+use Rattle.records.specs.Results as results
 use Rattle.solas.specs.Survival.{k, s⁴, unlessImmersed}
 use Rattle.numbers.specs.Ratio.{ratioOf}
 use Rattle.survival.specs.Marks.{foundMarks, marksOf}
-use Rattle.survival.specs.Survival.{root, ends, factorOf, scaledOf, roundedOf, survivalOf, worseOf, countsAt, survivalsOf}
+use Rattle.survival.specs.Survival.{root, ends, factorOf, scaledOf, roundedOf, survivalOf, worseOf, countsAt, survivalAt, survivalsOf}
 
 abbrev found : ℕ → ℕ → ℕ → ℤ → Finding
 found lever range heel opening = record { lever = lever; range = range; heel = heel; opening = opening; given = 0 }
@@ -50,14 +51,14 @@ nearly = (refl, refl, refl, refl, refl)
 -- second sets, at three draughts each: both sets round to the same ends, and the exact s⁴ tells which counts, the one or the other; equal s⁴, where the
 -- first set counts, and so its marks; an opening that is immersed in one set alone
 pub second-sets :
-    (survivalsOf 5 (found 120 1587 0 (pos 0) ∷ found 60 1600 0 (pos 0) ∷ found 120 1600 0 (pos 0) ∷ found 119 1600 0 (pos 0) ∷ found 120 800 0 (pos 0) ∷ found 120 1600 0 (negsuc 0) ∷ [])
+    (survivalsOf 5 (results.found (found 120 1587 0 (pos 0) ∷ found 60 1600 0 (pos 0) ∷ found 120 1600 0 (pos 0) ∷ found 119 1600 0 (pos 0) ∷ found 120 800 0 (pos 0) ∷ found 120 1600 0 (negsuc 0) ∷ []))
     ≡ s 9979 9980 true false false false ∷ s 8408 8409 true false false false ∷ s 0 0 false false false true ∷ [])
-    × (survivalsOf 5 (found 119 1600 0 (pos 0) ∷ found 120 800 0 (pos 0) ∷ found 120 1600 0 (negsuc 0) ∷ found 120 1587 0 (pos 0) ∷ found 60 1600 0 (pos 0) ∷ found 120 1600 0 (pos 0) ∷ [])
+    × (survivalsOf 5 (results.found (found 119 1600 0 (pos 0) ∷ found 120 800 0 (pos 0) ∷ found 120 1600 0 (negsuc 0) ∷ found 120 1587 0 (pos 0) ∷ found 60 1600 0 (pos 0) ∷ found 120 1600 0 (pos 0) ∷ []))
     ≡ s 9979 9980 true false false false ∷ s 8408 8409 false true false false ∷ s 0 0 false false false true ∷ [])
-    × (survivalsOf 5 (found 60 800 0 (pos 0) ∷ found 120 1600 0 (pos 0) ∷ found 60 800 0 (pos 0) ∷ found 120 1600 0 (pos 0) ∷ found 120 1600 2995 (pos 0) ∷ found 120 1600 0 (pos 0) ∷ [])
+    × (survivalsOf 5 (results.found (found 60 800 0 (pos 0) ∷ found 120 1600 0 (pos 0) ∷ found 60 800 0 (pos 0) ∷ found 120 1600 0 (pos 0) ∷ found 120 1600 2995 (pos 0) ∷ found 120 1600 0 (pos 0) ∷ []))
     ≡ s 7071 7072 true true false false ∷ s 1000 1000 false false true false ∷ s 7071 7072 true true false false ∷ [])
     × (survivalOf 5 (found 120 1587 0 (pos 0)) ≡ s 9979 9980 false true false false)
-unfolding survivalsOf countsAt worseOf survivalOf factorOf marksOf foundMarks unlessImmersed s⁴ k ratioOf scaledOf roundedOf rootDown rootUp withDigits ceil _≼?_ _⊛_ _less_over_
+unfolding survivalsOf survivalAt countsAt worseOf survivalOf factorOf marksOf foundMarks unlessImmersed s⁴ k ratioOf scaledOf roundedOf rootDown rootUp withDigits ceil _≼?_ _⊛_ _less_over_
 second-sets = (refl, refl, refl, refl)
 
 -- at the cap, and one below or above it; where survival is 0 for another reason the rest is still told

@@ -13,8 +13,9 @@ use Rattle.laws.proofs.FractionCompare.{times-rises, ≼-of-≺}
 use Rattle.laws.proofs.FractionOrder.{ordered, test-passes, test-fails, lesser-first, lesser-second}
 use Rattle.laws.proofs.Tests.{picked}
 use Rattle.records.specs.declared.Finding.{Finding}
+use Rattle.records.specs.Results.{Results}
 use Rattle.survival.specs.Marks.{foundMarks}
-use Rattle.survival.specs.Survival.{root, given, ends, Sensible, marked, factorOf, fourthOf, nothing, noSurvival, survivalOf, worseOf, countsAt, factorsOf, survivalsOf}
+use Rattle.survival.specs.Survival.{root, given, ends, Sensible, marked, factorOf, fourthOf, nothing, noSurvival, survivalOf, worseOf, countsAt, factorAt, survivalAt, factorsOf, survivalsOf}
 use Rattle.survival.specs.Worse.{LesserEnds, LesserHasLesserEnds, LowerCounts, RowCounts, LowerSurvivalCounts}
 -- checked first, so that a definition that counts another result is refused there
 use Rattle.survival.proofs.Values.{second-sets}
@@ -102,34 +103,53 @@ counts-either P kind fs j p q =
     (λ e. worse-either P (getD fs j nothing) (getD fs (3 + j) nothing) p q) (λ e. p)
 
 -- ---- at each of the three draughts
-pub survivals-at : (kind : ℕ) (fs : List Finding) (j : ℕ) → j < 3 → getD (survivalsOf kind fs) j noSurvival ≡ survivalOf kind (countsAt kind fs j)
+pub survivals-at : (kind : ℕ) (rs : Results) (j : ℕ) → j < 3 → getD (survivalsOf kind rs) j noSurvival ≡ survivalAt kind rs j
 unfolding survivalsOf
-survivals-at kind fs zero l = refl
-survivals-at kind fs (suc zero) l = refl
-survivals-at kind fs (suc (suc zero)) l = refl
-survivals-at kind fs (suc (suc (suc j))) l = absurd (omega arith)
+survivals-at kind rs zero l = refl
+survivals-at kind rs (suc zero) l = refl
+survivals-at kind rs (suc (suc zero)) l = refl
+survivals-at kind rs (suc (suc (suc j))) l = absurd (omega arith)
 
-pub factors-at : (kind : ℕ) (fs : List Finding) (j : ℕ) → j < 3 → getD (factorsOf kind fs) j (given 0) ≡ factorOf kind (countsAt kind fs j)
+pub factors-at : (kind : ℕ) (rs : Results) (j : ℕ) → j < 3 → getD (factorsOf kind rs) j (given 0) ≡ factorAt kind rs j
 unfolding factorsOf
-factors-at kind fs zero l = refl
-factors-at kind fs (suc zero) l = refl
-factors-at kind fs (suc (suc zero)) l = refl
-factors-at kind fs (suc (suc (suc j))) l = absurd (omega arith)
+factors-at kind rs zero l = refl
+factors-at kind rs (suc zero) l = refl
+factors-at kind rs (suc (suc zero)) l = refl
+factors-at kind rs (suc (suc (suc j))) l = absurd (omega arith)
 
-module _ (fs : List Finding) (j : ℕ) (l : j < 3) where
-  two : LowerCounts (getD fs j nothing) (getD fs (3 + j) nothing)
-  two = lower-counts (getD fs j nothing) (getD fs (3 + j) nothing)
+-- a cargo ship's row has its findings alone
+module _ (kind : ℕ) (rs : Results) (j : ℕ) (n : kind ≡ 7 → ⊥) where
+  pub cargo-survival : survivalAt kind rs j ≡ survivalOf kind (countsAt kind (rs .findings) j)
+  unfolding survivalAt
+  cargo-survival = rw (ne-eqb kind 7 n) refl
 
-  worse-there : getD (survivalsOf 5 fs) j noSurvival ≡ survivalOf 5 (worseOf (getD fs j nothing) (getD fs (3 + j) nothing))
-  worse-there = survivals-at 5 fs j l ∙ ap (survivalOf 5) (counts-worse fs j)
+  pub cargo-factor : factorAt kind rs j ≡ factorOf kind (countsAt kind (rs .findings) j)
+  unfolding factorAt
+  cargo-factor = rw (ne-eqb kind 7 n) refl
 
-  row-counts : RowCounts fs j
+module _ (rs : Results) (j : ℕ) (l : j < 3) where
+  abbrev first : Finding
+  first = getD (rs .findings) j nothing
+
+  abbrev second : Finding
+  second = getD (rs .findings) (3 + j) nothing
+
+  five-not-seven : _≡_ {A = ℕ} 5 7 → ⊥
+  five-not-seven e = omega arith
+
+  two : LowerCounts first second
+  two = lower-counts first second
+
+  worse-there : getD (survivalsOf 5 rs) j noSurvival ≡ survivalOf 5 (worseOf first second)
+  worse-there = survivals-at 5 rs j l ∙ cargo-survival 5 rs j five-not-seven ∙ ap (survivalOf 5) (counts-worse (rs .findings) j)
+
+  row-counts : RowCounts rs j
   row-counts = record {
     worse = worse-there;
     bottom = ap (λ s. s .bottom) worse-there ∙ two .bottom;
     top = ap (λ s. s .top) worse-there ∙ two .top;
-    exact = factors-at 5 fs j l ∙ ap (factorOf 5) (counts-worse fs j) ∙ five-root (worseOf (getD fs j nothing) (getD fs (3 + j) nothing)) ∙ ap root (two .exact);
-    alone = λ kind n. survivals-at kind fs j l ∙ ap (survivalOf kind) (counts-alone kind fs j n);
+    exact = factors-at 5 rs j l ∙ cargo-factor 5 rs j five-not-seven ∙ ap (factorOf 5) (counts-worse (rs .findings) j) ∙ five-root (worseOf first second) ∙ ap root (two .exact);
+    alone = λ kind n p. survivals-at kind rs j l ∙ cargo-survival kind rs j p ∙ ap (survivalOf kind) (counts-alone kind (rs .findings) j n);
   }
 
 pub lower-survival-counts : LowerSurvivalCounts

@@ -1,4 +1,4 @@
-pub mod Thirds
+pub mod Parts
 pub mod Marks
 pub mod Survival
 pub mod Telling

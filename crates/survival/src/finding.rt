@@ -11,7 +11,7 @@ ghost use mathlib.Core.List.{_++_};
 ghost use Prim.Native.Nat.{_*_, _/_, _^_, _≤_, min};
 ghost use Rattle.solas.specs.Survival.{k, s⁴, immersed, unlessImmersed};
 ghost use Rattle.records.specs.Results.{found};
-ghost use Rattle.survival.specs.Thirds.{Parts, InThirds, thirds};
+ghost use Rattle.survival.specs.Parts.{Parts, InParts, parts};
 ghost use Rattle.survival.specs.Marks.{foundMarks};
 ghost use Rattle.survival.specs.Survival.{scaledOf, roundedOf, survivalOf, worseOf, survivalsOf};
 
@@ -29,8 +29,8 @@ const CAPS: u64 = LEVER * RANGE;
 
 const FALL: u64 = (LOST - UPRIGHT) * (LOST - UPRIGHT);
 
-// 3·10¹⁶, the thirds of 10⁻¹⁶ that make one: whatever s⁴ is divided by goes into it without a rest.
-const THIRDS: u64 = 30_000_000_000_000_000;
+// 168·10¹⁶, the 168ths of 10⁻¹⁶ that make one: whatever s⁴ is divided by, of either ship type, goes into it without a rest.
+const PARTS: u64 = 1_680_000_000_000_000_000;
 
 // 10¹⁶ times a fraction, rounded down and up.
 struct Multiple {
@@ -39,41 +39,42 @@ struct Multiple {
 }
 
 // A fourth root in ten-thousandths, rounded down and up.
-struct Roots {
-    bottom: u64,
-    top: u64,
+pub struct Roots {
+    pub bottom: u64,
+    pub top: u64,
 }
 
-fn lesser(a: u64, b: u64) -> u64
+// The lesser of two numbers.
+pub fn lesser(a: u64, b: u64) -> u64
     ensures { λ r. ⌜ r ≡ min a b ⌝ }
 {
     if a <= b { a } else { b }
 }
 
-// k of a heel in hundredths of a degree, in parts so small that lever times range times k comes to thirds of 10⁻¹⁶.
+// k of a heel in hundredths of a degree, in parts so small that lever times range times k comes to 168ths of 10⁻¹⁶.
 fn heel_factor(heel: u64) -> u64
-    ensures { λ r. ⌜ Parts (3 * 10 ^ 16 / (120 * 1600)) (k heel) r ⌝ }
+    ensures { λ r. ⌜ Parts (168 * 10 ^ 16 / (120 * 1600)) (k heel) r ⌝ }
 {
     if heel <= UPRIGHT {
-        return THIRDS / CAPS;
+        return PARTS / CAPS;
     }
     if heel >= LOST {
         return 0;
     }
     let left = LOST - heel;
-    left * left * (THIRDS / (CAPS * FALL))
+    left * left * (PARTS / (CAPS * FALL))
 }
 
 // Whether an opening at a height above the final waterline in millimetres is immersed: at 0 it is not yet.
-fn is_immersed(opening: i64) -> bool
+pub fn is_immersed(opening: i64) -> bool
     ensures { λ r. ⌜ r ≡ immersed opening ⌝ }
 {
     opening < 0
 }
 
-// s⁴ of what was found, exactly, in thirds of 10⁻¹⁶: nothing where the opening is immersed.
+// s⁴ of what was found, exactly, in 168ths of 10⁻¹⁶: nothing where the opening is immersed.
 fn fourth(lever: u64, range: u64, heel: u64, opening: i64) -> u64
-    ensures { λ r. ⌜ InThirds (unlessImmersed opening (s⁴ lever range heel)) r ⌝ }
+    ensures { λ r. ⌜ InParts (unlessImmersed opening (s⁴ lever range heel)) r ⌝ }
 {
     if is_immersed(opening) {
         return 0;
@@ -84,20 +85,20 @@ fn fourth(lever: u64, range: u64, heel: u64, opening: i64) -> u64
     g * t * k
 }
 
-// 10¹⁶ times so many thirds of 10⁻¹⁶.
+// 10¹⁶ times so many 168ths of 10⁻¹⁶.
 fn scaled(n: u64) -> Multiple
-    ensures { λ r. ⌜ r ≡ scaledOf (thirds n) ⌝ }
+    ensures { λ r. ⌜ r ≡ scaledOf (parts n) ⌝ }
 {
     Multiple {
-        down: n / 3,
-        up: ceiling(n, 3),
+        down: n / 168,
+        up: ceiling(n, 168),
     }
 }
 
-// The fourth root of so many thirds in ten-thousandths: the greatest not above it, the least not below.
-fn rounded(n: u64) -> Roots
-    requires { ⌜ n ≤ 3 * 10 ^ 16 ⌝ }
-    ensures { λ r. ⌜ r ≡ roundedOf (thirds n) ⌝ }
+// The fourth root of so many 168ths of 10⁻¹⁶ in ten-thousandths: the greatest not above it, the least not below.
+pub fn rounded(n: u64) -> Roots
+    requires { ⌜ n ≤ 168 * 10 ^ 16 ⌝ }
+    ensures { λ r. ⌜ r ≡ roundedOf (parts n) ⌝ }
 {
     if n == 0 {
         return Roots { bottom: 0, top: 0 };

@@ -7,7 +7,7 @@ use native.Mathlib.Omega.{arith}
 use mir.Syntax.{w64}
 use mir.ValLaws.{toZ-ofZ}
 use Rattle.solas.proofs.Survival.{lost-if-immersed, kept-if-dry}
-use Rattle.survival.proofs.Thirds.{fourth-thirds, nothing-thirds}
+use Rattle.survival.proofs.Parts.{fourth-parts, nothing-parts}
 use Rattle.survival.proofs.finding.fourth.Statement.{statement}
 use Rattle.survival.proofs.finding.fourth.Tie as tie
 
@@ -18,7 +18,7 @@ returns : tie.Need-returns
 returns c =
     let s = c .before .before in
     let i = rw (toZ-ofZ w64 (s .args .opening) (s .fits .opening)) at (c .before .is-immersed .ensures) in
-    rw (lost-if-immersed (s .args .opening) _ (sym i ∙ c .if1 .taken)) nothing-thirds
+    rw (lost-if-immersed (s .args .opening) _ (sym i ∙ c .if1 .taken)) nothing-parts
 
 lesser-requires : tie.Need-lesser-requires
 lesser-requires c κs = search needs
@@ -47,7 +47,7 @@ returns-2 c =
     let s = dry .before .before in
     let i = rw (toZ-ofZ w64 (s .args .opening) (s .fits .opening)) at (dry .before .is-immersed .ensures) in
     rw (kept-if-dry (s .args .opening) _ (sym i ∙ dry .if1 .left), c .before .before .lesser .ensures, c .before .lesser2 .ensures)
-    (fourth-thirds (s .args .lever) (s .args .range) (s .args .heel) (c .heel-factor .ensures))
+    (fourth-parts (s .args .lever) (s .args .range) (s .args .heel) (c .heel-factor .ensures))
 
 pub fourth-spec : {M : Type 1} → statement M
 fourth-spec =

@@ -3,7 +3,7 @@ use borrow.Author.Needs.{needs}
 use Prim.Native.Nat.{ℕ, _-_, _*_, _≤_, _<_}
 use native.Mathlib.Nat.{mul-le-mul}
 use native.Mathlib.Omega.{arith}
-use Rattle.survival.proofs.Thirds.{heel-parts}
+use Rattle.survival.proofs.Parts.{heel-parts}
 use Rattle.survival.proofs.finding.heel_factor.Statement.{statement}
 use Rattle.survival.proofs.finding.heel_factor.Tie as tie
 

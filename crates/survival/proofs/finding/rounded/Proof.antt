@@ -6,7 +6,7 @@ use Rattle.roots.proofs.Root.{below-next}
 use Rattle.roots.proofs.RootValue.{down-value, up-value}
 use Rattle.survival.specs.Survival.{roundedOf}
 use Rattle.survival.proofs.Factors.{same-roots}
-use Rattle.survival.proofs.Thirds.{nothing-rounded, scaled-fits, scaled-near}
+use Rattle.survival.proofs.Parts.{nothing-rounded, scaled-fits, scaled-near}
 use Rattle.survival.proofs.finding.rounded.Statement.{statement}
 use Rattle.survival.proofs.finding.rounded.Tie as tie
 

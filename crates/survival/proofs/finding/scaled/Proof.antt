@@ -1,8 +1,8 @@
--- `survival::finding::scaled` meets its contract: a third of the thirds is 10¹⁶ times the fraction, however it is rounded. Assumes nothing.
+-- `survival::finding::scaled` meets its contract: a 168th of the parts is 10¹⁶ times the fraction, however it is rounded. Assumes nothing.
 use borrow.Author.Needs.{needs}
 use mathlib.Core.Path.{refl, sym, _∙_}
 use Rattle.survival.proofs.Factors.{same-multiple}
-use Rattle.survival.proofs.Thirds.{scaled-thirds}
+use Rattle.survival.proofs.Parts.{scaled-parts}
 use Rattle.survival.proofs.finding.scaled.Statement.{statement}
 use Rattle.survival.proofs.finding.scaled.Tie as tie
 
@@ -10,7 +10,7 @@ ceiling-requires : tie.Need-ceiling-requires
 ceiling-requires c κs = search needs
 
 returns : tie.Need-returns
-returns c = same-multiple refl (c .ceiling .ensures) ∙ sym (scaled-thirds (c .before .args .n))
+returns c = same-multiple refl (c .ceiling .ensures) ∙ sym (scaled-parts (c .before .args .n))
 
 pub scaled-spec : {M : Type 1} → statement M
 scaled-spec = tie.close (tie.spec ceiling-requires returns)

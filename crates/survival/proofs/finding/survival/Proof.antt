@@ -6,7 +6,7 @@ use mir.ValLaws.{toZ-ofZ}
 use borrow.Author.Needs.{needs}
 use Rattle.survival.specs.Survival.{marked}
 use Rattle.survival.proofs.Factors.{as-given, as-found}
-use Rattle.survival.proofs.Thirds.{rounded-thirds}
+use Rattle.survival.proofs.Parts.{rounded-parts}
 use Rattle.survival.proofs.finding.survival.Statement.{statement}
 use Rattle.survival.proofs.finding.survival.Tie as tie
 
@@ -27,7 +27,7 @@ returns-2 c =
     let else = c .before .before .before in
     let s = else .before in
     let back = toZ-ofZ w64 (s .args .opening) (s .fits .opening) in
-    ap₂ marked (c .before .rounded .ensures ∙ rounded-thirds (rw back at (c .before .before .fourth .ensures))) (rw back at (c .marks .ensures)) ∙ sym (as-found (s .args .kind) _ (else .if1 .left))
+    ap₂ marked (c .before .rounded .ensures ∙ rounded-parts (rw back at (c .before .before .fourth .ensures))) (rw back at (c .marks .ensures)) ∙ sym (as-found (s .args .kind) _ (else .if1 .left))
 
 pub survival-spec : {M : Type 1} → statement M
 survival-spec =

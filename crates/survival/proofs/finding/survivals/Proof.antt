@@ -1,7 +1,7 @@
 -- `survival::finding::survivals` meets its contract, draught by draught. Assumes nothing.
 use borrow.Author.Needs.{needs}
 use Prim.Native.Nat.{ℕ, _^_, _<_}
-use mathlib.Core.Path.{_≡_}
+use mathlib.Core.Path.{_≡_, ap, sym, _∙_}
 use mathlib.Core.List.{List, [], _∷_}
 use lib.ListN.{getD}
 use lib.Signed.{mag}
@@ -11,8 +11,9 @@ use mir.ValLaws.{toZ-ofZ}
 use Rattle.laws.proofs.Lists.{three-same}
 use Rattle.records.specs.declared.Finding.{Finding}
 use Rattle.records.specs.declared.Survival.{Survival}
-use Rattle.survival.specs.Survival.{nothing, survivalOf, survivalsOf}
-use Rattle.survival.proofs.Worse.{counts-alone}
+use Rattle.records.specs.Results.{found}
+use Rattle.survival.specs.Survival.{nothing, survivalOf, survivalAt, survivalsOf}
+use Rattle.survival.proofs.Worse.{cargo-survival, counts-alone}
 use Rattle.survival.proofs.finding.survivals.Statement.{statement}
 use Rattle.survival.proofs.finding.survivals.Tie as tie
 
@@ -39,10 +40,15 @@ of-record : (kind : ℕ) (f : Finding) {s : Survival} → mag (f .opening) < 2 ^
     s ≡ survivalOf kind (record { lever = f .lever; range = f .range; heel = f .heel; opening = toZ w64 (ofZ w64 (f .opening)); given = f .given }) → s ≡ survivalOf kind f
 of-record kind f h e = let back = toZ-ofZ w64 (f .opening) (record { sfits = h }) in rw back at e
 
-in-order : (kind : ℕ) (fs : List Finding) {s p l : Survival} → (kind ≡ 5 → ⊥) →
-    s ≡ survivalOf kind (getD fs 0 nothing) → p ≡ survivalOf kind (getD fs 1 nothing) → l ≡ survivalOf kind (getD fs 2 nothing) → (s ∷ p ∷ l ∷ []) ≡ survivalsOf kind fs
-unfolding survivalsOf
-in-order kind fs n e f g = rw (counts-alone kind fs 0 n, counts-alone kind fs 1 n, counts-alone kind fs 2 n) (three-same e f g)
+module _ (kind : ℕ) (fs : List Finding) (n : (kind ≡ 5 → ⊥) × (kind ≡ 7 → ⊥)) where
+  -- at draught j
+  alone : (j : ℕ) → survivalAt kind (found fs) j ≡ survivalOf kind (getD fs j nothing)
+  alone j = cargo-survival kind (found fs) j (n .1) ∙ ap (survivalOf kind) (counts-alone kind fs j (n .0))
+
+  in-order : {s p l : Survival} → s ≡ survivalOf kind (getD fs 0 nothing) → p ≡ survivalOf kind (getD fs 1 nothing) → l ≡ survivalOf kind (getD fs 2 nothing) →
+      (s ∷ p ∷ l ∷ []) ≡ survivalsOf kind (found fs)
+  unfolding survivalsOf
+  in-order e f g = three-same (e ∙ sym (alone 0)) (f ∙ sym (alone 1)) (g ∙ sym (alone 2))
 
 returns : tie.Need-returns
 returns c =

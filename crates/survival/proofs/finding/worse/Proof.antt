@@ -1,4 +1,4 @@
--- `survival::finding::worse` meets its contract: the lesser of both numbers of thirds is the s⁴ that counts, and tells whose marks count. Assumes nothing.
+-- `survival::finding::worse` meets its contract: the lesser of both numbers of parts is the s⁴ that counts, and tells whose marks count. Assumes nothing.
 use borrow.Author.Needs.{needs}
 use Prim.Native.Nat.{ℕ, _^_, _≤_, _<_, min}
 use mathlib.Core.Path.{_≡_, ap, ap₂, sym, _∙_}
@@ -12,12 +12,12 @@ use Rattle.records.specs.declared.Finding.{Finding}
 use Rattle.records.specs.declared.Marks.{Marks}
 use Rattle.solas.specs.Survival.{s⁴, unlessImmersed}
 use Rattle.numbers.specs.Ratio.{ratioOf}
-use Rattle.survival.specs.Thirds.{InThirds, thirds}
+use Rattle.survival.specs.Parts.{InParts, parts}
 use Rattle.survival.specs.Marks.{foundMarks}
 use Rattle.survival.specs.Survival.{fourthOf, roundedOf, marked, survivalOf, worseOf}
 use Rattle.survival.specs.declared.finding.Roots.{Roots}
 use Rattle.survival.proofs.Factors.{as-found}
-use Rattle.survival.proofs.Thirds.{thirds-below, thirds-strictly-below, lesser-thirds, rounded-thirds}
+use Rattle.survival.proofs.Parts.{parts-below, parts-strictly-below, lesser-parts, rounded-parts}
 use Rattle.survival.proofs.Worse.{worse-first, worse-second, worse-exact}
 use Rattle.survival.proofs.finding.worse.Statement.{statement}
 use Rattle.survival.proofs.finding.worse.Tie as tie
@@ -27,7 +27,7 @@ abbrev inMachine : ℤ → ℤ
 inMachine o = toZ w64 (ofZ w64 o)
 
 abbrev Fourth : Finding → ℕ → Type 0
-Fourth f n = InThirds (unlessImmersed (inMachine (f .opening)) (s⁴ (f .lever) (f .range) (f .heel))) n
+Fourth f n = InParts (unlessImmersed (inMachine (f .opening)) (s⁴ (f .lever) (f .range) (f .heel))) n
 
 abbrev Marked : Finding → Marks → Type 0
 Marked f m = m ≡ foundMarks (f .lever) (f .range) (f .heel) (inMachine (f .opening))
@@ -40,19 +40,19 @@ marksIn f = foundMarks (f .lever) (f .range) (f .heel) (f .opening)
 
 -- ---- two of them, and what is made of the lesser
 module _ (f g : Finding) (p : mag (f .opening) < 2 ^ 63) (q : mag (g .opening) < 2 ^ 63) {a b : ℕ} (h : Fourth f a) (k : Fourth g b)
-    {n : ℕ} {r : Roots} (e : n ≡ min a b) (s : r ≡ roundedOf (thirds n)) where
+    {n : ℕ} {r : Roots} (e : n ≡ min a b) (s : r ≡ roundedOf (parts n)) where
   roots : r ≡ roundedOf (ratioOf (fourthOf (worseOf f g)))
   roots =
-      s ∙ ap (λ n. roundedOf (thirds n)) e ∙ rounded-thirds (lesser-thirds (rw (held f p) at h) (rw (held g q) at k)) ∙ ap (λ x. roundedOf (ratioOf x)) (sym (worse-exact f g))
+      s ∙ ap (λ n. roundedOf (parts n)) e ∙ rounded-parts (lesser-parts (rw (held f p) at h) (rw (held g q) at k)) ∙ ap (λ x. roundedOf (ratioOf x)) (sym (worse-exact f g))
 
   with-marks : {m : Marks} → m ≡ marksIn (worseOf f g) → marked r m ≡ survivalOf 5 (worseOf f g)
   with-marks i = ap₂ marked roots i ∙ sym (as-found 5 (worseOf f g) (λ l. omega arith))
 
   first : {m : Marks} → a ≤ b → Marked f m → marked r m ≡ survivalOf 5 (worseOf f g)
-  first l i = with-marks (rw (held f p) at i ∙ ap marksIn (sym (worse-first f g (thirds-below (rw (held f p) at h) (rw (held g q) at k) l))))
+  first l i = with-marks (rw (held f p) at i ∙ ap marksIn (sym (worse-first f g (parts-below (rw (held f p) at h) (rw (held g q) at k) l))))
 
   second : {m : Marks} → b < a → Marked g m → marked r m ≡ survivalOf 5 (worseOf f g)
-  second l i = with-marks (rw (held g q) at i ∙ ap marksIn (sym (worse-second f g (thirds-strictly-below (rw (held f p) at h) (rw (held g q) at k) l))))
+  second l i = with-marks (rw (held g q) at i ∙ ap marksIn (sym (worse-second f g (parts-strictly-below (rw (held f p) at h) (rw (held g q) at k) l))))
 
 fourth-requires : tie.Need-fourth-requires
 fourth-requires c κs = search needs

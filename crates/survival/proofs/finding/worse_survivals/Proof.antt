@@ -1,15 +1,17 @@
 -- `survival::finding::worse_survivals` meets its contract, draught by draught. Assumes nothing.
 use borrow.Author.Needs.{needs}
-use Prim.Native.Nat.{ℕ}
-use mathlib.Core.Path.{_≡_}
+use Prim.Native.Nat.{ℕ, _<_}
+use native.Mathlib.Omega.{arith}
+use mathlib.Core.Path.{_≡_, ap, sym, _∙_}
 use mathlib.Core.List.{List, [], _∷_, _++_}
 use lib.Dec.{lit<}
 use lib.ListN.{length, getD}
 use Rattle.laws.proofs.Lists.{three-same}
 use Rattle.records.specs.declared.Finding.{Finding}
 use Rattle.records.specs.declared.Survival.{Survival}
-use Rattle.survival.specs.Survival.{nothing, survivalOf, worseOf, survivalsOf}
-use Rattle.survival.proofs.Worse.{counts-of-two}
+use Rattle.records.specs.Results.{found}
+use Rattle.survival.specs.Survival.{nothing, survivalOf, worseOf, survivalAt, survivalsOf}
+use Rattle.survival.proofs.Worse.{cargo-survival, counts-of-two}
 use Rattle.survival.proofs.finding.worse_survivals.Statement.{statement}
 use Rattle.survival.proofs.finding.worse_survivals.Tie as tie
 
@@ -45,10 +47,12 @@ module _ (first second : List Finding) (n : length first ≡ 3) where
   abbrev worseAt : ℕ → Survival
   worseAt j = survivalOf 5 (worseOf (getD first j nothing) (getD second j nothing))
 
-  in-order : {s p l : Survival} → s ≡ worseAt 0 → p ≡ worseAt 1 → l ≡ worseAt 2 → (s ∷ p ∷ l ∷ []) ≡ survivalsOf 5 (first ++ second)
+  there : (j : ℕ) → j < 3 → survivalAt 5 (found (first ++ second)) j ≡ worseAt j
+  there j l = cargo-survival 5 (found (first ++ second)) j (λ e. omega arith) ∙ ap (survivalOf 5) (counts-of-two first second j n l)
+
+  in-order : {s p l : Survival} → s ≡ worseAt 0 → p ≡ worseAt 1 → l ≡ worseAt 2 → (s ∷ p ∷ l ∷ []) ≡ survivalsOf 5 (found (first ++ second))
   unfolding survivalsOf
-  in-order e f g =
-      rw (counts-of-two first second 0 n (lit< tt), counts-of-two first second 1 n (lit< tt), counts-of-two first second 2 n (lit< tt)) (three-same e f g)
+  in-order e f g = three-same (e ∙ sym (there 0 (lit< tt))) (f ∙ sym (there 1 (lit< tt))) (g ∙ sym (there 2 (lit< tt)))
 
 returns : tie.Need-returns
 returns c =

@@ -1,12 +1,17 @@
--- Fields worked out, at which a low byte first is refused, and a sign that is dropped or changes elsewhere. Assumes nothing.
+-- Fields worked out, at which a low byte or a low word first is refused, and a sign that is dropped or changes elsewhere. Assumes nothing.
 use mathlib.Core.Path.{_≡_, refl}
 use mathlib.Core.List.{[], _∷_}
 use lib.IntN.{pos, negsuc}
-use Rattle.fields.specs.Fields.{wordAt, signed, unsigned, signedAt}
+use Rattle.fields.specs.Fields.{wordAt, longAt, signed, unsigned, signedAt}
 
 pub count-high-first : wordAt (15 ∷ 1 ∷ 3 ∷ []) 1 ≡ 259
 unfolding wordAt
 count-high-first = refl
+
+-- 2,000,000 is 00 1e 84 80
+pub four-high-first : longAt (0 ∷ 30 ∷ 132 ∷ 128 ∷ []) 0 ≡ 2000000
+unfolding longAt wordAt
+four-high-first = refl
 
 -- 65,535 is -1, 32,768 the least and 32,767 the greatest; and back
 pub either-sign :

@@ -9,7 +9,7 @@ use Rattle.laws.specs.Bytes.{Octets, bytes}
 use Rattle.laws.proofs.Bytes.{two-bytes}
 use Rattle.fields.specs.Fields.{byteAt, wordAt}
 -- checked first, so that a definition that gives another number is refused there
-use Rattle.fields.proofs.Examples.{count-high-first, either-sign}
+use Rattle.fields.proofs.Examples.{count-high-first, four-high-first, either-sign}
 
 pub octets-drop : (k : ℕ) (f : List ℕ) → Octets f → Octets (drop k f)
 octets-drop k f o i = rw (getD-drop k f i 0) (o (k + i))

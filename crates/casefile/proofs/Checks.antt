@@ -36,8 +36,8 @@ first-passed k t cs e = rw e refl
 pub record HullPasses (l : Line) : Type 0 where
   pub written : badlyWritten l ≡ false
   pub frame : wrongHullFrame (pairs (l .text)) ≡ false
-  pub sizes : sizesFit (hullOf (fieldsOf (pairs (l .text)))) ≡ true
-  pub zones : wrongZones (pairs (l .text)) (hullOf (fieldsOf (pairs (l .text)))) ≡ false
+  pub sizes : sizesFit (hullOf (kindOf (pairs (l .text))) (fieldsOf (pairs (l .text)))) ≡ true
+  pub zones : wrongZones (pairs (l .text)) (hullOf (kindOf (pairs (l .text))) (fieldsOf (pairs (l .text)))) ≡ false
 
 pub record RowPasses (h : Hull) (p : Progress) (r : Row) : Type 0 where
   pub few : p .rows < mostRows
@@ -50,10 +50,10 @@ pub record EndPasses (h : Hull) (p : Progress) (count : ℕ) : Type 0 where
   pub closed : endsOpen h (p .last) ≡ false
 
 -- before the checks of its own kind
-pub record LinePasses (p : Progress) (l : Line) : Type 0 where
+pub record LinePasses (h : Hull) (p : Progress) (l : Line) : Type 0 where
   pub going : p .ended ≡ false
   pub written : badlyWritten l ≡ false
-  pub frame : wrongFrame (pairs (l .text)) ≡ false
+  pub frame : wrongFrame (h .kind) (pairs (l .text)) ≡ false
 
 module _ (l : Line) where
   pub hull-passes : firstHolds (hullChecks l) ≡ 0 → HullPasses l
@@ -98,7 +98,7 @@ module _ (h : Hull) (p : Progress) where
     abbrev own : List Check
     own = cond (isRow (kindOf (pairs (l .text)))) (rowChecks h p (rowOf (pairs (l .text)))) (endChecks h p (countOf (pairs (l .text))))
 
-    pub passes-first : firstHolds (lineChecks h p l) ≡ 0 → LinePasses p l × (firstHolds own ≡ 0)
+    pub passes-first : firstHolds (lineChecks h p l) ≡ 0 → LinePasses h p l × (firstHolds own ≡ 0)
     unfolding lineChecks
     passes-first e =
         let (g, e1) = first-fails _ _ _ (λ z. omega arith) e in
@@ -106,18 +106,18 @@ module _ (h : Hull) (p : Progress) where
         let (f, e3) = first-fails _ _ _ (λ z. omega arith) e2 in
         (record { going = g; written = w; frame = f }, e3)
 
-    pub passed-first : LinePasses p l → firstHolds (lineChecks h p l) ≡ firstHolds own
+    pub passed-first : LinePasses h p l → firstHolds (lineChecks h p l) ≡ firstHolds own
     unfolding lineChecks firstHolds
     passed-first q = rw (q .going, q .written, q .frame) refl
 
-    pub line-of-row : firstHolds (lineChecks h p l) ≡ 0 → isRow (kindOf (pairs (l .text))) ≡ true → LinePasses p l × RowPasses h p (rowOf (pairs (l .text)))
+    pub line-of-row : firstHolds (lineChecks h p l) ≡ 0 → isRow (kindOf (pairs (l .text))) ≡ true → LinePasses h p l × RowPasses h p (rowOf (pairs (l .text)))
     line-of-row e k = let (q, o) = passes-first e in (q, row-passes (rowOf (pairs (l .text))) (rw k at o))
 
-    pub line-of-end : firstHolds (lineChecks h p l) ≡ 0 → isRow (kindOf (pairs (l .text))) ≡ false → LinePasses p l × EndPasses h p (countOf (pairs (l .text)))
+    pub line-of-end : firstHolds (lineChecks h p l) ≡ 0 → isRow (kindOf (pairs (l .text))) ≡ false → LinePasses h p l × EndPasses h p (countOf (pairs (l .text)))
     line-of-end e k = let (q, o) = passes-first e in (q, end-passes (countOf (pairs (l .text))) (rw k at o))
 
-    pub row-line-passes : LinePasses p l → isRow (kindOf (pairs (l .text))) ≡ true → RowPasses h p (rowOf (pairs (l .text))) → firstHolds (lineChecks h p l) ≡ 0
+    pub row-line-passes : LinePasses h p l → isRow (kindOf (pairs (l .text))) ≡ true → RowPasses h p (rowOf (pairs (l .text))) → firstHolds (lineChecks h p l) ≡ 0
     row-line-passes q k r = passed-first q ∙ rw k (row-passed (rowOf (pairs (l .text))) r)
 
-    pub end-line-passes : LinePasses p l → isRow (kindOf (pairs (l .text))) ≡ false → EndPasses h p (countOf (pairs (l .text))) → firstHolds (lineChecks h p l) ≡ 0
+    pub end-line-passes : LinePasses h p l → isRow (kindOf (pairs (l .text))) ≡ false → EndPasses h p (countOf (pairs (l .text))) → firstHolds (lineChecks h p l) ≡ 0
     end-line-passes q k r = passed-first q ∙ rw k (end-passed (countOf (pairs (l .text))) r)

@@ -1,10 +1,10 @@
 -- The limits as orders between numbers: what a hull, a row's head and a result that fit are within. Assumes nothing.
 use Prim.Native.Nat.{ℕ, zero, suc, _+_, _-_, _/_, _%_, _≤_, _<_, zero-le}
 use mathlib.Core.Path.{_≡_}
-use mathlib.Core.Bool.{Bool, true, _&&_}
+use mathlib.Core.Bool.{Bool, true, false, cond, _&&_}
 use mathlib.Core.List.{List, [], _∷_}
 use mathlib.Core.Logic.{⊎-elim}
-use native.Mathlib.Nat.{le-of-suc-le-suc, eq-or-lt-of-le}
+use native.Mathlib.Nat.{le-of-suc-le-suc, le-trans, eq-or-lt-of-le}
 use native.Mathlib.Numerals.{add-one}
 use native.Mathlib.Omega.{arith}
 use lib.Dec.{leb, ltb, eqb}
@@ -17,9 +17,11 @@ use Rattle.laws.proofs.Rising.{places-rise}
 use Rattle.laws.proofs.Tests.{both}
 use Rattle.records.specs.declared.Hull.{Hull}
 use Rattle.records.specs.declared.Finding.{Finding}
+use Rattle.records.specs.declared.Flooding.{Flooding}
 use Rattle.records.specs.declared.RowHead.{RowHead}
+use Rattle.records.specs.Results.{Results}
 use Rattle.casefile.specs.Record.{Row}
-use Rattle.casefile.specs.Limits.{between, sizesFit, risingTo, zonesFit, headFits, openingFits, findingFits, findingsFit, rowFits}
+use Rattle.casefile.specs.Limits.{between, shortestShip, narrowestShip, sizesFit, risingTo, zonesFit, headFits, openingFits, findingFits, findingsFit, floodingFits, floodingsFit, resultsFit, rowFits}
 -- checked first, so that a definition that reads a worked file otherwise is refused there
 use Rattle.casefile.proofs.Examples.{printed-accepted}
 
@@ -27,38 +29,68 @@ pub between-is : (low high x : ℕ) → between low high x ≡ true → (low ≤
 unfolding between
 between-is low high x e = let (l, h) = both (leb low x) (leb x high) e in (leb-true low x l, leb-true x high h)
 
+-- what a ship's kind sets, and what holds of either kind
 pub record Sizes (h : Hull) : Type 0 where
-  pub long : 8000 ≤ h .length
+  pub long-of-kind : shortestShip (h .kind) ≤ h .length
+  pub long : 2000 ≤ h .length
   pub short : h .length ≤ 19800
   pub even : h .breadth % 2 ≡ 0
-  pub broad : 1000 ≤ h .breadth
+  pub broad-of-kind : narrowestShip (h .kind) ≤ h .breadth
+  pub broad : 400 ≤ h .breadth
   pub narrow : h .breadth ≤ 6000
   pub deep : 1000 ≤ h .deepest
   pub shallow : h .deepest ≤ 30000
   pub laden : 500 ≤ h .light
   pub lighter : h .light ≤ h .deepest
   pub fifths : (h .deepest - h .light) % 5 ≡ 0
+  pub lifeboats : h .lifeboats ≤ 10000
+  pub excess : h .excess ≤ 10000
+
+either-long : (t : Bool) → 2000 ≤ cond t 2000 8000
+either-long true = omega arith
+either-long false = omega arith
+
+either-broad : (t : Bool) → 400 ≤ cond t 400 1000
+either-broad true = omega arith
+either-broad false = omega arith
 
 pub sizes-are : (h : Hull) → sizesFit h ≡ true → Sizes h
 unfolding sizesFit
 sizes-are h e =
-    let (e1, dl) = both _ (between 500 (h .deepest) (h .light) && eqb ((h .deepest - h .light) % 5) 0) e in
+    let least : ℕ = shortestShip (h .kind) in
+    let slim : ℕ = narrowestShip (h .kind) in
+    let (e0, ps) = both _ (leb (h .lifeboats) 10000 && leb (h .excess) 10000) e in
+    let (e1, dl) = both _ (between 500 (h .deepest) (h .light) && eqb ((h .deepest - h .light) % 5) 0) e0 in
     let (e2, ds) = both _ (between 1000 30000 (h .deepest)) e1 in
-    let (ls, bb) = both (between 8000 19800 (h .length)) (eqb (h .breadth % 2) 0 && between 1000 6000 (h .breadth)) e2 in
-    let (b1, b2) = both (eqb (h .breadth % 2) 0) (between 1000 6000 (h .breadth)) bb in
+    let (ls, bb) = both (between least 19800 (h .length)) (eqb (h .breadth % 2) 0 && between slim 6000 (h .breadth)) e2 in
+    let (b1, b2) = both (eqb (h .breadth % 2) 0) (between slim 6000 (h .breadth)) bb in
     let (d1, d2) = both (between 500 (h .deepest) (h .light)) (eqb ((h .deepest - h .light) % 5) 0) dl in
+    let (p1, p2) = both (leb (h .lifeboats) 10000) (leb (h .excess) 10000) ps in
+    let (long, short) = between-is least 19800 (h .length) ls in
+    let (broad, narrow) = between-is slim 6000 (h .breadth) b2 in
     record {
-      long = between-is 8000 19800 (h .length) ls .0;
-      short = between-is 8000 19800 (h .length) ls .1;
+      long-of-kind = long;
+      long = le-trans (either-long (eqb (h .kind) 6)) long;
+      short = short;
       even = eqb-true (h .breadth % 2) 0 b1;
-      broad = between-is 1000 6000 (h .breadth) b2 .0;
-      narrow = between-is 1000 6000 (h .breadth) b2 .1;
+      broad-of-kind = broad;
+      broad = le-trans (either-broad (eqb (h .kind) 6)) broad;
+      narrow = narrow;
       deep = between-is 1000 30000 (h .deepest) ds .0;
       shallow = between-is 1000 30000 (h .deepest) ds .1;
       laden = between-is 500 (h .deepest) (h .light) d1 .0;
       lighter = between-is 500 (h .deepest) (h .light) d1 .1;
       fifths = eqb-true ((h .deepest - h .light) % 5) 0 d2;
+      lifeboats = leb-true (h .lifeboats) 10000 p1;
+      excess = leb-true (h .excess) 10000 p2;
     }
+
+-- a cargo ship is from 80 m long and from 10 m broad
+pub cargo-long : (h : Hull) → Sizes h → h .kind ≡ 1 → 8000 ≤ h .length
+cargo-long h s k = rw k at (s .long-of-kind)
+
+pub cargo-broad : (h : Hull) → Sizes h → h .kind ≡ 1 → 1000 ≤ h .breadth
+cargo-broad h s k = rw k at (s .broad-of-kind)
 
 pub record Zones (h : Hull) : Type 0 where
   pub some : 1 ≤ h .zones
@@ -157,8 +189,50 @@ unfolding findingsFit
 findings-are [] e = tt
 findings-are (r ∷ rs) e = let (x, xs) = both (findingFits r) (findingsFit rs) e in (finding-is r x, findings-are rs xs)
 
-pub row-is : (h : Hull) (r : Row) → rowFits h r ≡ true → Head h (r .head) × Every Found (r .results)
+pub record Flooded (w : Flooding) : Type 0 where
+  pub heavy : 1 ≤ w .displacement
+  pub displacement : w .displacement ≤ 300000
+  pub heeled : 1 ≤ w .moment
+  pub moment : w .moment ≤ 2000000
+  pub lever : w .lever ≤ 5000
+  pub range : w .range ≤ 9000
+  pub heel : w .heel ≤ 9000
+  pub roro : w .roro ≤ 1
+
+pub flooding-is : (w : Flooding) → floodingFits w ≡ true → Flooded w
+unfolding floodingFits
+flooding-is w e =
+    let (e1, o) = both _ (leb (w .roro) 1) e in
+    let (e2, c) = both _ (leb (w .lever) 5000 && leb (w .range) 9000 && leb (w .heel) 9000) e1 in
+    let (d, m) = both (between 1 300000 (w .displacement)) (between 1 2000000 (w .moment)) e2 in
+    let (c1, k) = both _ (leb (w .heel) 9000) c in
+    let (g, t) = both (leb (w .lever) 5000) (leb (w .range) 9000) c1 in
+    record {
+      heavy = between-is 1 300000 (w .displacement) d .0;
+      displacement = between-is 1 300000 (w .displacement) d .1;
+      heeled = between-is 1 2000000 (w .moment) m .0;
+      moment = between-is 1 2000000 (w .moment) m .1;
+      lever = leb-true (w .lever) 5000 g;
+      range = leb-true (w .range) 9000 t;
+      heel = leb-true (w .heel) 9000 k;
+      roro = leb-true (w .roro) 1 o;
+    }
+
+pub floodings-are : (ws : List Flooding) → floodingsFit ws ≡ true → Every Flooded ws
+unfolding floodingsFit
+floodings-are [] e = tt
+floodings-are (w ∷ ws) e = let (x, xs) = both (floodingFits w) (floodingsFit ws) e in (flooding-is w x, floodings-are ws xs)
+
+pub results-are : (rs : Results) → resultsFit rs ≡ true → Every Found (rs .findings) × Every Flooded (rs .floodings)
+unfolding resultsFit
+results-are rs e =
+    let (x, y) = both (findingsFit (rs .findings)) (floodingsFit (rs .floodings)) e in
+    (findings-are (rs .findings) x, floodings-are (rs .floodings) y)
+
+-- the head, the findings, and what a passenger ship's row tells besides
+pub row-is : (h : Hull) (r : Row) → rowFits h r ≡ true → Head h (r .head) × Every Found (r .results .findings) × Every Flooded (r .results .floodings)
 unfolding rowFits
 row-is h r e =
-    let (x, xs) = both (headFits h (r .head)) (findingsFit (r .results)) e in
-    (head-is h (r .head) x, findings-are (r .results) xs)
+    let (x, y) = both (headFits h (r .head)) (resultsFit (r .results)) e in
+    let (fs, ws) = results-are (r .results) y in
+    (head-is h (r .head) x, fs, ws)

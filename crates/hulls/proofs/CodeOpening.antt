@@ -1,8 +1,9 @@
 -- Line 1, step by step as the code goes: a hull's number, the record from a buffer that is longer than the line or shorter, the line. Assumes nothing.
 use Prim.Native.Nat.{ℕ, _+_, _*_, _≤_, _<_}
 use mathlib.Core.Path.{_≡_, refl, sym, _∙_, ap}
-use mathlib.Core.Bool.{true, false, not, _&&_, or-true}
+use mathlib.Core.Bool.{Bool, true, false, cond, not, _&&_, or-true}
 use mathlib.Core.List.{List}
+use mathlib.Core.Logic.{_⊎_, inl, inr}
 use native.Mathlib.Omega.{arith}
 use lib.Dec.{leb, eqb}
 use lib.ListN.{length, getD, take, drop, replicate, length-drop}
@@ -19,7 +20,7 @@ use Rattle.fields.specs.Fields.{byteAt, wordAt}
 use Rattle.frames.proofs.CodeDecoding.{well-written, byte-stored}
 use Rattle.casefile.specs.declared.FirstLine.{FirstLine}
 use Rattle.casefile.specs.declared.Frame.{Frame}
-use Rattle.casefile.specs.Layout.{kindOf, fieldsOf, placeOf, hullOf}
+use Rattle.casefile.specs.Layout.{kindOf, fieldsOf, isHull, personsLength, hullLength, shortestHull, placeOf, hullOf}
 use Rattle.casefile.specs.Limits.{between, sizesFit, zonesFit}
 use Rattle.casefile.specs.Table.{firstHolds, wrongHullFrame, wrongZones, hullChecks}
 use Rattle.casefile.specs.Answer.{noHull, givenFirst, refusedFirst, firstJudged}
@@ -39,13 +40,13 @@ module _ (h : Hull) (n : ℕ) where
     zones-wrong e = rw (sizes, e) refl
 
     module _ (zones : zonesFit h ≡ true) where
-      pub length-wrong : (n ≡ 8 + 2 * h .zones → ⊥) → 5 ≡ hullNumber h n
+      pub length-wrong : (n ≡ hullLength (h .kind) (h .zones) → ⊥) → 5 ≡ hullNumber h n
       unfolding hullNumber firstHolds
-      length-wrong f = rw (sizes, zones, ne-eqb n (8 + 2 * h .zones) f) refl
+      length-wrong f = rw (sizes, zones, ne-eqb n (hullLength (h .kind) (h .zones)) f) refl
 
-      pub hull-right : n ≡ 8 + 2 * h .zones → 0 ≡ hullNumber h n
+      pub hull-right : n ≡ hullLength (h .kind) (h .zones) → 0 ≡ hullNumber h n
       unfolding hullNumber firstHolds
-      hull-right e = rw (sizes, zones, eq-eqb n (8 + 2 * h .zones) e) refl
+      hull-right e = rw (sizes, zones, eq-eqb n (hullLength (h .kind) (h .zones)) e) refl
 
 pub few-zones : (h : Hull) → zonesFit h ≡ true → h .zones ≤ 20
 unfolding zonesFit between
@@ -73,41 +74,55 @@ module _ (h g : Hull) (n k : ℕ) (e : h ≡ g) (f : k ≡ hullNumber h n) where
 
 -- ---- the record from a buffer
 
--- what is read lies below 49
-module _ (f g : List ℕ) (same : (i : ℕ) → i < 49 → getD f i 0 ≡ getD g i 0) where
-  word-same : (at : ℕ) → at + 1 < 49 → wordAt f at ≡ wordAt g at
+-- the persons have four bytes at most
+few-more : (kind : ℕ) → personsLength kind ≤ 4
+few-more kind = by (eqb kind 6)
+  where
+    by : (t : Bool) → cond t 4 0 ≤ 4
+    by true = omega arith
+    by false = omega arith
+
+-- what is read lies below 53
+module _ (f g : List ℕ) (same : (i : ℕ) → i < 53 → getD f i 0 ≡ getD g i 0) where
+  word-same : (at : ℕ) → at + 1 < 53 → wordAt f at ≡ wordAt g at
   unfolding wordAt
   word-same at h = rw (same at (omega arith), same (at + 1) h) refl
 
-  place-same : (m L k : ℕ) → k < 21 → placeOf (λ i. wordAt f (7 + 2 * i)) m L k ≡ placeOf (λ i. wordAt g (7 + 2 * i)) m L k
+  place-same : (from m L k : ℕ) → from ≤ 11 → k < 21 → placeOf (λ i. wordAt f (from + 2 * i)) m L k ≡ placeOf (λ i. wordAt g (from + 2 * i)) m L k
   unfolding placeOf
-  place-same m L k h = rw (word-same (7 + 2 * k) (omega arith)) refl
+  place-same from m L k l h = rw (word-same (from + 2 * k) (omega arith)) refl
 
-  pub hull-same : hullOf f ≡ hullOf g
+  pub hull-same : (kind : ℕ) → hullOf kind f ≡ hullOf kind g
   unfolding hullOf
-  hull-same =
+  hull-same kind =
+      let p : ℕ = personsLength kind in
+      let zones : byteAt f (8 + p) ≡ byteAt g (8 + p) = same (8 + p) (omega (arith, few-more kind)) in
+      let places = tabulate-same (placeOf (λ i. wordAt f (7 + p + 2 * i)) (byteAt g (8 + p)) (wordAt g 0)) (placeOf (λ i. wordAt g (7 + p + 2 * i)) (byteAt g (8 + p)) (wordAt g 0)) 21
+          (λ k. place-same (7 + p) (byteAt g (8 + p)) (wordAt g 0) k (omega (arith, few-more kind))) in
       rw (
         word-same 0 (omega arith),
         word-same 2 (omega arith),
         word-same 4 (omega arith),
         word-same 6 (omega arith),
-        same 8 (omega arith),
-        tabulate-same (placeOf (λ i. wordAt f (7 + 2 * i)) (byteAt g 8) (wordAt g 0)) (placeOf (λ i. wordAt g (7 + 2 * i)) (byteAt g 8) (wordAt g 0)) 21 (λ k. place-same (byteAt g 8) (wordAt g 0) k),
+        word-same 8 (omega arith),
+        word-same 10 (omega arith),
+        zones,
+        places,
       )
       refl
 
-module _ (bs out : List ℕ) (e : out ≡ sets (replicate 50 0) 0 bs) where
+module _ (bs out : List ℕ) (e : out ≡ sets (replicate 54 0) 0 bs) where
   pub kind-stored : getD out 0 0 ≡ kindOf bs
-  kind-stored = rw e (byte-stored 50 0 bs (omega arith))
+  kind-stored = rw e (byte-stored 54 0 bs (omega arith))
 
-  all-of-it : take 49 (drop 1 out) ≡ drop 1 out
-  all-of-it = take-all 49 (drop 1 out) (omega (arith, length-drop 1 out, ap length e, length-sets (replicate 50 0) 0 bs))
+  all-of-it : take 53 (drop 1 out) ≡ drop 1 out
+  all-of-it = take-all 53 (drop 1 out) (omega (arith, length-drop 1 out, ap length e, length-sets (replicate 54 0) 0 bs))
 
-  pub hull-stored : hullOf (take 49 (drop 1 out)) ≡ hullOf (fieldsOf bs)
-  hull-stored =
+  pub hull-stored : (kind : ℕ) → hullOf kind (take 53 (drop 1 out)) ≡ hullOf kind (fieldsOf bs)
+  hull-stored kind =
       rw all-of-it
       (hull-same (drop 1 out) (drop 1 bs)
-      (λ i h. getD-drop 1 out i 0 ∙ rw e (byte-stored 50 (1 + i) bs (omega arith)) ∙ sym (getD-drop 1 bs i 0)))
+      (λ i h. getD-drop 1 out i 0 ∙ rw e (byte-stored 54 (1 + i) bs (omega arith)) ∙ sym (getD-drop 1 bs i 0)) kind)
 
 -- ---- the line
 
@@ -121,23 +136,25 @@ module _ (l : Line) where
     unfolding firstJudged firstHolds hullChecks
     wrong e = rw (written, e) refl
 
-    right : wrongHullFrame (pairs (l .text)) ≡ false → hullJudged (hullOf (fieldsOf (pairs (l .text)))) (length (pairs (l .text))) ≡ firstJudged l
+    right : wrongHullFrame (pairs (l .text)) ≡ false
+        → hullJudged (hullOf (kindOf (pairs (l .text))) (fieldsOf (pairs (l .text)))) (length (pairs (l .text))) ≡ firstJudged l
     unfolding firstJudged hullJudged hullNumber hullChecks wrongZones
     right e = rw (first-passed 2 (badlyWritten l) _ written, first-passed 3 (wrongHullFrame (pairs (l .text))) _ e) refl
 
 -- a frame that is none of a hull
 module _ (bs : List ℕ) where
-  too-short : length bs < 10 → wrongHullFrame bs ≡ true
+  too-short : length bs < shortestHull (kindOf bs) → wrongHullFrame bs ≡ true
   unfolding wrongHullFrame
-  too-short h = rw (lt-ltb (length bs) 10 h) (or-true (not (eqb (kindOf bs) 1)))
+  too-short h = rw (lt-ltb (length bs) (shortestHull (kindOf bs)) h) (or-true (not (isHull (kindOf bs))))
 
-  other-kind : (kindOf bs ≡ 1 → ⊥) → wrongHullFrame bs ≡ true
+  other-kind : ((kindOf bs ≡ 1) ⊎ (kindOf bs ≡ 6) → ⊥) → wrongHullFrame bs ≡ true
   unfolding wrongHullFrame
-  other-kind f = rw (ne-eqb (kindOf bs) 1 f) refl
+  other-kind f = rw (ne-eqb (kindOf bs) 1 (λ e. f (inl e)), ne-eqb (kindOf bs) 6 (λ e. f (inr e))) refl
 
-  hull-frame : 10 ≤ length bs → kindOf bs ≡ 1 → wrongHullFrame bs ≡ false
+  hull-frame : shortestHull (kindOf bs) ≤ length bs → (kindOf bs ≡ 1) ⊎ (kindOf bs ≡ 6) → wrongHullFrame bs ≡ false
   unfolding wrongHullFrame
-  hull-frame h e = rw (eq-eqb (kindOf bs) 1 e, le-ltb (length bs) 10 h) refl
+  hull-frame h (inl e) = rw (e, le-ltb (length bs) 10 (rw e at h)) refl
+  hull-frame h (inr e) = rw (e, le-ltb (length bs) 14 (rw e at h)) refl
 
 module _ (text : List ℕ) where
   pub first-not-closed : refusedFirst 2 ≡ firstJudged (record { text = text; closed = false })
@@ -154,11 +171,13 @@ module _ (text : List ℕ) where
     unfolding badlyWritten
     well = rw (well-written text n w .0) refl
 
-    pub first-short : n < 10 → refusedFirst 3 ≡ firstJudged (record { text = text; closed = true })
-    first-short h = wrong _ well (too-short (pairs text) (omega (arith, count)))
+    module _ (kind : ℕ) (k : kind ≡ kindOf (pairs text)) where
+      pub first-short : n < shortestHull kind → refusedFirst 3 ≡ firstJudged (record { text = text; closed = true })
+      first-short h = wrong _ well (too-short (pairs text) (rw (count, k) at h))
 
-    pub first-other : (kindOf (pairs text) ≡ 1 → ⊥) → refusedFirst 3 ≡ firstJudged (record { text = text; closed = true })
-    first-other f = wrong _ well (other-kind (pairs text) f)
+      pub first-other : ((kind ≡ 1) ⊎ (kind ≡ 6) → ⊥) → refusedFirst 3 ≡ firstJudged (record { text = text; closed = true })
+      first-other f = wrong _ well (other-kind (pairs text) (rw k at f))
 
-    pub first-hull : (h : Hull) (r : FirstLine) → 10 ≤ n → kindOf (pairs text) ≡ 1 → h ≡ hullOf (fieldsOf (pairs text)) → r ≡ hullJudged h n → r ≡ firstJudged (record { text = text; closed = true })
-    first-hull h r l e f g = g ∙ rw (f, count) (right _ well (hull-frame (pairs text) (omega (arith, count)) e))
+      pub first-hull : (h : Hull) (r : FirstLine) → shortestHull kind ≤ n → (kind ≡ 1) ⊎ (kind ≡ 6) → h ≡ hullOf kind (fieldsOf (pairs text)) → r ≡ hullJudged h n
+          → r ≡ firstJudged (record { text = text; closed = true })
+      first-hull h r l e f g = g ∙ rw (f, count, k) (right _ well (hull-frame (pairs text) (rw (count, k) at l) (rw k at e)))

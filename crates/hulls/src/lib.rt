@@ -81,7 +81,7 @@ pub fn judge_first(text: &[u8], closed: bool) -> FirstLine
     let Written::Bytes(n) = frames::decode_text(text, &mut bytes) else {
         return refused(2);
     };
-    let kind = bytes[0] as u64;
+    let kind = fields::byte_at(&bytes, 0);
     if n < readers::hull_length(kind, 1) {
         return refused(3);
     }

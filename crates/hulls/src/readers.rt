@@ -9,7 +9,8 @@ use records::Hull;
 
 // The bytes of a passenger ship's persons.
 fn persons_length(kind: u64) -> usize
-    ensures { λ r. ⌜ r ≡ personsLength kind ⌝ }
+    ensures value { λ r. ⌜ r ≡ personsLength kind ⌝ }
+    ensures few { λ r. ⌜ r ≤ 4 ⌝ }
 {
     if kind == 6 {
         return 4;

@@ -10,8 +10,9 @@ use lib.ListN.{length, getD}
 use borrow.Author.Tests.{le-leb, lt-leb, leb-true}
 use Rattle.laws.proofs.Tests.{same-test}
 use Rattle.records.specs.declared.Finding.{Finding}
+use Rattle.records.specs.declared.Flooding.{Flooding}
 use Rattle.records.specs.declared.Hull.{Hull}
-use Rattle.casefile.specs.Limits.{between, risingTo, zonesFit, findingFits, findingsFit}
+use Rattle.casefile.specs.Limits.{between, risingTo, zonesFit, findingFits, findingsFit, floodingFits, floodingsFit}
 
 -- ---- the zones of a hull
 
@@ -58,22 +59,33 @@ module _ (a n m : ℕ) where
         (λ e. le-leb (a + n - 1) m (omega (arith, leb-true (n - 1) (m - a) e)))
         (λ e. le-leb (n - 1) (m - a) (omega (arith, leb-true (a + n - 1) m e))))
 
--- ---- three results by their places
+-- ---- three of a kind by their places
 
 and-true : (t : Bool) → (t && true) ≡ t
 and-true true = refl
 and-true false = refl
 
-three-fit : (rs : List Finding) (d : Finding) → length rs ≡ 3
-    → (findingFits (getD rs 0 d) && (findingFits (getD rs 1 d) && findingFits (getD rs 2 d))) ≡ findingsFit rs
-unfolding findingsFit
-three-fit [] d e = absurd (omega arith)
-three-fit (a ∷ []) d e = absurd (omega arith)
-three-fit (a ∷ b ∷ []) d e = absurd (omega arith)
-three-fit (a ∷ b ∷ c ∷ []) d e = rw (and-true (findingFits c)) refl
-three-fit (a ∷ b ∷ c ∷ x ∷ rs) d e = absurd (omega arith)
+-- a test of each of a list, written along it
+module _ {A : Type 0} (fits : A → Bool) (all-fit : List A → Bool) (none : all-fit [] ≡ true) (more : (x : A) (xs : List A) → all-fit (x ∷ xs) ≡ (fits x && all-fit xs)) where
+  three-fit : (xs : List A) (d : A) → length xs ≡ 3 → (fits (getD xs 0 d) && (fits (getD xs 1 d) && fits (getD xs 2 d))) ≡ all-fit xs
+  three-fit [] d e = absurd (omega arith)
+  three-fit (a ∷ []) d e = absurd (omega arith)
+  three-fit (a ∷ b ∷ []) d e = absurd (omega arith)
+  three-fit (a ∷ b ∷ c ∷ []) d e = rw (more a (b ∷ c ∷ []), more b (c ∷ []), more c [], none, and-true (fits c)) refl
+  three-fit (a ∷ b ∷ c ∷ x ∷ xs) d e = absurd (omega arith)
 
+  of-three : (xs : List A) (d : A) (a b c : Bool) → length xs ≡ 3 → a ≡ fits (getD xs 0 d) → b ≡ fits (getD xs 1 d) → c ≡ fits (getD xs 2 d) → (a && (b && c)) ≡ all-fit xs
+  of-three xs d a b c n p q r = rw (p, q, r) (three-fit xs d n)
+
+-- results, and what a passenger ship's row tells besides
 pub set-of-three : (rs : List Finding) (d : Finding) (a b c : Bool) → length rs ≡ 3
     → a ≡ findingFits (getD rs 0 d) → b ≡ findingFits (getD rs 1 d) → c ≡ findingFits (getD rs 2 d)
     → (a && (b && c)) ≡ findingsFit rs
-set-of-three rs d a b c n p q r = rw (p, q, r) (three-fit rs d n)
+unfolding findingsFit
+set-of-three = of-three findingFits findingsFit refl (λ x xs. refl)
+
+pub floodings-of-three : (ws : List Flooding) (d : Flooding) (a b c : Bool) → length ws ≡ 3
+    → a ≡ floodingFits (getD ws 0 d) → b ≡ floodingFits (getD ws 1 d) → c ≡ floodingFits (getD ws 2 d)
+    → (a && (b && c)) ≡ floodingsFit ws
+unfolding floodingsFit
+floodings-of-three = of-three floodingFits floodingsFit refl (λ x xs. refl)

@@ -7,37 +7,38 @@ use native.Mathlib.Omega.{arith}
 use lib.ListN.{length, take, drop, length-drop}
 use borrow.Author.Tests.{eq-eqb, ne-eqb}
 use Rattle.laws.proofs.Lists.{rest-of}
-use Rattle.casefile.specs.Layout.{kindOf, isRow, isEnd, frameLength, resultLength, resultCount}
+use Rattle.casefile.specs.Layout.{kindOf, isEnd, takes, frameLength, resultLength, resultCount, floodingLength, floodingCount}
 use Rattle.casefile.specs.Table.{wrongFrame}
 use Rattle.casefile.specs.Kept.{placeWidth}
-use Rattle.casefile.proofs.RowKinds.{RowKind, is-row, row-bytes-count}
+use Rattle.casefile.proofs.RowKinds.{RowKind, row-bytes-count}
 use Rattle.casefile.proofs.Kept.{longest-frame}
 
-module _ (bs : List ℕ) (k : ℕ) (e : k ≡ kindOf bs) where
-  pub wrong-length : (length bs ≡ frameLength k → ⊥) → wrongFrame bs ≡ true
+-- the frame has kind k and stands after a hull of a kind
+module _ (hull : ℕ) (bs : List ℕ) (k : ℕ) (e : k ≡ kindOf bs) where
+  pub wrong-length : (length bs ≡ frameLength k → ⊥) → wrongFrame hull bs ≡ true
   unfolding wrongFrame
-  wrong-length f = rw (← e, ne-eqb (length bs) (frameLength k) f) (or-true (not (isRow k || isEnd k)))
+  wrong-length f = rw (← e, ne-eqb (length bs) (frameLength k) f) (or-true (not (takes hull k || isEnd k)))
 
-  pub wrong-kind : (k ≡ 2 → ⊥) → (k ≡ 3 → ⊥) → (k ≡ 5 → ⊥) → (k ≡ 15 → ⊥) → wrongFrame bs ≡ true
+  pub wrong-kind : takes hull k ≡ false → (k ≡ 15 → ⊥) → wrongFrame hull bs ≡ true
   unfolding wrongFrame
-  wrong-kind f g j i = rw (← e, ne-eqb k 2 f, ne-eqb k 3 g, ne-eqb k 5 j, ne-eqb k 15 i) refl
+  wrong-kind t f = rw (← e, t, ne-eqb k 15 f) refl
 
   module _ (n : length bs ≡ frameLength k) where
-    pub right-row : RowKind k → wrongFrame bs ≡ false
+    pub right-row : takes hull k ≡ true → wrongFrame hull bs ≡ false
     unfolding wrongFrame
-    right-row r = rw (← e, is-row r, eq-eqb (length bs) (frameLength k) n) refl
+    right-row t = rw (← e, t, eq-eqb (length bs) (frameLength k) n) refl
 
-    pub right-end : k ≡ 15 → wrongFrame bs ≡ false
+    pub right-end : k ≡ 15 → wrongFrame hull bs ≡ false
     unfolding wrongFrame
-    right-end f = rw (← e, eq-eqb (length bs) (frameLength k) n, f) refl
+    right-end f = rw (← e, eq-eqb (length bs) (frameLength k) n, eq-eqb k 15 f, or-true (takes hull k)) refl
 
-    -- the fields after the kind byte, as the part that the code takes
-    abbrev pub part : List ℕ
-    part = take (length bs - 1) (drop 1 bs)
+-- the fields after the kind byte, as the part that the code takes
+abbrev pub part : List ℕ → List ℕ
+part bs = take (length bs - 1) (drop 1 bs)
 
-    -- a row's results go in after a, n, b and H
-    pub results-go-in : RowKind k → 6 + resultCount k * resultLength k ≤ length part
-    results-go-in r = rw (rest-of bs 1, length-drop 1 bs) (omega (arith, n, row-bytes-count r))
+-- a row's results go in after a, n, b and H, and what a passenger ship's row tells besides after them
+pub results-go-in : (bs : List ℕ) (k : ℕ) → length bs ≡ frameLength k → RowKind k → 6 + resultCount k * resultLength k + floodingCount k * floodingLength ≤ length (part bs)
+results-go-in bs k n r = rw (rest-of bs 1, length-drop 1 bs) (omega (arith, n, row-bytes-count r))
 
-pub frame-too-long : (bs : List ℕ) → placeWidth < length bs → wrongFrame bs ≡ true
-frame-too-long bs l = wrong-length bs (kindOf bs) refl (λ f. omega (arith, longest-frame (kindOf bs)))
+pub frame-too-long : (hull : ℕ) (bs : List ℕ) → placeWidth < length bs → wrongFrame hull bs ≡ true
+frame-too-long hull bs l = wrong-length hull bs (kindOf bs) refl (λ f. omega (arith, longest-frame (kindOf bs)))

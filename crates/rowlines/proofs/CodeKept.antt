@@ -10,9 +10,10 @@ use lib.ListN.{take, drop}
 use lib.Seq.{drop-drop}
 use Rattle.laws.proofs.Lists.{drop-take, getD-part}
 use Rattle.records.specs.declared.Finding.{Finding}
+use Rattle.records.specs.declared.Flooding.{Flooding}
 use Rattle.records.specs.declared.RowHead.{RowHead}
 use Rattle.fields.specs.Fields.{byteAt}
-use Rattle.casefile.specs.Layout.{kindOf, fieldsOf, resultLength, headOf, setOf, resultsOf}
+use Rattle.casefile.specs.Layout.{kindOf, fieldsOf, resultLength, headOf, setOf, floodingsOf, resultsOf}
 use Rattle.casefile.specs.Kept.{placeWidth, keptRow}
 
 -- a set of results of any kind goes into a place, after the kind byte, a, n, b and H
@@ -52,11 +53,17 @@ module _ (kept : List ℕ) (i : ℕ) where
 
   -- the sets of the results, in turn
   pub first-kept : (kind : ℕ) (rs : List Finding) → kind ≡ keptRow kept i .head .kind →
-      rs ≡ setOf kind (take (placeWidth * i + placeWidth - (placeWidth * i + 7)) (drop (placeWidth * i + 7) kept)) → rs ≡ take 3 (keptRow kept i .results)
+      rs ≡ setOf kind (take (placeWidth * i + placeWidth - (placeWidth * i + 7)) (drop (placeWidth * i + 7) kept)) → rs ≡ take 3 (keptRow kept i .results .findings)
   unfolding keptRow headOf resultsOf setOf
   first-kept kind rs k e = rw (e, k, part-from 6 (omega arith)) refl
 
   pub second-kept : (rs : List Finding) → keptRow kept i .head .kind ≡ 5 →
-      rs ≡ setOf 5 (take (placeWidth * i + placeWidth - (placeWidth * i + 31)) (drop (placeWidth * i + 31) kept)) → rs ≡ drop 3 (keptRow kept i .results)
+      rs ≡ setOf 5 (take (placeWidth * i + placeWidth - (placeWidth * i + 31)) (drop (placeWidth * i + 31) kept)) → rs ≡ drop 3 (keptRow kept i .results .findings)
   unfolding keptRow headOf resultsOf setOf
   second-kept rs k e = rw (e, k, part-from 30 (omega arith)) refl
+
+  -- what a row of kind 07 tells besides
+  pub floodings-kept : (ws : List Flooding) → keptRow kept i .head .kind ≡ 7 →
+      ws ≡ floodingsOf (take (placeWidth * i + placeWidth - (placeWidth * i + 31)) (drop (placeWidth * i + 31) kept)) → ws ≡ keptRow kept i .results .floodings
+  unfolding keptRow headOf resultsOf
+  floodings-kept ws k e = rw (e, k, part-from 30 (omega arith)) refl

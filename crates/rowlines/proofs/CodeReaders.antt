@@ -9,7 +9,8 @@ use lib.ListN.{length, take, drop, length-drop}
 use borrow.Author.Tests.{ne-eqb}
 use Rattle.laws.proofs.Lists.{rest-of}
 use Rattle.records.specs.declared.Finding.{Finding}
-use Rattle.casefile.specs.Layout.{resultLength, findingOf, setOf}
+use Rattle.records.specs.declared.Flooding.{Flooding}
+use Rattle.casefile.specs.Layout.{resultLength, findingOf, setOf, floodingOf, floodingsOf}
 
 -- a result of any kind has a field of two bytes, and one of another kind than 03 has four
 pub field-there : (kind n : ℕ) → resultLength kind ≤ n → 2 ≤ n
@@ -34,3 +35,9 @@ pub set-by-parts : (kind n : ℕ) (f : List ℕ) (x y z : Finding) → n ≡ res
     → x ∷ y ∷ z ∷ [] ≡ setOf kind f
 unfolding setOf
 set-by-parts kind n f x y z e p q r = rw (p, q, r, rest-of f n, rest-of f (2 * n), e) refl
+
+-- and what a passenger ship's row tells besides, at each draught
+pub floodings-by-parts : (f : List ℕ) (x y z : Flooding) → x ≡ floodingOf f → y ≡ floodingOf (take (length f - 15) (drop 15 f)) → z ≡ floodingOf (take (length f - 30) (drop 30 f))
+    → x ∷ y ∷ z ∷ [] ≡ floodingsOf f
+unfolding floodingsOf
+floodings-by-parts f x y z p q r = rw (p, q, r, rest-of f 15, rest-of f 30) refl

@@ -3,7 +3,6 @@ use mathlib.Core.Path.{sym, _∙_}
 use borrow.Author.Tests.{not-true, not-false}
 use Rattle.hulls.proofs.CodeOpening.{sizes-wrong, zones-wrong, length-wrong, hull-right, few-zones}
 use borrow.Author.Needs.{needs}
-use native.Mathlib.Omega.{arith}
 use Rattle.hulls.proofs.hull_number.Statement.{statement}
 use Rattle.hulls.proofs.hull_number.Tie as tie
 
@@ -19,19 +18,16 @@ zones-fit-requires c κs = search needs
 returns-2 : tie.Need-returns-2
 returns-2 c = zones-wrong _ _ (sym (c .before .before .before .sizes-fit .ensures) ∙ not-false _ (c .before .before .if1 .left)) (sym (c .before .zones-fit .ensures) ∙ not-true _ (c .if2 .taken))
 
-mul-if3 : tie.Need-mul-if3
-mul-if3 c = omega (arith, few-zones _ (sym (c .before .zones-fit .ensures) ∙ not-false _ (c .if2 .left)))
-
-add-if3 : tie.Need-add-if3
-add-if3 c = omega (arith, few-zones _ (sym (c .before .zones-fit .ensures) ∙ not-false _ (c .if2 .left)))
+hull-length-requires : tie.Need-hull-length-requires
+hull-length-requires c κs = few-zones _ (sym (c .before .zones-fit .ensures) ∙ not-false _ (c .if2 .left))
 
 returns-3 : tie.Need-returns-3
 returns-3 c =
-    length-wrong _ _ (sym (c .before .before .before .before .sizes-fit .ensures) ∙ not-false _ (c .before .before .before .if1 .left)) (sym (c .before .before .zones-fit .ensures) ∙ not-false _ (c .before .if2 .left)) (c .if3 .taken)
+    length-wrong _ _ (sym (c .before .before .before .before .before .sizes-fit .ensures) ∙ not-false _ (c .before .before .before .before .if1 .left)) (sym (c .before .before .before .zones-fit .ensures) ∙ not-false _ (c .before .before .if2 .left)) (λ e. c .if3 .taken (e ∙ sym (c .before .hull-length .ensures)))
 
 returns-4 : tie.Need-returns-4
 returns-4 c =
-    hull-right _ _ (sym (c .before .before .before .before .sizes-fit .ensures) ∙ not-false _ (c .before .before .before .if1 .left)) (sym (c .before .before .zones-fit .ensures) ∙ not-false _ (c .before .if2 .left)) (c .if3 .left)
+    hull-right _ _ (sym (c .before .before .before .before .before .sizes-fit .ensures) ∙ not-false _ (c .before .before .before .before .if1 .left)) (sym (c .before .before .before .zones-fit .ensures) ∙ not-false _ (c .before .before .if2 .left)) (c .if3 .left ∙ c .before .hull-length .ensures)
 
 pub hull-number-spec : {M : Type 1} → statement M
 hull-number-spec =
@@ -41,7 +37,6 @@ hull-number-spec =
     returns
     zones-fit-requires
     returns-2
-    mul-if3
-    add-if3
+    hull-length-requires
     returns-3
     returns-4)

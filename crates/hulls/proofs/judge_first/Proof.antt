@@ -6,7 +6,6 @@ use Rattle.hexadecimal.specs.Hex.{pairs}
 use Rattle.frames.proofs.CodeDecoding.{badly-written, stored}
 use Rattle.hulls.proofs.CodeOpening.{first-not-closed, first-no-digits, first-short, first-other, first-hull, kind-stored, hull-stored}
 use borrow.Author.Needs.{needs}
-use native.Mathlib.Omega.{arith}
 use Rattle.hulls.proofs.judge_first.Statement.{statement}
 use Rattle.hulls.proofs.judge_first.Tie as tie
 
@@ -33,19 +32,29 @@ refused-requires-2 c κs = search needs
 
 returns-2 : tie.Need-returns-2
 returns-2 c =
-    c .refused2 .ensures
-    ∙ rw (not-false (c .before .before .before .before .before .before .before .before .args .closed) (c .before .before .before .before .before .before .if1 .left)) (first-no-digits _ (badly-written _ (sym (c .before .before .before .before .decode-text .ensures .0) ∙ c .before .enum-told .given .1)))
+    let d = c .before .before .before .before in
+    c .refused2 .ensures ∙ rw (not-false (d .before .before .before .before .args .closed) (d .before .before .if1 .left)) (first-no-digits _ (badly-written _ (sym (d .decode-text .ensures .0) ∙ c .before .enum-told .given .1)))
+
+slice-aggregate-byte-at : tie.Need-slice-aggregate-byte-at
+slice-aggregate-byte-at c = search needs
+
+byte-at-requires : tie.Need-byte-at-requires
+byte-at-requires c κs = search needs
+
+hull-length-requires : tie.Need-hull-length-requires
+hull-length-requires c κs = search needs
 
 refused-requires-3 : tie.Need-refused-requires-3
 refused-requires-3 c κs = search needs
 
 returns-3 : tie.Need-returns-3
 returns-3 c =
-    c .refused3 .ensures
-    ∙ rw (not-false (c .before .before .before .before .before .before .before .before .before .before .args .closed) (c .before .before .before .before .before .before .before .before .if1 .left)) (first-short _ _ (sym (c .before .before .before .before .before .before .decode-text .ensures .0) ∙ c .before .before .before .n .given .1) (c .before .if2 .taken))
-
-array-read-kind : tie.Need-array-read-kind
-array-read-kind c = search needs
+    let d = c .before .before .before .before .before .before .before .before .before in
+    let text = now (d .before .before .before .before .args .text) in
+    let w = sym (d .decode-text .ensures .0) ∙ c .before .before .before .before .before .before .n .given .1 in
+    let there = stored text _ _ w (d .decode-text .ensures .1) in
+    let kind = c .before .before .before .byte-at .ensures .0 ∙ kind-stored (pairs text) _ there in
+    c .refused3 .ensures ∙ rw (not-false (d .before .before .before .before .args .closed) (d .before .before .if1 .left)) (first-short _ _ w _ kind (rw (c .before .before .hull-length .ensures) at (c .before .if2 .taken)))
 
 sub-judge-hull : tie.Need-sub-judge-hull
 sub-judge-hull c = search needs
@@ -64,17 +73,21 @@ refused-requires-4 c κs = search needs
 
 returns-4 : tie.Need-returns-4
 returns-4 c =
-    let w = sym (c .before .before .before .before .before .before .before .before .before .decode-text .ensures .0) ∙ c .before .before .before .before .before .before .n .given .1 in
-    let text = now (c .before .before .before .before .before .before .before .before .before .before .before .before .before .args .text) in
-    let there = stored text _ _ w (c .before .before .before .before .before .before .before .before .before .decode-text .ensures .1) in
-    rw (not-false (c .before .before .before .before .before .before .before .before .before .before .before .before .before .args .closed) (c .before .before .before .before .before .before .before .before .before .before .before .if1 .left)) (first-hull _ _ w _ _ (omega arith) (sym (kind-stored (pairs text) _ there) ∙ c .before .before .before .match2 .keys1) (hull-stored (pairs text) _ there) (c .judge-hull .ensures))
+    let d = c .before .before .before .before .before .before .before .before .before .before .before .before in
+    let text = now (d .before .before .before .before .args .text) in
+    let w = sym (d .decode-text .ensures .0) ∙ c .before .before .before .before .before .before .before .before .before .n .given .1 in
+    let there = stored text _ _ w (d .decode-text .ensures .1) in
+    let kind = c .before .before .before .before .before .before .byte-at .ensures .0 ∙ kind-stored (pairs text) _ there in
+    rw (not-false (d .before .before .before .before .args .closed) (d .before .before .if1 .left)) (first-hull _ _ w _ kind _ _ (rw (c .before .before .before .before .before .hull-length .ensures) at (c .before .before .before .before .if2 .left)) (c .before .before .before .match2 .keys1) (hull-stored (pairs text) _ there _) (c .judge-hull .ensures))
 
 returns-5 : tie.Need-returns-5
 returns-5 c =
-    let w = sym (c .before .before .before .before .before .before .before .decode-text .ensures .0) ∙ c .before .before .before .before .n .given .1 in
-    let text = now (c .before .before .before .before .before .before .before .before .before .before .before .args .text) in
-    c .refused4 .ensures
-    ∙ rw (not-false (c .before .before .before .before .before .before .before .before .before .before .before .args .closed) (c .before .before .before .before .before .before .before .before .before .if1 .left)) (first-other _ _ w (λ f. c .before .match2 .rest .1 (kind-stored (pairs text) _ (stored text _ _ w (c .before .before .before .before .before .before .before .decode-text .ensures .1)) ∙ f)))
+    let d = c .before .before .before .before .before .before .before .before .before .before in
+    let text = now (d .before .before .before .before .args .text) in
+    let w = sym (d .decode-text .ensures .0) ∙ c .before .before .before .before .before .before .before .n .given .1 in
+    let there = stored text _ _ w (d .decode-text .ensures .1) in
+    let kind = c .before .before .before .before .byte-at .ensures .0 ∙ kind-stored (pairs text) _ there in
+    c .refused4 .ensures ∙ rw (not-false (d .before .before .before .before .args .closed) (d .before .before .if1 .left)) (first-other _ _ w _ kind (c .before .match2 .rest .1))
 
 pub judge-first-spec : {M : Type 1} → statement M
 judge-first-spec =
@@ -88,9 +101,11 @@ judge-first-spec =
     enum-told
     refused-requires-2
     returns-2
+    slice-aggregate-byte-at
+    byte-at-requires
+    hull-length-requires
     refused-requires-3
     returns-3
-    array-read-kind
     sub-judge-hull
     part-judge-hull-start
     part-judge-hull-end

@@ -10,10 +10,10 @@ use Rattle.hulls.proofs.readers.places.Statement.{statement}
 use Rattle.hulls.proofs.readers.places.Tie as tie
 
 abbrev Inv-loop : tie.InvT-loop
-Inv-loop f m ls at₀ k₀ at k = Filled (placeOf (λ i. wordAt f (7 + 2 * i)) m ls) 21 at k
+Inv-loop f from m ls at₀ k₀ at k = Filled (placeOf (λ i. wordAt f (from + 2 * i)) m ls) 21 at k
 
 abbrev μ-loop : tie.MeasureT-loop
-μ-loop f m ls at₀ k₀ at k = 21 - k
+μ-loop f from m ls at₀ k₀ at k = 21 - k
 
 loop-holds : tie.Need-loop-holds Inv-loop μ-loop
 loop-holds c = none-filled _ _ _ refl

@@ -19,7 +19,11 @@ returns-3 c = rw (c .match .keys3) refl
 
 returns-4 : tie.Need-returns-4
 unfolding frameLength
-returns-4 c = simp (ne-eqb _ _ (c .match .rest .0 .0 .1), ne-eqb _ _ (c .match .rest .0 .1), ne-eqb _ _ (c .match .rest .1))
+returns-4 c = rw (c .match .keys4) refl
+
+returns-5 : tie.Need-returns-5
+unfolding frameLength
+returns-5 c = simp (ne-eqb _ _ (c .match .rest .0 .0 .0 .1), ne-eqb _ _ (c .match .rest .0 .0 .1), ne-eqb _ _ (c .match .rest .0 .1), ne-eqb _ _ (c .match .rest .1))
 
 pub frame-length-spec : {M : Type 1} → statement M
-frame-length-spec = tie.close (tie.spec returns returns-2 returns-3 returns-4)
+frame-length-spec = tie.close (tie.spec returns returns-2 returns-3 returns-4 returns-5)

@@ -1,5 +1,5 @@
 -- The exact shares and survivals that the promises speak of are those of SOLAS, row by row, of every accepted file: regulation 7-1's pi, and 7-2's s with its
--- openings, the least of two where a row has a second set. Assumes nothing.
+-- openings, the least of two where a row has a second set, and a passenger ship's. Assumes nothing.
 use Prim.Native.Nat.{ℕ, _+_, _<_}
 use mathlib.Core.Path.{_≡_}
 use mathlib.Core.List.{List, [], _∷_}
@@ -7,13 +7,15 @@ use mathlib.Core.Logic.{_⊎_}
 use lib.ListN.{getD}
 use Rattle.laws.specs.Fraction.{Fraction, _≈_, lesser}
 use Rattle.records.specs.declared.Finding.{Finding}
+use Rattle.records.specs.declared.Flooding.{Flooding}
 use Rattle.regulation.specs.Regulation.{IsRoot, under√, pi}
 use Rattle.regulation.specs.RegulationIndex.{Numbers, fourth, Order, Least}
 use Rattle.regulation.specs.OfSolasIndex.{FactorOf}
+use Rattle.regulation.specs.OfSolasPassengers.{PassengerFactorOf}
 use Rattle.spans.specs.Hull.{shipOf}
 use Rattle.indices.specs.Exact as exact
 use Rattle.indices.specs.Exact.{Each}
-use Rattle.survival.specs.Survival.{Factor, root, given, nothing}
+use Rattle.survival.specs.Survival.{Factor, root, given, nothing, still}
 use Rattle.casefile.specs.Record.{Row, Case}
 use Rattle.casefile.specs.Reading.{accepted, reading}
 use Rattle.rows.specs.declared.Standing.{Standing}
@@ -42,9 +44,11 @@ module _ (N : Numbers) where
       ((kind ≡ 2) × FourthPowerOf f q) ⊎ ((kind ≡ 5) × (a : Fraction) × (b : Fraction) × (q ≡ lesser a b) × FourthPowerOf f a × FourthPowerOf g b)
   SurvivalOfSolas kind f g (given n) = (kind ≡ 3) × (n ≡ f .given)
 
-  -- a row's three
+  -- the three of a cargo ship's row
   abbrev pub RowOfSolas : Row → exact.Row → Type 0
-  RowOfSolas row r = (j : ℕ) → j < 3 → SurvivalOfSolas (row .head .kind) (getD (row .results) j nothing) (getD (row .results) (3 + j) nothing) (getD (r .factors) j (given 0))
+  RowOfSolas row r =
+      (row .head .kind ≡ 7 → ⊥) → (j : ℕ) → j < 3 →
+      SurvivalOfSolas (row .head .kind) (getD (row .results .findings) j nothing) (getD (row .results .findings) (3 + j) nothing) (getD (r .factors) j (given 0))
 
 -- among whatever numbers the roots are found
 abbrev pub SurvivalsOfSolas : Type 1
@@ -55,7 +59,21 @@ module _ (N : Numbers) (O : Order N) where
   abbrev pub LeastOfSolas : Row → exact.Row → Type 0
   LeastOfSolas row r =
       row .head .kind ≡ 5 → (j : ℕ) → j < 3 → (q : Fraction) × (getD (r .factors) j (given 0) ≡ root q)
-      × ((s₁ s₂ s : N .Number) → Gives N (getD (row .results) j nothing) s₁ → Gives N (getD (row .results) (3 + j) nothing) s₂ → Least N O (s₁ ∷ s₂ ∷ []) s → N ._≐_ (fourth N s) (N .fraction q))
+      × ((s₁ s₂ s : N .Number) → Gives N (getD (row .results .findings) j nothing) s₁ → Gives N (getD (row .results .findings) (3 + j) nothing) s₂ → Least N O (s₁ ∷ s₂ ∷ []) s → N ._≐_ (fourth N s) (N .fraction q))
 
 abbrev pub LeastSurvivalsOfSolas : Type 1
 LeastSurvivalsOfSolas = (N : Numbers) (O : Order N) (f : List ℕ) (c : Case) → reading f ≡ accepted c → Each (LeastOfSolas N O) (c .rows) (exactRows (c .hull) nowhere (c .rows))
+
+-- 002, 2.7.1.1: a passenger ship's row survives by the minimum of s-intermediate and of s-final times s-mom
+module _ (N : Numbers) (O : Order N) where
+  abbrev pub GivesPassengers : Finding → Flooding → N .Number → Type 0
+  GivesPassengers f w s =
+      PassengerFactorOf N O (f .lever) (f .range) (f .heel) (f .opening) (w .lever) (w .range) (w .heel) (w .roro) (w .displacement) (w .moment) s
+
+  abbrev pub PassengerRowOfSolas : Row → exact.Row → Type 0
+  PassengerRowOfSolas row r =
+      row .head .kind ≡ 7 → (j : ℕ) → j < 3 → (q : Fraction) × (getD (r .factors) j (given 0) ≡ root q)
+      × ((s : N .Number) → GivesPassengers (getD (row .results .findings) j nothing) (getD (row .results .floodings) j still) s → N ._≐_ (fourth N s) (N .fraction q))
+
+abbrev pub PassengerSurvivalsOfSolas : Type 1
+PassengerSurvivalsOfSolas = (N : Numbers) (O : Order N) (f : List ℕ) (c : Case) → reading f ≡ accepted c → Each (PassengerRowOfSolas N O) (c .rows) (exactRows (c .hull) nowhere (c .rows))

@@ -7,6 +7,7 @@ use mathlib.Core.Path.{_≡_}
 use mathlib.Core.List.{List, [], _∷_, _++_}
 use lib.IntN.{pos}
 use Rattle.records.specs.declared.Finding.{Finding}
+use Rattle.records.specs.Results.{found}
 use Rattle.casefile.specs.Record.{Row, Case}
 use Rattle.casefile.specs.Reading.{accepted, reading}
 use Rattle.answers.specs.Report.{report}
@@ -39,12 +40,12 @@ text =
 
 -- 99 m long, 16 m broad, draughts of 6 and 4 m, two zones that meet at 15 m; three groups, each with one layer of one row
 abbrev row : ℕ → ℕ → ℕ → Finding → Row
-row kind a n r = record { head = record { kind = kind; first = a; count = n; depth = 800; height = 18500 }; results = r ∷ r ∷ r ∷ [] }
+row kind a n r = record { head = record { kind = kind; first = a; count = n; depth = 800; height = 18500 }; results = found (r ∷ r ∷ r ∷ []) }
 
 abbrev pub printedCase : Case
 printedCase =
     record {
-      hull = record { length = 9900; breadth = 1600; deepest = 6000; light = 4000; zones = 2; places = 0 ∷ 1500 ∷ 9900 ∷ 0 ∷ 0 ∷ 0 ∷ 0 ∷ 0 ∷ 0 ∷ 0 ∷ 0 ∷ 0 ∷ 0 ∷ 0 ∷ 0 ∷ 0 ∷ 0 ∷ 0 ∷ 0 ∷ 0 ∷ 0 ∷ [] };
+      hull = record { kind = 1; length = 9900; breadth = 1600; deepest = 6000; light = 4000; lifeboats = 0; excess = 0; zones = 2; places = 0 ∷ 1500 ∷ 9900 ∷ 0 ∷ 0 ∷ 0 ∷ 0 ∷ 0 ∷ 0 ∷ 0 ∷ 0 ∷ 0 ∷ 0 ∷ 0 ∷ 0 ∷ 0 ∷ 0 ∷ 0 ∷ 0 ∷ 0 ∷ 0 ∷ [] };
       rows =
           row 2 1 1 (record { lever = 30; range = 400; heel = 0; opening = pos 0; given = 0 })
           ∷ row 3 1 2 (record { lever = 0; range = 0; heel = 0; opening = pos 0; given = 0 })

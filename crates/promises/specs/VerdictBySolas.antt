@@ -1,9 +1,13 @@
--- What a ship's verdict says by the regulation's own sums: document 002's A held to R, and each partial index to half of it. Assumes nothing.
+-- What a ship's verdict says by the regulation's own sums: document 002's A held to R, and each partial index to half of it, or to nine tenths of a
+-- passenger ship's. Assumes nothing.
+use mathlib.Core.Bool.{cond}
 use mathlib.Core.Path.{_≡_}
 use mathlib.Core.List.{List}
+use lib.Dec.{eqb}
 use Rattle.laws.specs.Fraction.{Fraction, _≼_, _≺_}
 use Rattle.regulation.specs.RegulationIndex as regulation
 use Rattle.regulation.specs.RegulationIndex.{centimetres, Boundary, vm}
+use Rattle.regulation.specs.RegulationPassengers as passengers
 use Rattle.regulation.specs.RegulationSums.{plain}
 use Rattle.regulation.specs.OfSolasSums.{NoneRises}
 use Rattle.indices.specs.Exact.{RowAt, NoneAbove, NoneBelow, Thrice, AtAll, AtEach}
@@ -14,11 +18,14 @@ use Rattle.answers.specs.Answer.{answer}
 use Rattle.promises.specs.Rows.{rowsOf}
 use Rattle.promises.specs.Sums.{layersOf, EachLayer, LowButTops, metres, partialAt, attainedIn, OfEveryFile}
 
+abbrev pub personsIn : Case → Fraction
+personsIn c = passengers.persons (c .hull .lifeboats) (c .hull .excess)
+
 abbrev pub requiredIn : Case → Fraction
-requiredIn c = regulation.R (centimetres (c .hull .length))
+requiredIn c = cond (eqb (c .hull .kind) 6) (passengers.R (centimetres (c .hull .length)) (personsIn c)) (regulation.R (centimetres (c .hull .length)))
 
 abbrev pub markIn : Case → Fraction
-markIn c = regulation.partialMark (centimetres (c .hull .length))
+markIn c = cond (eqb (c .hull .kind) 6) (passengers.partialMark (centimetres (c .hull .length)) (personsIn c)) (regulation.partialMark (centimetres (c .hull .length)))
 
 module _ (difference : Boundary → Boundary → Fraction → Fraction) (c : Case) (√ : Fraction) (q : Grouped (c .hull) (c .rows)) where
   -- A reaches R, and each partial index its mark

@@ -1,24 +1,24 @@
 -- Lines that pass have read no end frame exactly where none of them is one. Assumes nothing.
 use Prim.Native.Nat.{ℕ, zero, suc, _<_, suc-le-suc}
 use mathlib.Core.Path.{_≡_, refl, sym, _∙_}
-use mathlib.Core.Bool.{Bool, true, false, not, true≢false}
+use mathlib.Core.Bool.{Bool, true, false, true≢false}
 use mathlib.Core.List.{List, [], _∷_}
 use native.Mathlib.Nat.{le-of-suc-le-suc}
 use native.Mathlib.Omega.{arith}
-use lib.Dec.{ltb}
 use lib.ListN.{length, getD}
-use borrow.Author.Tests.{eqb-true, not-false}
-use Rattle.laws.proofs.Tests.{neither}
+use borrow.Author.Tests.{eqb-true}
 use Rattle.records.specs.declared.Hull.{Hull}
 use Rattle.lines.specs.Lines.{Line}
 use Rattle.hexadecimal.specs.Hex.{pairs}
 use Rattle.casefile.specs.declared.Progress.{Progress}
-use Rattle.casefile.specs.Layout.{kindOf, isHull, isRow, isEnd, shortestHull}
-use Rattle.casefile.specs.Table.{firstHolds, wrongHullFrame, hullChecks}
+use Rattle.casefile.specs.Layout.{kindOf, isRow, isEnd}
+use Rattle.casefile.specs.Table.{firstHolds, hullChecks}
 use Rattle.casefile.specs.Reading.{Stage, begin, inside, withEnd, checks, next}
 use Rattle.casefile.specs.Refusal.{after, IsEndFrame}
-use Rattle.casefile.proofs.Checks.{LinePasses, hull-passes, passes-first}
-use Rattle.casefile.proofs.Passing.{fits}
+use Rattle.casefile.proofs.Checks.{HullPasses, LinePasses, hull-passes, passes-first}
+use Rattle.casefile.proofs.HullLayout.{HullKind, of-cargo, of-passengers}
+use Rattle.casefile.proofs.RowKinds.{end-no-row}
+use Rattle.casefile.proofs.Passing.{hull-frame, then-end}
 use Rattle.casefile.proofs.Turns.{noLine, number-first, number-next, PassTo, Open}
 
 pass-rest : (s : Stage) (l : Line) (ls : List Line) (n : ℕ) → PassTo s (l ∷ ls) (suc n) → PassTo (next s l) ls n
@@ -29,16 +29,16 @@ pass-first s l ls n p = sym (number-first s l ls) ∙ p 0 (omega arith)
 
 -- line 1 is no end frame
 hull-no-end : (l : Line) → firstHolds (hullChecks l) ≡ 0 → IsEndFrame l → ⊥
-unfolding wrongHullFrame
 hull-no-end l e t =
     let bs : List ℕ = pairs (l .text) in
-    let (k, n) = neither (not (isHull (kindOf bs))) (ltb (length bs) shortestHull) (hull-passes l e .frame) in
-    omega (arith, eqb-true (kindOf bs) 1 (not-false (isHull (kindOf bs)) k), eqb-true (kindOf bs) 15 t)
+    let q : HullPasses l = hull-passes l e in
+    by (hull-frame l (q .written) q .0) (eqb-true (kindOf bs) 15 t)
+  where
+    by : HullKind (kindOf (pairs (l .text))) → kindOf (pairs (l .text)) ≡ 15 → ⊥
+    by (of-cargo k) e = omega arith
+    by (of-passengers k) e = omega arith
 
 -- an end frame that is read ends the rows, and only the last line can be one
-end-no-row : (kind : ℕ) → isEnd kind ≡ true → isRow kind ≡ false
-end-no-row kind e = rw (eqb-true kind 15 e) refl
-
 at-the-end : (h : Hull) (p : Progress) (ls : List Line) → PassTo (inside h (withEnd p)) ls (length ls) → Open (after (inside h (withEnd p)) ls) → ⊥
 unfolding after
 at-the-end h p [] q o = true≢false o
@@ -68,8 +68,8 @@ still-open (inside h p) l e n = by (isRow (kindOf bs)) refl (isEnd (kindOf bs)) 
     by true t u v = rw t refl
     by false t true v = absurd (n v)
     by false t false v =
-        let q : LinePasses p l = passes-first h p l e .0 in
-        absurd (true≢false (sym (fits l (q .written) (q .frame) .0) ∙ rw (t, v) refl))
+        let q : LinePasses h p l = passes-first h p l e .0 in
+        absurd (true≢false (sym (then-end l (q .written) (h .kind) (q .frame) t) ∙ v))
 
 pub stays-open : (s : Stage) (ls : List Line) → PassTo s ls (length ls) → Open s → ((i : ℕ) → i < length ls → IsEndFrame (getD ls i noLine) → ⊥) → Open (after s ls)
 unfolding after

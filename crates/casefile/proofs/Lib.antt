@@ -7,6 +7,7 @@ pub mod Limits
 pub mod Order
 pub mod Words
 pub mod RowKinds
+pub mod RowNumbers
 pub mod RowLayout
 pub mod HullLayout
 pub mod Passing

@@ -1,9 +1,9 @@
 -- A line that passes is the line of the record that it is read as, and that record is valid. Assumes nothing.
 use Prim.Native.Nat.{ℕ, _+_, _*_, _≤_}
 use mathlib.Core.Path.{_≡_, refl, sym, _∙_, ap}
-use mathlib.Core.Bool.{Bool, true, false, cond, not, _||_}
+use mathlib.Core.Bool.{Bool, true, false, cond, not, _||_, true≢false}
 use mathlib.Core.List.{List, [], _∷_, _++_}
-use mathlib.Core.Logic.{inl, inr}
+use mathlib.Core.Logic.{inl, inr, ⊎-elim}
 use native.Mathlib.Omega.{arith}
 use lib.Dec.{ltb, eqb}
 use lib.ListN.{length, drop, length-drop}
@@ -11,7 +11,7 @@ use lib.Seq.{drop-cons}
 use borrow.Author.Tests.{ltb-false, eqb-true, not-false}
 use Rattle.laws.specs.Bytes.{Octets}
 use Rattle.laws.specs.Lists.{Every}
-use Rattle.laws.proofs.Tests.{neither, proved}
+use Rattle.laws.proofs.Tests.{neither, one-holds, proved}
 use Rattle.records.specs.declared.Hull.{Hull}
 use Rattle.lines.specs.Lines.{Line}
 use Rattle.lines.proofs.Lines.{written}
@@ -19,15 +19,15 @@ use Rattle.hexadecimal.specs.Hex.{pairs, proper, badlyWritten, lineOf}
 use Rattle.fields.specs.Fields.{byteAt}
 use Rattle.hexadecimal.proofs.Pairs.{hex-pairs, pairs-octets}
 use Rattle.fields.proofs.Fields.{octets-drop}
-use Rattle.casefile.specs.Layout.{kindOf, fieldsOf, isHull, isRow, isEnd, frameLength, hullLength, shortestHull, hullOf, headOf, findingOf, setOf, resultsOf, rowOf, countOf, hullBytes, rowBytes, endBytes}
+use Rattle.casefile.specs.Layout.{kindOf, fieldsOf, isHull, isRow, isEnd, takes, frameLength, personsLength, hullLength, shortestHull, zonesAt, hullOf, headOf, findingOf, setOf, floodingsOf, resultsOf, rowOf, countOf, hullBytes, rowBytes, endBytes}
 use Rattle.casefile.specs.Limits.{sizesFit, zonesFit, rowFits}
 use Rattle.casefile.specs.Table.{wrongHullFrame, wrongFrame, wrongZones}
 use Rattle.casefile.specs.Valid.{ValidHull, Formed, found, given, ValidRow}
 use Rattle.casefile.proofs.Checks.{HullPasses}
 use Rattle.casefile.proofs.Limits.{Zones, zones-are}
-use Rattle.casefile.proofs.RowKinds.{RowKind, one-set, survivals, two-sets, of-row-kind}
+use Rattle.casefile.proofs.RowKinds.{RowKind, one-set, survivals, two-sets, passenger, of-taken, not-taken, end-no-row}
 use Rattle.casefile.proofs.RowLayout.{row-bytes-again, end-bytes-again}
-use Rattle.casefile.proofs.HullLayout.{placed, hull-bytes-again}
+use Rattle.casefile.proofs.HullLayout.{HullKind, of-hull-kind, ship-type, placed, hull-bytes-again}
 
 -- ---- any line
 
@@ -53,45 +53,59 @@ module _ (l : Line) (w : badlyWritten l ≡ false) where
 
   module _ (p : HullPasses l) where
     abbrev hull : Hull
-    hull = hullOf (fieldsOf bs)
+    hull = hullOf (kindOf bs) (fieldsOf bs)
 
-    pub hull-frame : (kindOf bs ≡ 1) × (10 ≤ length bs)
+    -- long enough for one zone
+    pub hull-frame : HullKind (kindOf bs) × (shortestHull (kindOf bs) ≤ length bs)
     unfolding wrongHullFrame
     hull-frame =
-        let (k, n) = neither (not (isHull (kindOf bs))) (ltb (length bs) shortestHull) (p .frame) in
-        (eqb-true (kindOf bs) 1 (not-false (isHull (kindOf bs)) k), ltb-false (length bs) shortestHull n)
+        let (k, n) = neither (not (isHull (kindOf bs))) (ltb (length bs) (shortestHull (kindOf bs))) (p .frame) in
+        (of-hull-kind (kindOf bs) (not-false (isHull (kindOf bs)) k), ltb-false (length bs) (shortestHull (kindOf bs)) n)
 
-    pub hull-zones : (zonesFit hull ≡ true) × (length bs ≡ hullLength (hull .zones))
+    pub hull-zones : (zonesFit hull ≡ true) × (length bs ≡ hullLength (hull .kind) (hull .zones))
     unfolding wrongZones
     hull-zones =
-        let (z, n) = neither (not (zonesFit hull)) (not (eqb (length bs) (hullLength (hull .zones)))) (p .zones) in
-        (not-false (zonesFit hull) z, eqb-true (length bs) (hullLength (hull .zones)) (not-false (eqb (length bs) (hullLength (hull .zones))) n))
+        let n : ℕ = hullLength (hull .kind) (hull .zones) in
+        let (z, e) = neither (not (zonesFit hull)) (not (eqb (length bs) n)) (p .zones) in
+        (not-false (zonesFit hull) z, eqb-true (length bs) n (not-false (eqb (length bs) n) e))
 
     pub hull-valid : ValidHull hull
-    hull-valid = record { sizes = proved (sizesFit hull) (p .sizes); zones = proved (zonesFit hull) (hull-zones .0); places = placed (fieldsOf bs) }
+    hull-valid = record {
+      type = ship-type (fieldsOf bs) (hull-frame .0);
+      sizes = proved (sizesFit hull) (p .sizes);
+      zones = proved (zonesFit hull) (hull-zones .0);
+      places = placed (kindOf bs) (fieldsOf bs);
+    }
 
     pub hull-line : written l ≡ lineOf (hullBytes hull)
     unfolding hullOf
     hull-line =
         let z : Zones hull = zones-are hull (hull-zones .0) in
-        let front : bs ≡ 1 ∷ fieldsOf bs = drop-cons bs 0 0 (omega (arith, hull-frame .1)) ∙ ap (_∷ fieldsOf bs) (hull-frame .0) in
-        let n : length (fieldsOf bs) ≡ 7 + 2 * byteAt (fieldsOf bs) 8 = omega (arith, hull-zones .1, length-drop 1 bs) in
-        line-again ∙ ap lineOf (front ∙ sym (hull-bytes-again (fieldsOf bs) (octets-drop 1 bs octets) (z .some) (z .most) n))
+        let front : bs ≡ kindOf bs ∷ fieldsOf bs = drop-cons bs 0 0 (omega (arith, hull-frame .1)) in
+        let n : length (fieldsOf bs) ≡ 7 + personsLength (kindOf bs) + 2 * byteAt (fieldsOf bs) (zonesAt (kindOf bs)) = omega (arith, hull-zones .1, length-drop 1 bs) in
+        line-again ∙ ap lineOf (front ∙ sym (hull-bytes-again (kindOf bs) (fieldsOf bs) (octets-drop 1 bs octets) (z .some) (z .most) n))
 
-  -- ---- a later line
+  -- ---- a later line, after a ship of a kind
 
-  module _ (f : wrongFrame bs ≡ false) where
-    pub fits : ((isRow (kindOf bs) || isEnd (kindOf bs)) ≡ true) × (length bs ≡ frameLength (kindOf bs))
+  module _ (ship : ℕ) (f : wrongFrame ship bs ≡ false) where
+    pub fits : ((takes ship (kindOf bs) || isEnd (kindOf bs)) ≡ true) × (length bs ≡ frameLength (kindOf bs))
     unfolding wrongFrame
     fits =
-        let (k, n) = neither (not (isRow (kindOf bs) || isEnd (kindOf bs))) (not (eqb (length bs) (frameLength (kindOf bs)))) f in
-        (not-false (isRow (kindOf bs) || isEnd (kindOf bs)) k, eqb-true (length bs) (frameLength (kindOf bs)) (not-false (eqb (length bs) (frameLength (kindOf bs))) n))
+        let (k, n) = neither (not (takes ship (kindOf bs) || isEnd (kindOf bs))) (not (eqb (length bs) (frameLength (kindOf bs)))) f in
+        (not-false (takes ship (kindOf bs) || isEnd (kindOf bs)) k, eqb-true (length bs) (frameLength (kindOf bs)) (not-false (eqb (length bs) (frameLength (kindOf bs))) n))
+
+    -- a row is one that the ship takes, and what is no row is the end
+    pub row-taken : isRow (kindOf bs) ≡ true → takes ship (kindOf bs) ≡ true
+    row-taken k = ⊎-elim (λ t. t) (λ e. absurd (true≢false (sym k ∙ end-no-row (kindOf bs) e))) (one-holds (takes ship (kindOf bs)) (isEnd (kindOf bs)) (fits .0))
+
+    pub then-end : isRow (kindOf bs) ≡ false → isEnd (kindOf bs) ≡ true
+    then-end k = rw (not-taken ship (kindOf bs) k) at (fits .0)
 
     pub row-line : isRow (kindOf bs) ≡ true → written l ≡ lineOf (rowBytes (rowOf bs))
     row-line k = line-again ∙ ap lineOf (sym (row-bytes-again bs octets k (fits .1)))
 
     pub end-line : isRow (kindOf bs) ≡ false → written l ≡ lineOf (endBytes (countOf bs))
-    end-line k = line-again ∙ ap lineOf (sym (end-bytes-again bs octets (rw k at (fits .0)) (fits .1)))
+    end-line k = line-again ∙ ap lineOf (sym (end-bytes-again bs octets (then-end k) (fits .1)))
 
 -- ---- a row that is read has its kind's fields alone
 
@@ -99,15 +113,22 @@ finding-formed : (kind : ℕ) (f : List ℕ) → RowKind kind → Formed kind (f
 unfolding findingOf
 finding-formed kind f (one-set k) = found (inl k) (rw k refl)
 finding-formed kind f (survivals k) = given k (rw k refl) (rw k refl) (rw k refl) (rw k refl)
-finding-formed kind f (two-sets k) = found (inr k) (rw k refl)
+finding-formed kind f (two-sets k) = found (inr (inl k)) (rw k refl)
+finding-formed kind f (passenger k) = found (inr (inr k)) (rw k refl)
 
 -- and as many as its kind has
-pub row-valid : (h : Hull) (bs : List ℕ) → isRow (kindOf bs) ≡ true → rowFits h (rowOf bs) ≡ true → ValidRow h (rowOf bs)
-unfolding headOf setOf resultsOf
-row-valid h bs k e = record { limits = proved (rowFits h (rowOf bs)) e; results = counted (eqb (kindOf bs) 5); formed = all (eqb (kindOf bs) 5) }
+pub row-valid : (h : Hull) (bs : List ℕ) → takes (h .kind) (kindOf bs) ≡ true → rowFits h (rowOf bs) ≡ true → ValidRow h (rowOf bs)
+unfolding headOf setOf floodingsOf resultsOf
+row-valid h bs k e = record {
+  taken = proved (takes (h .kind) (kindOf bs)) k;
+  limits = proved (rowFits h (rowOf bs)) e;
+  findings = counted (eqb (kindOf bs) 5);
+  formed = all (eqb (kindOf bs) 5);
+  floodings = besides (eqb (kindOf bs) 7);
+}
   where
     formed : (f : List ℕ) → Formed (kindOf bs) (findingOf (kindOf bs) f)
-    formed f = finding-formed (kindOf bs) f (of-row-kind (kindOf bs) k)
+    formed f = finding-formed (kindOf bs) f (of-taken (h .kind) (kindOf bs) k)
 
     counted : (t : Bool) → length (setOf (kindOf bs) (drop 6 (fieldsOf bs)) ++ cond t (setOf (kindOf bs) (drop 30 (fieldsOf bs))) []) ≡ cond t 6 3
     counted true = refl
@@ -116,3 +137,7 @@ row-valid h bs k e = record { limits = proved (rowFits h (rowOf bs)) e; results 
     all : (t : Bool) → Every (Formed (kindOf bs)) (setOf (kindOf bs) (drop 6 (fieldsOf bs)) ++ cond t (setOf (kindOf bs) (drop 30 (fieldsOf bs))) [])
     all true = (formed _, (formed _, (formed _, (formed _, (formed _, (formed _, tt))))))
     all false = (formed _, (formed _, (formed _, tt)))
+
+    besides : (t : Bool) → length (cond t (floodingsOf (drop 30 (fieldsOf bs))) []) ≡ cond t 3 0
+    besides true = refl
+    besides false = refl

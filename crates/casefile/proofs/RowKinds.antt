@@ -11,7 +11,7 @@ use borrow.Author.Tests.{eqb-true}
 use Rattle.laws.specs.Lists.{Every}
 use Rattle.laws.proofs.Tests.{one-holds}
 use Rattle.records.specs.declared.Finding.{Finding}
-use Rattle.casefile.specs.Layout.{isRow, takes, frameLength, resultLength, resultCount, floodingLength, floodingCount}
+use Rattle.casefile.specs.Layout.{isRow, isEnd, takes, frameLength, resultLength, resultCount, floodingLength, floodingCount}
 use Rattle.casefile.specs.Valid.{Formed, found, given}
 
 pub data RowKind (kind : ℕ) : Type 0 where
@@ -40,6 +40,9 @@ small-kind (one-set k) = omega arith
 small-kind (survivals k) = omega arith
 small-kind (two-sets k) = omega arith
 small-kind (passenger k) = omega arith
+
+pub end-no-row : (kind : ℕ) → isEnd kind ≡ true → isRow kind ≡ false
+end-no-row kind e = rw (eqb-true kind 15 e) refl
 
 -- a row that a hull takes is a row, and what is no row it does not take
 pub of-taken : (hull kind : ℕ) → takes hull kind ≡ true → RowKind kind

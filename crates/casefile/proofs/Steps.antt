@@ -114,7 +114,7 @@ module _ (h : Hull) (p : Progress) (l : Line) where
       let (a, b, c) = judged-row r e in
       line-of-row h p l a b .1 .few
 
-  pub row-passes-as : (r : RowHead) → judged h p l ≡ Frame.Row r → LinePasses p l × (isRow (kindOf bytes) ≡ true)
+  pub row-passes-as : (r : RowHead) → judged h p l ≡ Frame.Row r → LinePasses h p l × (isRow (kindOf bytes) ≡ true)
   row-passes-as r e =
       let (a, b, c) = judged-row r e in
       (line-of-row h p l a b .0, b)

@@ -7,7 +7,7 @@ use native.Mathlib.Numerals.{add-one}
 use native.Mathlib.Omega.{arith}
 use lib.Dec.{lit<}
 use lib.ListN.{length, getD, take, drop}
-use lib.Seq.{append-snoc, take-add, drop-cons, ext-getD}
+use lib.Seq.{append-snoc, take-suc, take-add, drop-cons, ext-getD}
 use Rattle.laws.specs.Lists.{tabulate}
 use Rattle.laws.specs.Bytes.{Octets, bytes}
 use Rattle.laws.proofs.Lists.{length-tabulate, getD-tabulate, length-part, getD-part}
@@ -16,7 +16,7 @@ use Rattle.fields.specs.Fields.{byteAt, wordAt}
 use Rattle.fields.proofs.Fields.{bytes-of-word, word-of-bytes}
 use Rattle.casefile.specs.Layout.{words}
 
-words-append : (xs ys : List ℕ) → words (xs ++ ys) ≡ words xs ++ words ys
+pub words-append : (xs ys : List ℕ) → words (xs ++ ys) ≡ words xs ++ words ys
 words-append [] ys = refl
 words-append (x ∷ xs) ys = ap (λ (t : List ℕ). bytes 2 x ++ t) (words-append xs ys) ∙ sym (append-assoc (bytes 2 x) (words xs) (words ys))
 
@@ -56,6 +56,11 @@ split-bytes bs zero h = refl
 split-bytes bs (suc n) h =
     split-bytes bs n (omega arith)
     ∙ rw (drop-cons bs n 0 h) (sym (append-snoc (tabulate (λ i. getD bs i 0) n) (getD bs n 0) (drop (suc n) bs)))
+
+pub front-bytes : (bs : List ℕ) (n : ℕ) → n ≤ length bs → take n bs ≡ tabulate (λ i. getD bs i 0) n
+unfolding tabulate
+front-bytes bs zero h = refl
+front-bytes bs (suc n) h = take-suc bs n 0 h ∙ ap (_++ getD bs n 0 ∷ []) (front-bytes bs n (omega arith))
 
 -- a part of a table
 pub part-of-table : {A : Type 0} (d : A) (g : ℕ → A) (a n N : ℕ) → a + n ≤ N → take n (drop a (tabulate g N)) ≡ tabulate (λ i. g (a + i)) n

@@ -1,7 +1,7 @@
 -- Lists that are made place by place, and parts of lists that the library has no law for. Assumes nothing.
 use Prim.Native.Nat.{ℕ, zero, suc, _+_, _-_, _≤_, _<_}
 use mathlib.Core.Path.{_≡_, refl, sym, _∙_, ap, ap₂}
-use mathlib.Core.List.{List, [], _∷_, _++_}
+use mathlib.Core.List.{List, [], _∷_, _++_, append-nil, append-assoc}
 use mathlib.Core.Logic.{⊎-elim}
 use native.Mathlib.Nat.{add-zero, add-suc, suc-add, suc-sub-suc, sub-zero, zero-sub, eq-or-lt-of-le}
 use native.Mathlib.Numerals.{add-one}
@@ -31,6 +31,26 @@ module _ {A : Type 0} where
   unfolding tabulate
   tabulate-same f g zero h = refl
   tabulate-same f g (suc n) h = ap₂ (λ xs x. xs ++ x ∷ []) (tabulate-same f g n (λ i l. h i (omega arith))) (h n (omega arith))
+
+  -- a table in two parts
+  pub tabulate-add : (g : ℕ → A) (m n : ℕ) → tabulate g (m + n) ≡ tabulate g m ++ tabulate (λ i. g (m + i)) n
+  unfolding tabulate
+  tabulate-add g m zero = rw (add-zero m, append-nil (tabulate g m)) refl
+  tabulate-add g m (suc n) = rw (add-suc m n, tabulate-add g m n, append-assoc (tabulate g m) (tabulate (λ i. g (m + i)) n) (g (m + n) ∷ [])) refl
+
+  -- a list of three, and more; and of none
+  pub three-of : (xs : List A) (n : ℕ) → length xs ≡ 3 + n → (x : A) × (y : A) × (z : A) × (rest : List A) × (xs ≡ x ∷ y ∷ z ∷ rest) × (length rest ≡ n)
+  three-of [] n e = absurd (omega arith)
+  three-of (x ∷ []) n e = absurd (omega arith)
+  three-of (x ∷ y ∷ []) n e = absurd (omega arith)
+  three-of (x ∷ y ∷ z ∷ rest) n e = (x, y, z, rest, refl, omega arith)
+
+  pub none-of : (xs : List A) → length xs ≡ 0 → xs ≡ []
+  none-of [] e = refl
+  none-of (x ∷ xs) e = absurd (omega arith)
+
+  pub three-alone : (xs : List A) → length xs ≡ 3 → (x : A) × (y : A) × (z : A) × (xs ≡ x ∷ y ∷ z ∷ [])
+  three-alone xs e = let (x, y, z, rest, d, n) = three-of xs 0 e in (x, y, z, d ∙ ap (λ t. x ∷ y ∷ z ∷ t) (none-of rest n))
 
   pub three-same : {a b c a′ b′ c′ : A} → a ≡ a′ → b ≡ b′ → c ≡ c′ → _≡_ {A = List A} (a ∷ b ∷ c ∷ []) (a′ ∷ b′ ∷ c′ ∷ [])
   three-same p q r = rw (p, q, r) refl

@@ -1,7 +1,7 @@
 -- A line's judging, step by step as the code goes: a row, the end, a frame, a line. Assumes nothing.
 use Prim.Native.Nat.{ℕ, _+_, _-_, _*_, _≤_, _<_}
 use mathlib.Core.Path.{_≡_, refl, sym, _∙_}
-use mathlib.Core.Bool.{Bool, true, false, cond, not, _&&_, or-true, and-assoc}
+use mathlib.Core.Bool.{Bool, true, false, cond, not, _&&_, or-true, and-true, and-assoc}
 use mathlib.Core.List.{List, [], _∷_, _++_, append-nil}
 use native.Mathlib.Omega.{arith}
 use lib.Dec.{eqb}
@@ -9,8 +9,10 @@ use lib.ListN.{length, take, drop}
 use borrow.Author.Tests.{le-leb, lt-leb, eq-eqb, ne-eqb}
 use Rattle.laws.proofs.Lists.{rest-of}
 use Rattle.records.specs.declared.Finding.{Finding}
+use Rattle.records.specs.declared.Flooding.{Flooding}
 use Rattle.records.specs.declared.Hull.{Hull}
 use Rattle.records.specs.declared.RowHead.{RowHead}
+use Rattle.records.specs.Results.{Results}
 use Rattle.lines.specs.Lines.{Line}
 use Rattle.hexadecimal.specs.Hex.{pairs, proper, badlyWritten}
 use Rattle.frames.specs.declared.Written.the-variants.{Bytes}
@@ -20,15 +22,15 @@ use Rattle.fields.specs.Fields.{wordAt}
 use Rattle.casefile.specs.declared.Frame.{Frame}
 use Rattle.casefile.specs.declared.Progress.{Progress}
 use Rattle.casefile.specs.Record.{Row}
-use Rattle.casefile.specs.Layout.{kindOf, isRow, frameLength, resultLength, resultCount, headOf, setOf, resultsOf, rowOf, countOf}
-use Rattle.casefile.specs.Limits.{headFits, findingFits, findingsFit, rowFits}
+use Rattle.casefile.specs.Layout.{kindOf, isRow, takes, frameLength, resultLength, resultCount, floodingLength, floodingCount, headOf, setOf, floodingsOf, resultsOf, rowOf, countOf}
+use Rattle.casefile.specs.Limits.{headFits, findingFits, findingsFit, floodingsFit, resultsFit, rowFits}
 use Rattle.casefile.specs.Order.{outOfOrder, leavesOpen, endsOpen}
 use Rattle.casefile.specs.Kept.{placeWidth}
 use Rattle.casefile.specs.Table.{_when_, firstHolds, wrongFrame, rowChecks, endChecks, lineChecks}
 use Rattle.casefile.specs.Answer.{unlessWrong, frameOf, judged}
 use Rattle.casefile.specs.Judging.{rowNumber, rowJudged, endJudged, frameJudged}
 use Rattle.casefile.proofs.Checks.{first-passed}
-use Rattle.casefile.proofs.RowKinds.{RowKind, is-row}
+use Rattle.casefile.proofs.RowKinds.{is-row, of-taken}
 use Rattle.rowlines.proofs.CodeFrames.{right-row, right-end, part, frame-too-long}
 
 -- ---- the number of a row
@@ -62,25 +64,41 @@ unfolding findingsFit
 sets-fit [] ss = refl
 sets-fit (r ∷ rs) ss = rw (sets-fit rs ss) (sym (and-assoc (findingFits r) (findingsFit rs) (findingsFit ss)))
 
--- and they go in: of every kind a first set, of kind 05 a second
-pub first-goes-in : (kind n : ℕ) → 6 + resultCount kind * resultLength kind ≤ n → 6 + 3 * resultLength kind ≤ n
+-- and they go in: of every kind a first set, of kind 05 a second, of kind 07 what a passenger ship's row tells besides
+abbrev Long : ℕ → ℕ → Type 0
+Long kind n = 6 + resultCount kind * resultLength kind + floodingCount kind * floodingLength ≤ n
+
+pub first-goes-in : (kind n : ℕ) → Long kind n → 6 + 3 * resultLength kind ≤ n
 first-goes-in kind n = by (eqb kind 5)
   where
-    by : (t : Bool) → 6 + cond t 6 3 * resultLength kind ≤ n → 6 + 3 * resultLength kind ≤ n
+    by : (t : Bool) → 6 + cond t 6 3 * resultLength kind + floodingCount kind * floodingLength ≤ n → 6 + 3 * resultLength kind ≤ n
     by true l = omega arith
-    by false l = l
+    by false l = omega arith
 
-pub second-goes-in : (kind n : ℕ) → kind ≡ 5 → 6 + resultCount kind * resultLength kind ≤ n → 30 + 3 * resultLength kind ≤ n
+pub second-goes-in : (kind n : ℕ) → kind ≡ 5 → Long kind n → 30 + 3 * resultLength kind ≤ n
 second-goes-in kind n k l = rw k (rw k at l)
 
-module _ (kind : ℕ) (f : List ℕ) (x : List Finding) (a : Bool) (e : x ≡ setOf kind (take (length f - 6) (drop 6 f))) (p : a ≡ findingsFit x) where
-  pub one-set-fits : (kind ≡ 5 → ⊥) → a ≡ findingsFit (resultsOf kind f)
-  unfolding resultsOf
-  one-set-fits k = rw (ne-eqb kind 5 k, append-nil) (p ∙ rw (e, rest-of f 6) refl)
+pub floodings-go-in : (kind n : ℕ) → kind ≡ 7 → Long kind n → 30 + 3 * floodingLength ≤ n
+floodings-go-in kind n k l = rw k at l
 
-  pub two-sets-fit : kind ≡ 5 → (y : List Finding) (b : Bool) → y ≡ setOf kind (take (length f - 30) (drop 30 f)) → b ≡ findingsFit y → (a && b) ≡ findingsFit (resultsOf kind f)
-  unfolding resultsOf
-  two-sets-fit k y b g q = rw (eq-eqb kind 5 k, sets-fit (setOf kind (drop 6 f)) (setOf kind (drop 30 f)), p, q, e, g, rest-of f 6, rest-of f 30) refl
+module _ (kind : ℕ) (f : List ℕ) (x : List Finding) (a : Bool) (e : x ≡ setOf kind (take (length f - 6) (drop 6 f))) (p : a ≡ findingsFit x) where
+  -- the first set, as it stands in the row
+  first : a ≡ findingsFit (setOf kind (drop 6 f))
+  first = p ∙ rw (e, rest-of f 6) refl
+
+  pub one-set-fits : (kind ≡ 5 → ⊥) → (kind ≡ 7 → ⊥) → a ≡ resultsFit (resultsOf kind f)
+  unfolding resultsOf resultsFit floodingsFit
+  one-set-fits k l = rw (ne-eqb kind 5 k, ne-eqb kind 7 l, append-nil (setOf kind (drop 6 f)), and-true (findingsFit (setOf kind (drop 6 f)))) first
+
+  pub two-sets-fit : kind ≡ 5 → (y : List Finding) (b : Bool) → y ≡ setOf kind (take (length f - 30) (drop 30 f)) → b ≡ findingsFit y → (a && b) ≡ resultsFit (resultsOf kind f)
+  unfolding resultsOf resultsFit floodingsFit
+  two-sets-fit k y b g q =
+      rw (eq-eqb kind 5 k, ne-eqb kind 7 (λ l. omega arith), and-true (findingsFit (setOf kind (drop 6 f) ++ setOf kind (drop 30 f))), sets-fit (setOf kind (drop 6 f)) (setOf kind (drop 30 f)), first, q, g, rest-of f 30) refl
+
+  pub set-and-floodings-fit : (kind ≡ 5 → ⊥) → kind ≡ 7 → (ws : List Flooding) (b : Bool) → ws ≡ floodingsOf (take (length f - 30) (drop 30 f)) → b ≡ floodingsFit ws
+      → (a && b) ≡ resultsFit (resultsOf kind f)
+  unfolding resultsOf resultsFit
+  set-and-floodings-fit k l ws b g q = rw (ne-eqb kind 5 k, eq-eqb kind 7 l, append-nil (setOf kind (drop 6 f)), first, q, g, rest-of f 30) refl
 
 -- ---- the number of the end
 
@@ -95,7 +113,7 @@ module _ (h : Hull) (p : Progress) (count : ℕ) where
 
 -- ---- a frame by its number
 
-module _ (h : Hull) (p : Progress) (head to : RowHead) (fit : Bool) (results : List Finding) (k : ℕ) (e : head ≡ to) (f : fit ≡ findingsFit results)
+module _ (h : Hull) (p : Progress) (head to : RowHead) (fit : Bool) (results : Results) (k : ℕ) (e : head ≡ to) (f : fit ≡ resultsFit results)
     (g : k ≡ rowNumber h p head fit) where
   given : k ≡ firstHolds (rowChecks h p (record { head = to; results = results }))
   unfolding rowNumber rowChecks rowFits
@@ -124,15 +142,15 @@ module _ (h : Hull) (p : Progress) (count n : ℕ) (k : ℕ) (e : count ≡ n) (
 -- ---- a frame by its bytes, of kind k and with n of them
 
 module _ (bs : List ℕ) (k : ℕ) (e : k ≡ kindOf bs) (n : length bs ≡ frameLength k) (h : Hull) (p : Progress) (r : Frame) where
-  pub frame-row : RowKind k → r ≡ rowJudged h p (record { head = headOf k (part bs k e n); results = resultsOf k (part bs k e n) }) → r ≡ frameJudged h p bs
+  pub frame-row : takes (h .kind) k ≡ true → r ≡ rowJudged h p (record { head = headOf k (part bs); results = resultsOf k (part bs) }) → r ≡ frameJudged h p bs
   unfolding frameJudged
-  frame-row a g = g ∙ rw (right-row bs k e n a, rest-of bs 1, e, rw e at (is-row a)) refl
+  frame-row t g = g ∙ rw (right-row (h .kind) bs k e n t, rest-of bs 1, e, rw e at (is-row (of-taken (h .kind) k t))) refl
 
-  pub frame-end : k ≡ 15 → r ≡ endJudged h p (wordAt (part bs k e n) 0) → r ≡ frameJudged h p bs
+  pub frame-end : k ≡ 15 → r ≡ endJudged h p (wordAt (part bs) 0) → r ≡ frameJudged h p bs
   unfolding frameJudged
-  frame-end f g = g ∙ rw (right-end bs k e n f, rest-of bs 1, ← e, f) refl
+  frame-end f g = g ∙ rw (right-end (h .kind) bs k e n f, rest-of bs 1, ← e, f) refl
 
-pub frame-wrong : (h : Hull) (p : Progress) (bs : List ℕ) → wrongFrame bs ≡ true → Frame.Wrong 3 ≡ frameJudged h p bs
+pub frame-wrong : (h : Hull) (p : Progress) (bs : List ℕ) → wrongFrame (h .kind) bs ≡ true → Frame.Wrong 3 ≡ frameJudged h p bs
 unfolding frameJudged
 frame-wrong h p bs e = rw e refl
 
@@ -149,13 +167,13 @@ module _ (h : Hull) (p : Progress) (l : Line) where
     line-badly e = rw (going, e) refl
 
     number-of-frame : badlyWritten l ≡ false → firstHolds (lineChecks h p l)
-        ≡ firstHolds ((3 when wrongFrame (pairs (l .text))) ∷ cond (isRow (kindOf (pairs (l .text)))) (rowChecks h p (rowOf (pairs (l .text)))) (endChecks h p (countOf (pairs (l .text)))))
+        ≡ firstHolds ((3 when wrongFrame (h .kind) (pairs (l .text))) ∷ cond (isRow (kindOf (pairs (l .text)))) (rowChecks h p (rowOf (pairs (l .text)))) (endChecks h p (countOf (pairs (l .text)))))
     unfolding lineChecks
     number-of-frame e = first-passed 10 (p .ended) _ going ∙ first-passed 2 (badlyWritten l) _ e
 
     pub line-by-frame : badlyWritten l ≡ false → frameJudged h p (pairs (l .text)) ≡ judged h p l
     unfolding judged firstHolds frameJudged rowJudged endJudged frameOf
-    line-by-frame e = rw (number-of-frame e) (by (wrongFrame (pairs (l .text))) (isRow (kindOf (pairs (l .text)))))
+    line-by-frame e = rw (number-of-frame e) (by (wrongFrame (h .kind) (pairs (l .text))) (isRow (kindOf (pairs (l .text)))))
       where
         by : (t u : Bool) →
             cond t (Frame.Wrong 3) (cond u (rowJudged h p (rowOf (pairs (l .text)))) (endJudged h p (countOf (pairs (l .text)))))
@@ -181,7 +199,7 @@ module _ (h : Hull) (p : Progress) (text : List ℕ) (going : p .ended ≡ false
 
     pub line-too-long : placeWidth < n → Frame.Wrong 3 ≡ judged h p (record { text = text; closed = true })
     line-too-long l =
-        frame-wrong h p (pairs text) (frame-too-long (pairs text) (omega (arith, well-written text n w .1)))
+        frame-wrong h p (pairs text) (frame-too-long (h .kind) (pairs text) (omega (arith, well-written text n w .1)))
         ∙ line-by-frame h p (record { text = text; closed = true }) going well
 
     pub line-decoded : (bs : List ℕ) (r : Frame) → bs ≡ pairs text → r ≡ frameJudged h p bs → r ≡ judged h p (record { text = text; closed = true })

@@ -1,7 +1,7 @@
 -- Limits as the code tests them: places that rise one by one, and a group of zones without the sum that could wrap. Assumes nothing.
 use Prim.Native.Nat.{ℕ, _+_, _-_, _≤_, _<_}
 use mathlib.Core.Path.{_≡_, refl}
-use mathlib.Core.Bool.{Bool, true, false, _&&_}
+use mathlib.Core.Bool.{Bool, true, false, _&&_, and-true}
 use mathlib.Core.List.{List, [], _∷_}
 use native.Mathlib.Numerals.{add-one}
 use native.Mathlib.Omega.{arith}
@@ -60,10 +60,6 @@ module _ (a n m : ℕ) where
         (λ e. le-leb (n - 1) (m - a) (omega (arith, leb-true (a + n - 1) m e))))
 
 -- ---- three of a kind by their places
-
-and-true : (t : Bool) → (t && true) ≡ t
-and-true true = refl
-and-true false = refl
 
 -- a test of each of a list, written along it
 module _ {A : Type 0} (fits : A → Bool) (all-fit : List A → Bool) (none : all-fit [] ≡ true) (more : (x : A) (xs : List A) → all-fit (x ∷ xs) ≡ (fits x && all-fit xs)) where

@@ -1,11 +1,10 @@
 -- `judge_frame` meets its contract. Assumes nothing.
 use mathlib.Core.Path.{sym, _∙_}
-use mathlib.Core.Logic.{⊎-elim}
 use denote.Ref.{now}
-use Rattle.casefile.proofs.RowKinds.{two-sets, two-or-three}
+use borrow.Author.Tests.{not-true, not-false}
+use Rattle.casefile.proofs.RowKinds.{of-taken}
 use Rattle.rowlines.proofs.CodeFrames.{wrong-length, wrong-kind, results-go-in}
 use Rattle.judging.proofs.CodeJudging.{frame-wrong, frame-row, frame-end}
-use native.Mathlib.Omega.{arith}
 use borrow.Author.Needs.{needs}
 use Rattle.judging.proofs.judge_frame.Statement.{statement}
 use Rattle.judging.proofs.judge_frame.Tie as tie
@@ -17,7 +16,7 @@ frame-length-requires : tie.Need-frame-length-requires
 frame-length-requires c κs = search needs
 
 returns : tie.Need-returns
-returns c = frame-wrong _ _ _ (wrong-length (now (c .before .before .before .before .args .frame)) _ (c .before .before .byte-at .ensures .0) (λ f. c .if1 .taken (f ∙ sym (c .before .frame-length .ensures))))
+returns c = frame-wrong _ _ _ (wrong-length _ (now (c .before .before .before .before .args .frame)) _ (c .before .before .byte-at .ensures .0) (λ f. c .if1 .taken (f ∙ sym (c .before .frame-length .ensures))))
 
 sub-judge-end : tie.Need-sub-judge-end
 sub-judge-end c = search needs
@@ -31,6 +30,17 @@ part-judge-end-end c = search needs
 judge-end-requires : tie.Need-judge-end-requires
 judge-end-requires c κs = search needs
 
+returns-2 : tie.Need-returns-2
+returns-2 c =
+    frame-end (now (c .before .before .before .before .before .before .before .args .frame)) _ (c .before .before .before .before .before .byte-at .ensures .0) (c .before .before .before .if1 .left ∙ c .before .before .before .before .frame-length .ensures) _ _ _ (c .before .before .if2 .taken) (c .judge-end .ensures)
+
+is-taken-requires : tie.Need-is-taken-requires
+is-taken-requires c κs = search needs
+
+returns-3 : tie.Need-returns-3
+returns-3 c =
+    frame-wrong _ _ _ (wrong-kind _ (now (c .before .before .before .before .before .before .before .args .frame)) _ (c .before .before .before .before .before .byte-at .ensures .0) (sym (c .before .is-taken .ensures) ∙ not-true _ (c .if3 .taken)) (c .before .before .if2 .left))
+
 sub-judge-row : tie.Need-sub-judge-row
 sub-judge-row c = search needs
 
@@ -42,22 +52,11 @@ part-judge-row-end c = search needs
 
 judge-row-requires : tie.Need-judge-row-requires
 judge-row-requires c κs =
-    results-go-in (now (c .before .before .before .before .before .before .args .frame)) _ (c .before .before .before .before .byte-at .ensures .0) (c .before .before .if1 .left ∙ c .before .before .before .frame-length .ensures)
-    (⊎-elim (λ m. two-sets (m .keys1)) (λ m. two-or-three _ (m .1 .left) (m .2 .taken)) (c .before .match .came))
-
-returns-2 : tie.Need-returns-2
-returns-2 c = frame-end (now (c .before .before .before .before .before .before .before .args .frame)) _ (c .before .before .before .before .before .byte-at .ensures .0) (c .before .before .before .if1 .left ∙ c .before .before .before .before .frame-length .ensures) _ _ _ (c .before .before .match .keys2) (c .judge-end .ensures)
-
-returns-3 : tie.Need-returns-3
-returns-3 c = frame-wrong _ _ _ (wrong-kind (now (c .before .before .before .before .before .before .args .frame)) _ (c .before .before .before .before .byte-at .ensures .0) (λ f. omega arith) (λ f. omega arith) (λ f. omega arith) (λ f. omega arith))
+    results-go-in (now (c .before .before .before .before .before .before .before .before .args .frame)) _ (c .before .before .before .before .if1 .left ∙ c .before .before .before .before .before .frame-length .ensures) (of-taken _ _ (sym (c .before .before .is-taken .ensures) ∙ not-false _ (c .before .if3 .left)))
 
 returns-4 : tie.Need-returns-4
-returns-4 c = frame-wrong _ _ _ (wrong-kind (now (c .before .before .before .before .before .before .before .args .frame)) _ (c .before .before .before .before .before .byte-at .ensures .0) (λ f. omega arith) (λ f. omega arith) (c .before .before .match .rest .0 .1) (c .before .before .match .rest .1))
-
-returns-5 : tie.Need-returns-5
-returns-5 c =
-    frame-row (now (c .before .before .before .before .before .before .before .args .frame)) _ (c .before .before .before .before .before .byte-at .ensures .0) (c .before .before .before .if1 .left ∙ c .before .before .before .before .frame-length .ensures) _ _ _
-    (⊎-elim (λ m. two-sets (m .keys1)) (λ m. two-or-three _ (m .1 .left) (m .2 .taken)) (c .before .before .match .came)) (c .judge-row .ensures)
+returns-4 c =
+    frame-row (now (c .before .before .before .before .before .before .before .before .before .args .frame)) _ (c .before .before .before .before .before .before .before .byte-at .ensures .0) (c .before .before .before .before .before .if1 .left ∙ c .before .before .before .before .before .before .frame-length .ensures) _ _ _ (sym (c .before .before .before .is-taken .ensures) ∙ not-false _ (c .before .before .if3 .left)) (c .judge-row .ensures)
 
 pub judge-frame-spec : {M : Type 1} → statement M
 judge-frame-spec =
@@ -70,11 +69,11 @@ judge-frame-spec =
     part-judge-end-start
     part-judge-end-end
     judge-end-requires
+    returns-2
+    is-taken-requires
+    returns-3
     sub-judge-row
     part-judge-row-start
     part-judge-row-end
     judge-row-requires
-    returns-2
-    returns-3
-    returns-4
-    returns-5)
+    returns-4)

@@ -2,7 +2,7 @@
 use denote.Ref.{now}
 use native.Mathlib.Omega.{arith}
 use Rattle.rowlines.proofs.CodeReaders.{part-long}
-use Rattle.judging.proofs.CodeJudging.{first-goes-in, second-goes-in, one-set-fits, two-sets-fit}
+use Rattle.judging.proofs.CodeJudging.{first-goes-in, second-goes-in, floodings-go-in, one-set-fits, two-sets-fit, set-and-floodings-fit}
 use borrow.Author.Needs.{needs}
 use Rattle.judging.proofs.row.results_fit.Statement.{statement}
 use Rattle.judging.proofs.row.results_fit.Tie as tie
@@ -40,8 +40,27 @@ set-fits-requires-2 c κs = search needs
 returns : tie.Need-returns
 returns c = two-sets-fit _ (now (c .before .before .before .before .before .before .before .before .args .f)) _ _ (c .before .before .before .before .before .set .ensures) (c .before .before .before .before .set-fits .ensures) (c .before .before .before .if1 .taken) _ _ (c .before .set2 .ensures) (c .set-fits2 .ensures)
 
+sub-floodings : tie.Need-sub-floodings
+sub-floodings c = omega (arith, floodings-go-in (c .before .before .before .before .before .before .args .kind) _ (c .if2 .taken) (c .before .before .before .before .before .before .pre))
+
+part-floodings-start : tie.Need-part-floodings-start
+part-floodings-start c = omega (arith, floodings-go-in (c .before .before .before .before .before .before .args .kind) _ (c .if2 .taken) (c .before .before .before .before .before .before .pre))
+
+part-floodings-end : tie.Need-part-floodings-end
+part-floodings-end c = search needs
+
+floodings-requires : tie.Need-floodings-requires
+floodings-requires c κs = part-long (now (c .before .before .before .before .before .before .before .args .f)) 30 _ (floodings-go-in (c .before .before .before .before .before .before .before .args .kind) _ (c .before .if2 .taken) (c .before .before .before .before .before .before .before .pre))
+
+floodings-fit-requires : tie.Need-floodings-fit-requires
+floodings-fit-requires c κs = search needs
+
 returns-2 : tie.Need-returns-2
-returns-2 c = one-set-fits _ (now (c .before .before .before .before .before .args .f)) _ _ (c .before .before .set .ensures) (c .before .set-fits .ensures) (c .if1 .left)
+returns-2 c =
+    set-and-floodings-fit _ (now (c .before .before .before .before .before .before .before .before .before .args .f)) _ _ (c .before .before .before .before .before .before .set .ensures) (c .before .before .before .before .before .set-fits .ensures) (c .before .before .before .before .if1 .left) (c .before .before .before .if2 .taken) _ _ (c .before .floodings .ensures) (c .floodings-fit .ensures)
+
+returns-3 : tie.Need-returns-3
+returns-3 c = one-set-fits _ (now (c .before .before .before .before .before .before .args .f)) _ _ (c .before .before .before .set .ensures) (c .before .before .set-fits .ensures) (c .before .if1 .left) (c .if2 .left)
 
 pub results-fit-spec : {M : Type 1} → statement M
 results-fit-spec =
@@ -58,4 +77,10 @@ results-fit-spec =
     set-requires-2
     set-fits-requires-2
     returns
-    returns-2)
+    sub-floodings
+    part-floodings-start
+    part-floodings-end
+    floodings-requires
+    floodings-fit-requires
+    returns-2
+    returns-3)

@@ -13,13 +13,15 @@ use Rattle.laws.specs.Lists.{Every, Linked}
 use Rattle.laws.proofs.Tests.{both, holds}
 use Rattle.records.specs.declared.Hull.{Hull}
 use Rattle.records.specs.declared.Finding.{Finding}
+use Rattle.records.specs.declared.Flooding.{Flooding}
 use Rattle.records.specs.declared.RowHead.{RowHead}
 use Rattle.spans.specs.Hull.{Hulled}
-use Rattle.survival.specs.Survival.{nothing}
+use Rattle.survival.specs.Survival.{nothing, still, Loaded}
+use Rattle.indices.specs.Index.{Given}
 use Rattle.casefile.specs.Record.{Row, Case}
 use Rattle.casefile.specs.Limits.{sizesFit, zonesFit, rowFits}
 use Rattle.casefile.specs.Valid.{ValidHull, ValidRow, Ordered, Valid, Follows, higher, deeper, later}
-use Rattle.casefile.proofs.Limits.{sizes-are, zones-are, rising-step, Head, Found, row-is}
+use Rattle.casefile.proofs.Limits.{sizes-are, zones-are, rising-step, Head, Found, Flooded, row-is}
 use Rattle.rows.specs.declared.Standing.{Standing}
 use Rattle.rows.specs.Standing.{nowhere, stands}
 use Rattle.rows.specs.Running.{Stood, Follow}
@@ -49,6 +51,22 @@ given-within : (fs : List Finding) → Every Found fs → (i : ℕ) → getD fs 
 given-within [] e i = omega arith
 given-within (f ∷ fs) e zero = omega (arith, e .0 .given)
 given-within (f ∷ fs) e (suc i) = given-within fs (e .1) i
+
+lever-within : (fs : List Finding) → Every Found fs → (i : ℕ) → getD fs i nothing .lever ≤ 5000
+lever-within [] e i = omega arith
+lever-within (f ∷ fs) e zero = e .0 .lever
+lever-within (f ∷ fs) e (suc i) = lever-within fs (e .1) i
+
+loads-within : (ws : List Flooding) → Every Flooded ws → {f : Finding} → f .lever ≤ 5000 → (i : ℕ) → Loaded f (getD ws i still)
+loads-within [] e l i = record { lever = l; displacement = omega arith; some = omega arith; moment = omega arith }
+loads-within (w ∷ ws) e l zero = record { lever = l; displacement = e .0 .displacement; some = e .0 .heeled; moment = e .0 .moment }
+loads-within (w ∷ ws) e l (suc i) = loads-within ws (e .1) l i
+
+-- a valid row's results
+pub results-given : (h : Hull) (r : Row) → ValidRow h r → Given (r .results)
+results-given h r v =
+    let (fits, found, flooded) = row-is h r (holds (rowFits h r) (v .limits)) in
+    record { each = given-within (r .results .findings) found; loads = λ i. loads-within (r .results .floodings) flooded (lever-within (r .results .findings) found i) i }
 
 -- ---- one row after another
 
@@ -82,9 +100,9 @@ Ranked h x z = Follows h (x .head) (z .head)
 one-more : (h : Hull) (y : Standing) (s : Row) (rs : List Row) → ValidRow h s → y .before ≤ y .head .depth → (Head h (s .head) → inGroup y (s .head) ≡ true → y .head .depth ≤ s .head .depth) →
     (Stood h (stands y (s .head)) → Follow h (stands y (s .head)) rs) → Follow h y (s ∷ rs)
 one-more h y s rs v low rises rest =
-    let (fits, found) = row-is h s (holds (rowFits h s) (v .limits)) in
+    let fits = row-is h s (holds (rowFits h s) (v .limits)) .0 in
     let st : Stood h (stands y (s .head)) = stood h y (s .head) fits low (rises fits) in
-    (st, record { each = given-within (s .results) found }, rest st)
+    (st, results-given h s v, rest st)
 
 in-turn : (h : Hull) (y : Standing) (r : Row) (rs : List Row) → y .head ≡ r .head → y .before ≤ y .head .depth → Linked (Ranked h) r rs → Every (ValidRow h) rs → Follow h y rs
 in-turn h y r [] e low l v = tt

@@ -5,11 +5,14 @@ use mathlib.Core.List.{List, [], _∷_}
 use Rattle.laws.specs.Fraction.{_less_over_, _⊛_}
 use Rattle.laws.specs.Rounding.{ceil}
 use Rattle.records.specs.declared.Ends.{Ends}
+use Rattle.records.specs.declared.Hull.{Hull}
+use Rattle.records.specs.Results.{found}
 use Rattle.solas.specs.Count.{added, taken}
 use Rattle.solas.specs.Index.{R, partialMark}
 use Rattle.chances.specs.Share.{sumsOf, lowest, highest, rowOf, rowEnds}
 use Rattle.numbers.specs.Ratio.{ratioOf}
 use Rattle.indices.specs.Index.{trio, attainedOf}
+use Rattle.verdicts.specs.Required.{requiredOf, markOf}
 use Rattle.verdicts.specs.Verdict.{reaches, allReach, verdictOf}
 use Rattle.casefile.specs.Record.{Row, Case}
 use Rattle.casefile.specs.Reading.{refused, accepted}
@@ -22,9 +25,12 @@ use Rattle.answers.specs.Answer.{figures, shares, refusal, answered, she
 abbrev ends : ℕ → ℕ → Ends
 ends lower upper = record { lower = lower; upper = upper }
 
+abbrev metres100 : Hull
+metres100 = record { kind = 1; length = 10000; breadth = 0; deepest = 0; light = 0; lifeboats = 0; excess = 0; zones = 0; places = [] }
+
 -- with one row, and As, Ap, Al
 abbrev Figured : Ends → Ends → Ends → Ends → ℕ → Type 0
-Figured s p l a verdict = figures 10000 1 (trio s p l) ≡ record { number = 0; line = 0; verdict = verdict; rows = 1; attained = a; partials = trio s p l }
+Figured s p l a verdict = figures metres100 1 (trio s p l) ≡ record { number = 0; line = 0; verdict = verdict; rows = 1; attained = a; partials = trio s p l }
 
 pub record Values : Type 0 where
   pub meets : Figured (ends 1000000000 1000000000) (ends 1000000000 1000000000) (ends 300000000 300000001) (ends 860000000 860000001) 1
@@ -32,7 +38,7 @@ pub record Values : Type 0 where
   pub unsettled : Figured (ends 492000000 492100000) (ends 492000000 492100000) (ends 492000000 492100000) (ends 492000000 492100000) 3
 
 pub figures-are : Values
-unfolding figures attainedOf verdictOf allReach reaches ratioOf R partialMark ceil _⊛_ _less_over_
+unfolding figures requiredOf markOf attainedOf verdictOf allReach reaches ratioOf R partialMark ceil _⊛_ _less_over_
 figures-are = record { meets = refl; fails = refl; unsettled = refl }
 
 -- ---- a sheet that holds 7 and 8, after a refusal, after a case with no row, and after one with a row of no zone, whose share is 0
@@ -41,7 +47,7 @@ abbrev case : List Row → Case
 case rows = record { hull = noHull; rows = rows }
 
 abbrev zoneless : Row
-zoneless = record { head = record { kind = 3; first = 1; count = 0; depth = 1; height = 1 }; results = [] }
+zoneless = record { head = record { kind = 3; first = 1; count = 0; depth = 1; height = 1 }; results = found [] }
 
 pub record Sheets : Type 0 where
   pub number-first : answered (refused 3 1) 0 ≡ refusal 3 1

@@ -2,29 +2,30 @@
 use Prim.Native.Nat.{ℕ, _*_, _/_, _^_, _≤_, _<_}
 use mathlib.Core.Path.{_≡_, refl, sym, _∙_, ap}
 use mathlib.Core.Bool.{true, false}
-use mathlib.Core.List.{List, _++_}
+use mathlib.Core.List.{List, [], _∷_, _++_}
 use native.Mathlib.Omega.{arith}
 use lib.Dec.{ltb}
 use lib.ListN.{length, drop}
 use borrow.Author.Tests.{lt-ltb, le-ltb}
+use Rattle.laws.specs.Lists.{Every}
 use Rattle.laws.proofs.Tests.{holds}
 use Rattle.records.specs.declared.Answer.{Answer}
 use Rattle.records.specs.declared.Ends.{Ends}
 use Rattle.records.specs.declared.Hull.{Hull}
 use Rattle.records.specs.declared.Trio.{Trio}
-use Rattle.solas.specs.Index.{R, partialMark}
 use Rattle.spans.specs.Hull.{Hulled}
 use Rattle.spans.specs.Table.{tableOf}
 use Rattle.records.specs.declared.Ratio.{Ratio}
 use Rattle.numbers.specs.Ratio.{ratioOf}
-use Rattle.indices.specs.Index.{partials, attainedOf}
+use Rattle.indices.specs.Index.{partials, attainedOf, Given}
+use Rattle.verdicts.specs.Required.{Sized, requiredOf, markOf}
 use Rattle.verdicts.specs.Verdict.{verdictOf}
 use Rattle.casefile.specs.declared.Judgement.{Judgement}
-use Rattle.casefile.specs.Record.{Case}
+use Rattle.casefile.specs.Record.{Row, Case}
 use Rattle.casefile.specs.Limits.{sizesFit}
 use Rattle.casefile.specs.Reading.{Reading, refused, accepted, reading}
 use Rattle.casefile.specs.Answer.{judgementOf}
-use Rattle.casefile.specs.Valid.{Valid}
+use Rattle.casefile.specs.Valid.{ValidRow, Valid}
 use Rattle.casefile.specs.Kept.{placeWidth, keptRows, Keeps}
 use Rattle.casefile.proofs.Limits.{Sizes, sizes-are}
 use Rattle.casefile.proofs.Refusal.{zero-accepts}
@@ -34,7 +35,7 @@ use Rattle.rows.specs.Standing.{nowhere}
 use Rattle.rows.specs.Work.{sharesFrom, addsFrom, numbers}
 use Rattle.rows.specs.Running.{Follow, Ready}
 use Rattle.answers.specs.Answer.{partialsOf, figures, answer, shares, refusal, answered, sheetAfter}
-use Rattle.answers.proofs.ValidCase.{hulled, rows-follow}
+use Rattle.answers.proofs.ValidCase.{hulled, rows-follow, results-given}
 use Rattle.answers.proofs.Shares.{share-small}
 use Rattle.index.specs.Kept.{keptCase}
 
@@ -45,10 +46,10 @@ ready k e = record { hull = k; table = e; shares = share-small k }
 
 -- ---- the figures of partial indices
 
-pub concluded : (size rows : ℕ) (ps : Trio) {a : Ends} {required mark : Ratio} {v : ℕ} → a ≡ attainedOf ps → required ≡ ratioOf (R size) → mark ≡ ratioOf (partialMark size) →
-    v ≡ verdictOf a ps required mark → record { number = 0; line = 0; verdict = v; rows = rows; attained = a; partials = ps } ≡ figures size rows ps
+pub concluded : (h : Hull) (rows : ℕ) (ps : Trio) {a : Ends} {required mark : Ratio} {v : ℕ} → a ≡ attainedOf ps → required ≡ ratioOf (requiredOf h) → mark ≡ ratioOf (markOf h) →
+    v ≡ verdictOf a ps required mark → record { number = 0; line = 0; verdict = v; rows = rows; attained = a; partials = ps } ≡ figures h rows ps
 unfolding figures
-concluded size rows ps e f g k = rw (k, e, f, g) refl
+concluded h rows ps e f g k = rw (k, e, f, g) refl
 
 -- ---- a valid case, as it is kept
 
@@ -59,8 +60,16 @@ module _ (kept : List ℕ) (h : Hull) (rows : ℕ) (valid : Valid (keptCase kept
   sizes : Sizes h
   sizes = sizes-are h (holds (sizesFit h) (valid .hull .sizes))
 
-  pub not-long : h .length ≤ 10 ^ 6
-  not-long = omega (arith, sizes .short)
+  pub sized : Sized h
+  sized = record { length = omega (arith, sizes .short); lifeboats = omega (arith, sizes .lifeboats); excess = omega (arith, sizes .excess) }
+
+  -- what is asked before its rows' survivals are told
+  pub rows-given : Every (λ (r : Row). Given (r .results)) (keptRows rows kept 0)
+  rows-given = each-given (keptRows rows kept 0) (valid .rows)
+    where
+      each-given : (rs : List Row) → Every (ValidRow h) rs → Every (λ (r : Row). Given (r .results)) rs
+      each-given [] v = tt
+      each-given (r ∷ rs) v = (results-given h r (v .0), each-given rs (v .1))
 
   -- what is asked before its rows are worked through, whatever room they need
   pub rows-asked : {Room : Type 0} {t : List ℕ} → t ≡ tableOf h → placeWidth * rows ≤ length kept → Room →
@@ -69,7 +78,7 @@ module _ (kept : List ℕ) (h : Hull) (rows : ℕ) (valid : Valid (keptCase kept
       let few : rows ≤ 500 = omega (arith, valid .few, length-kept rows kept 0) in
       (ready hull-is t, (omega (arith, sizes .shallow), omega (arith, sizes .shallow, sizes .lighter)), few, k, l, rows-follow (keptCase kept h rows) valid)
 
-  pub answer-is : {ps : Trio} {r : Answer} → ps ≡ partials (addsFrom h nowhere (keptRows rows kept 0)) → r ≡ figures (h .length) rows ps → r ≡ answer (keptCase kept h rows)
+  pub answer-is : {ps : Trio} {r : Answer} → ps ≡ partials (addsFrom h nowhere (keptRows rows kept 0)) → r ≡ figures h rows ps → r ≡ answer (keptCase kept h rows)
   unfolding answer partialsOf
   answer-is p q = q ∙ rw (p, length-kept rows kept 0) refl
 

@@ -1,21 +1,32 @@
 -- The survivals of rows, nine numbers each, row by row. Assumes nothing.
-use Prim.Native.Nat.{ℕ, suc, _+_, _*_, _≤_, _<_}
+use Prim.Native.Nat.{ℕ, zero, suc, _+_, _*_, _≤_, _<_}
 use mathlib.Core.Path.{_≡_, refl, _∙_, ap, subst}
 use mathlib.Core.List.{List, [], _∷_, _++_}
 use native.Mathlib.Omega.{arith}
 use lib.ListN.{length, getD, set, drop, length-append}
 use lib.Seq.{sets}
+use Rattle.laws.specs.Lists.{Every}
 use Rattle.laws.proofs.Pieces.{Put, put-none, put-more, put-all, put-in-front}
 use Rattle.records.specs.declared.Survival.{Survival}
 use Rattle.printing.specs.Marks.{markByte}
 use Rattle.survival.specs.Survival.{noSurvival, survivalsOf}
 use Rattle.casefile.specs.Record.{Row}
-use Rattle.casefile.specs.Kept.{keptRow}
+use Rattle.casefile.specs.Kept.{keptRow, keptRows}
 use Rattle.casefile.proofs.Kept.{length-kept}
 use Rattle.listing.specs.Survivals.{threeNumbers, survivalNumbers, survivalsFrom}
 -- checked first, so that a definition that tells other numbers is refused there
 use Rattle.listing.proofs.Values.{four-rows}
 use Rattle.rows.proofs.InTurn.{left, all, all-left, one-of-them, none-left}
+
+-- what holds of each kept row holds of the one at a place
+kept-from : (P : Row → Type 0) (k : ℕ) (kept : List ℕ) (i : ℕ) → Every P (keptRows k kept i) → (j : ℕ) → j < k → P (keptRow kept (i + j))
+unfolding keptRows
+kept-from P zero kept i e j l = absurd (omega arith)
+kept-from P (suc k) kept i e zero l = let at : i + 0 ≡ i = omega arith in rw at (e .0)
+kept-from P (suc k) kept i e (suc j) l = let at : i + suc j ≡ i + 1 + j = omega arith in rw at (kept-from P k kept (i + 1) (e .1) j (omega arith))
+
+pub kept-each : (P : Row → Type 0) (k : ℕ) (kept : List ℕ) → Every P (keptRows k kept 0) → (j : ℕ) → j < k → P (keptRow kept j)
+kept-each P k kept e j l = let at : 0 + j ≡ j = omega arith in rw at at (kept-from P k kept 0 e j l)
 
 pub length-survival : (ss : List Survival) → length (survivalNumbers ss) ≡ 9
 unfolding survivalNumbers threeNumbers

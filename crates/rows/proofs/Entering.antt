@@ -4,7 +4,7 @@ use mathlib.Core.Path.{_≡_, refl, sym, _∙_, ap, subst}
 use mathlib.Core.List.{List}
 use Rattle.records.specs.declared.Hull.{Hull}
 use Rattle.records.specs.declared.Ends.{Ends}
-use Rattle.records.specs.declared.Finding.{Finding}
+use Rattle.records.specs.Results.{Results}
 use Rattle.records.specs.declared.RowHead.{RowHead}
 use Rattle.records.specs.declared.Survival.{Survival}
 use Rattle.records.specs.declared.Trio.{Trio}
@@ -42,7 +42,7 @@ pub adds-small : {share : Ends} {vs : List ℕ} {ss : List Survival} {adds : Tri
 adds-small s w e = rw e (row-within s w)
 
 -- what the sums ask: v and survival are at most one
-pub weights : (below height kind : ℕ) (at : List ℕ) {fs : List Finding} {ss : List Survival} → Given fs → ss ≡ survivalsOf kind fs → RowWeights (rowVs below height at) ss
+pub weights : (below height kind : ℕ) (at : List ℕ) {rs : Results} {ss : List Survival} → Given rs → ss ≡ survivalsOf kind rs → RowWeights (rowVs below height at) ss
 weights below height kind at g e = rw e (row-weights below height at kind g)
 
 pub row-entered : (h : Hull) (s : Running) (kept : Row) {head : RowHead} {z : Standing} {part : Part} {at : List ℕ} {ss : List Survival} {adds sums : Trio} → head ≡ kept .head →

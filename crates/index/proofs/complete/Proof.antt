@@ -3,7 +3,7 @@ use Prim.Native.Nat.{_^_}
 use native.Mathlib.Omega.{arith}
 use mathlib.Core.Path.{refl}
 use Rattle.indices.proofs.Sums.{within-wider}
-use Rattle.index.proofs.Accepted.{hull-is, not-long, rows-asked, answer-is, shares-are}
+use Rattle.index.proofs.Accepted.{hull-is, sized, rows-asked, answer-is, shares-are}
 use borrow.Author.Needs.{needs}
 use Rattle.index.proofs.complete.Statement.{statement}
 use Rattle.index.proofs.complete.Tie as tie
@@ -27,7 +27,7 @@ conclude-requires : tie.Need-conclude-requires
 conclude-requires c κs =
     let fill = c .before .before in
     let r = fill .before .before .before .before .before .before .before .before in
-    (not-long (r .args .kept .now) (r .args .h) (r .args .rows) (r .pre .0), within-wider {k = 2 ^ 60} (omega arith) (fill .fill .ensures .1))
+    (sized (r .args .kept .now) (r .args .h) (r .args .rows) (r .pre .0), within-wider {k = 2 ^ 60} (omega arith) (fill .fill .ensures .1))
 
 same-length : tie.Need-same-length
 same-length c = search needs

@@ -4,7 +4,9 @@ use mathlib.Core.Path.{ap}
 use borrow.Author.Needs.{needs}
 use native.Mathlib.Omega.{arith}
 use Rattle.records.specs.declared.RowHead.{RowHead}
-use Rattle.listing.proofs.AsNumbers.{AsNumbers, no-number, nine-more, all-numbers}
+use Rattle.indices.specs.Index.{Given}
+use Rattle.casefile.specs.Record.{Row}
+use Rattle.listing.proofs.AsNumbers.{kept-each, AsNumbers, no-number, nine-more, all-numbers}
 use Rattle.listing.proofs.list.Statement.{statement}
 use Rattle.listing.proofs.list.Tie as tie
 
@@ -21,7 +23,13 @@ head-at-requires : tie.Need-head-at-requires Inv-loop μ-loop
 head-at-requires c κs = omega (arith, c .loop-test .taken, c .before .before .before .before .pre .0)
 
 survivals-at-requires : tie.Need-survivals-at-requires Inv-loop μ-loop
-survivals-at-requires c κs = (omega (arith, c .before .loop-test .taken, c .before .before .before .before .before .pre .0), ap (λ (h : RowHead). h .kind) (c .head-at .ensures))
+survivals-at-requires c κs =
+    let t = c .before in
+    let r = t .before .before .before .before in (
+      omega (arith, t .loop-test .taken, r .pre .0),
+      ap (λ (h : RowHead). h .kind) (c .head-at .ensures),
+      kept-each (λ (row : Row). Given (row .results)) (r .args .rows) (r .args .kept .now) (r .pre .2) _ (t .loop-test .taken),
+    )
 
 mul-put-survivals : tie.Need-mul-put-survivals Inv-loop μ-loop
 mul-put-survivals c =

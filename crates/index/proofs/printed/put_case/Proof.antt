@@ -3,7 +3,7 @@ use Prim.Native.Nat.{_^_}
 use native.Mathlib.Omega.{arith}
 use mathlib.Core.Path.{refl}
 use Rattle.indices.proofs.Sums.{within-wider}
-use Rattle.index.proofs.Accepted.{hull-is, not-long, rows-asked, answer-is}
+use Rattle.index.proofs.Accepted.{hull-is, sized, rows-asked, answer-is}
 use Rattle.index.proofs.Reported.{lines-then-figures}
 use borrow.Author.Needs.{needs}
 use Rattle.index.proofs.printed.put_case.Statement.{statement}
@@ -28,7 +28,7 @@ conclude-requires : tie.Need-conclude-requires
 conclude-requires c κs =
     let print = c .before .before in
     let r = print .before .before .before .before .before .before .before .before in
-    (not-long (r .args .kept .now) (r .args .h) (r .args .rows) (r .pre .0), within-wider {k = 2 ^ 60} (omega arith) (print .print .ensures .1))
+    (sized (r .args .kept .now) (r .args .h) (r .args .rows) (r .pre .0), within-wider {k = 2 ^ 60} (omega arith) (print .print .ensures .1))
 
 put-figures-requires : tie.Need-put-figures-requires
 put-figures-requires c κs = search needs

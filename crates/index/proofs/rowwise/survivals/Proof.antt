@@ -1,7 +1,7 @@
 -- `index::rowwise::survivals` meets its contract: a refusal, too little room, or all numbers. Assumes nothing.
 use native.Mathlib.Omega.{arith}
 use Rattle.casefile.specs.Reading.{reading}
-use Rattle.index.proofs.Accepted.{few-rows}
+use Rattle.index.proofs.Accepted.{few-rows, valid-case, rows-given}
 use Rattle.index.proofs.Reported.{refusal-lists-none, list-too-long, list-written}
 use borrow.Author.Needs.{needs}
 use Rattle.index.proofs.rowwise.survivals.Statement.{statement}
@@ -38,7 +38,11 @@ list-requires : tie.Need-list-requires
 list-requires c κs =
     let judged = c .before .before .before .before .before .before in
     let r = judged .before .before .before .before in
-    (omega (arith, few-rows (r .args .input .now) (judged .judge .ensures .0) (search needs) _ (judged .judge .ensures .1)), omega (arith, c .before .before .if2 .left))
+    let valid = valid-case (r .args .input .now) (judged .judge .ensures .0) (search needs) _ (judged .judge .ensures .1) in (
+      omega (arith, few-rows (r .args .input .now) (judged .judge .ensures .0) (search needs) _ (judged .judge .ensures .1)),
+      omega (arith, c .before .before .if2 .left),
+      rows-given _ _ _ valid,
+    )
 
 same-length : tie.Need-same-length
 same-length c = search needs

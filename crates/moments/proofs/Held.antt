@@ -11,7 +11,7 @@ use Rattle.laws.proofs.Roots.{powers-strict}
 use Rattle.laws.proofs.Rounding.{floor-upper}
 use Rattle.roots.specs.Root.{rootDown, rootUp}
 use Rattle.moments.specs.Held.{Rooted, Held, Beside}
-use Rattle.moments.proofs.Rooted.{rooted-exactly, rooted-between, ends-ordered, ends-near, strictly-within, strictly-reaches, ratio-rounded}
+use Rattle.moments.proofs.Rooted.{rooted-exactly, rooted-between, ends-ordered, ends-near, strictly-within, strictly-reaches, rooted-same, rooted-ratio, ratio-rounded}
 
 -- ---- fourth powers
 pub power-positive : {x : ℕ} → 0 < x → 0 < x ^ 4
@@ -126,7 +126,7 @@ module _ {f t e c n m : ℕ} (h : Held f t e c n m) where
       rooted-exactly low (mul-pos (h .caps-positive) (power-positive (h .heeling-positive))) (not-above low f e c n m within (h .rooted .within))
       (not-below low t e c n m reached (h .rooted .reaches))
 
-  pub held-between : (more ≡ 0 → ⊥) → more ≤ 1000 * m → Rooted (e * n ^ 4) (c * m ^ 4) low (low + 1)
+  pub held-between : 0 < more → more ≤ 1000 * m → Rooted (e * n ^ 4) (c * m ^ 4) low (low + 1)
   held-between p q =
       let beyond : low * (1000 * m) < t * n = omega (arith, upper-end, p) in
       let reached : t * n ≤ (low + 1) * (1000 * m) = omega (arith, upper-end, q) in
@@ -166,13 +166,16 @@ module _ {low e c n m : ℕ} (h : Beside low e c n m) where
 pub square-fits : (n : ℕ) → n < 2 ^ 32 → n * n < 2 ^ 64
 square-fits n h = let k : n ≤ 2 ^ 32 - 1 = omega arith in omega (arith, mul-le-mul k k)
 
--- ---- as the definitions have it: num/den is e/(10⁴·c) times (n/(1000·m))⁴
-pub held-rounded : {f t e c n m bottom top : ℕ} (num : ℕ) {den : ℕ} → 0 < den → num ≤ den → Held f t e c n m
-    → num * (c * 10 ^ 4 * (1000 * m) ^ 4) ≡ e * n ^ 4 * den
-    → Rooted (e * n ^ 4) (c * m ^ 4) bottom top
-    → (bottom ≡ rootDown (10 ^ 16 * num / den)) × (top ≡ rootUp (ceil (10 ^ 16 * num) den))
-held-rounded {c = c} {m = m} num hd proper h e r =
-    ratio-rounded num hd proper (mul-pos (h .caps-positive) (power-positive (h .heeling-positive))) (omega (arith, e, scale num c m)) r
-  where
-    scale : (num c m : ℕ) → num * (c * 10 ^ 4 * (1000 * m) ^ 4) ≡ 10 ^ 16 * num * (c * m ^ 4)
-    scale = poly3 (λ num c m. [] ⊢ num :* (c :* C (10 ^ 4) :* (C 1000 :* m) :^ 4) := C (10 ^ 16) :* num :* (c :* m :^ 4)) tt
+-- ---- as the definitions have it, by numerator and denominator
+module _ (e : ℕ) {c num den : ℕ} (hc : 0 < c) (hd : 0 < den) (proper : num ≤ den) where
+  -- s-final: num/den is e/(10⁴·c)
+  pub final-rooted : num * (c * 10 ^ 4) ≡ e * den → Rooted (10 ^ 12 * e) c (rootDown (10 ^ 16 * num / den)) (rootUp (ceil (10 ^ 16 * num) den))
+  final-rooted k = rooted-same (10 ^ 12 * e) c hd hc (omega (arith, k)) (rooted-ratio num hd proper)
+
+  -- s-final times s-mom: num/den is e/(10⁴·c) times (n/(1000·m))⁴
+  pub held-rounded : (n : ℕ) {m bottom top : ℕ} → 0 < m → num * (c * 10 ^ 4 * (1000 * m) ^ 4) ≡ e * n ^ 4 * den → Rooted (e * n ^ 4) (c * m ^ 4) bottom top
+      → (bottom ≡ rootDown (10 ^ 16 * num / den)) × (top ≡ rootUp (ceil (10 ^ 16 * num) den))
+  held-rounded n {m} hm k r = ratio-rounded num hd proper (mul-pos hc (power-positive hm)) (omega (arith, k, scale num c m)) r
+    where
+      scale : (num c m : ℕ) → num * (c * 10 ^ 4 * (1000 * m) ^ 4) ≡ 10 ^ 16 * num * (c * m ^ 4)
+      scale = poly3 (λ num c m. [] ⊢ num :* (c :* C (10 ^ 4) :* (C 1000 :* m) :^ 4) := C (10 ^ 16) :* num :* (c :* m :^ 4)) tt

@@ -38,17 +38,32 @@ fn compared(low: u64, fourth: u64, caps: u64, righting: u64, heeling: u64) -> Ro
     let survival = above_line(fourth, righting);
     let mark = times_below(middle, caps, heeling);
     if !at_most(mark, survival) {
-        return Rounded { bottom: low, top: middle };
+        return Rounded {
+            bottom: low,
+            top: middle,
+        };
     }
     if at_most(survival, mark) {
-        return Rounded { bottom: middle, top: middle };
+        return Rounded {
+            bottom: middle,
+            top: middle,
+        };
     }
-    Rounded { bottom: middle, top: middle + 1 }
+    let bottom = middle;
+    let top = middle + 1;
+    Rounded { bottom, top }
 }
 
 // s-final times s-mom, from the ends of s-final, whose fourth power is fourth/(10⁴·caps), and from what s-mom is a fraction of: the righting moment over
 // 1,000 times the heeling one. The ends of s-final times s-mom enclose it, and where no whole number lies between them they are rounded as they are.
-pub fn held_down(bottom: u64, top: u64, fourth: u64, caps: u64, righting: u64, heeling: u64) -> Rounded
+pub fn held_down(
+    bottom: u64,
+    top: u64,
+    fourth: u64,
+    caps: u64,
+    righting: u64,
+    heeling: u64,
+) -> Rounded
     requires { ⌜ Held bottom top fourth caps righting heeling ⌝ }
     ensures { λ r. ⌜ Rooted (fourth * righting ^ 4) (caps * heeling ^ 4) (r .bottom) (r .top) ⌝ }
 {
@@ -57,10 +72,16 @@ pub fn held_down(bottom: u64, top: u64, fourth: u64, caps: u64, righting: u64, h
     let low = least / whole;
     let more = least % whole + (top - bottom) * righting;
     if more == 0 {
-        return Rounded { bottom: low, top: low };
+        return Rounded {
+            bottom: low,
+            top: low,
+        };
     }
     if more <= whole {
-        return Rounded { bottom: low, top: low + 1 };
+        return Rounded {
+            bottom: low,
+            top: low + 1,
+        };
     }
     compared(low, fourth, caps, righting, heeling)
 }

@@ -43,8 +43,8 @@ returns-2 c =
     let f = survival .above-line .ensures .number in
     at-middle (survival .before .pre) (rw (e, f) at k) (rw (e, f) at l)
 
-add-t12 : tie.Need-add-t12
-add-t12 c = search needs
+add-top : tie.Need-add-top
+add-top c = search needs
 
 returns-3 : tie.Need-returns-3
 returns-3 c =
@@ -64,5 +64,5 @@ compared-spec =
     returns
     at-most-requires-2
     returns-2
-    add-t12
+    add-top
     returns-3)

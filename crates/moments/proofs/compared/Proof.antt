@@ -2,7 +2,6 @@
 use borrow.Author.Needs.{needs}
 use borrow.Author.Tests.{leb-true, leb-false, not-true, not-false}
 use mathlib.Core.Path.{sym, _∙_}
-use native.Mathlib.Omega.{arith}
 use Rattle.wide.specs.Limbs.{value}
 use Rattle.moments.proofs.Held.{below-middle, at-middle, above-middle}
 use Rattle.moments.proofs.compared.Statement.{statement}

@@ -1,60 +1,13 @@
--- s-final times s-mom: what the ends of s-final say of it. Assumes nothing.
-use mathlib.Core.Path.{_≡_, ap, _∙_}
-use mathlib.Core.List.{[]}
+-- s-final times s-mom between the ends of s-final times s-mom, and its roundings where they settle it or where one comparison does. Assumes nothing.
+use mathlib.Core.Path.{_≡_, ap}
 use Prim.Native.Nat.{ℕ, zero, suc, _+_, _-_, _*_, _/_, _%_, _^_, _≤_, _<_}
-use native.Mathlib.Nat.{le-trans, lt-of-lt-of-le, lt-of-le-of-lt, mul-le-mul, mul-le-mul-left, mul-le-mul-right, mul-lt-mul-of-pos-right, mul-pos, pow-le-pow-left, lt-of-mul-lt-mul-right, div-mul-le-self, div-add-mod'}
+use native.Mathlib.Nat.{le-trans, lt-of-lt-of-le, lt-of-le-of-lt, mul-le-mul, mul-le-mul-left, mul-le-mul-right, mul-pos, lt-of-mul-lt-mul-right, div-mul-le-self, div-add-mod'}
 use native.Mathlib.Omega.{arith}
-use Rattle.laws.specs.Rounding.{ceil}
 use Rattle.laws.proofs.Choice.{split}
-use Rattle.laws.proofs.Polynomial.{C, _:*_, _:^_, _:=_, _⊢_, poly3}
-use Rattle.laws.proofs.Roots.{powers-strict}
 use Rattle.laws.proofs.Rounding.{floor-upper}
-use Rattle.roots.specs.Root.{rootDown, rootUp}
 use Rattle.moments.specs.Held.{Rooted, Held, Beside}
-use Rattle.moments.proofs.Rooted.{rooted-exactly, rooted-between, ends-ordered, ends-near, strictly-within, strictly-reaches, ratio-rounded}
-
--- ---- fourth powers
-pub power-positive : {x : ℕ} → 0 < x → 0 < x ^ 4
-power-positive {x} h = powers-strict 3 0 x .1 h
-
-of-product : (x y c : ℕ) → (x * y) ^ 4 * c ≡ x ^ 4 * c * y ^ 4
-of-product = poly3 (λ x y c. [] ⊢ (x :* y) :^ 4 :* c := x :^ 4 :* c :* y :^ 4) tt
-
--- (s·1000·m)⁴·c is 10¹² times s⁴·(c·m⁴)
-of-thousandfold : (s m c : ℕ) → (s * (1000 * m)) ^ 4 * c ≡ 10 ^ 12 * (s ^ 4 * (c * m ^ 4))
-of-thousandfold = poly3 (λ s m c. [] ⊢ (s :* (C 1000 :* m)) :^ 4 :* c := C (10 ^ 12) :* (s :^ 4 :* (c :* m :^ 4))) tt
-
--- ---- a number s against e·n⁴/(c·m⁴), by an end f of the root of 10¹²·e/c times n: s·1000·m is not above f·n, or not below
-module _ (s f e c n m : ℕ) where
-  abbrev there : ℕ
-  there = s ^ 4 * (c * m ^ 4)
-
-  pub not-above : s * (1000 * m) ≤ f * n → f ^ 4 * c ≤ 10 ^ 12 * e → there ≤ e * n ^ 4
-  not-above h k =
-      omega (arith, of-product f n c, of-thousandfold s m c, mul-le-mul-right c (pow-le-pow-left h 4), mul-le-mul-right (n ^ 4) k)
-
-  pub not-below : f * n ≤ s * (1000 * m) → 10 ^ 12 * e ≤ f ^ 4 * c → e * n ^ 4 ≤ there
-  not-below h k =
-      omega (arith, of-product f n c, of-thousandfold s m c, mul-le-mul-right c (pow-le-pow-left h 4), mul-le-mul-right (n ^ 4) k)
-
-  -- strictly, where one of the two is strict
-  pub below-by-number : 0 < c → s * (1000 * m) < f * n → f ^ 4 * c ≤ 10 ^ 12 * e → there < e * n ^ 4
-  below-by-number hc h k =
-      let x = s * (1000 * m) in
-      omega (arith, of-product f n c, of-thousandfold s m c, mul-lt-mul-of-pos-right (powers-strict 3 x (f * n) .1 h) hc, mul-le-mul-right (n ^ 4) k)
-
-  pub below-by-root : 0 < n → s * (1000 * m) ≤ f * n → f ^ 4 * c < 10 ^ 12 * e → there < e * n ^ 4
-  below-by-root hn h k =
-      omega (arith, of-product f n c, of-thousandfold s m c, mul-le-mul-right c (pow-le-pow-left h 4), mul-lt-mul-of-pos-right k (power-positive hn))
-
-  pub above-by-number : 0 < c → f * n < s * (1000 * m) → 10 ^ 12 * e ≤ f ^ 4 * c → e * n ^ 4 < there
-  above-by-number hc h k =
-      let x = s * (1000 * m) in
-      omega (arith, of-product f n c, of-thousandfold s m c, mul-lt-mul-of-pos-right (powers-strict 3 (f * n) x .1 h) hc, mul-le-mul-right (n ^ 4) k)
-
-  pub above-by-root : 0 < n → f * n ≤ s * (1000 * m) → 10 ^ 12 * e < f ^ 4 * c → e * n ^ 4 < there
-  above-by-root hn h k =
-      omega (arith, of-product f n c, of-thousandfold s m c, mul-le-mul-right c (pow-le-pow-left h 4), mul-lt-mul-of-pos-right k (power-positive hn))
+use Rattle.moments.proofs.Rooted.{rooted-exactly, rooted-between, ends-ordered, ends-near, strictly-within, strictly-reaches}
+use Rattle.moments.proofs.Against.{power-positive, not-above, not-below, below-by-number, below-by-root, above-by-number, above-by-root}
 
 positive-factor : (a b n : ℕ) → a * n < b * n → 0 < n
 positive-factor a b zero h = absurd (omega arith)
@@ -126,7 +79,7 @@ module _ {f t e c n m : ℕ} (h : Held f t e c n m) where
       rooted-exactly low (mul-pos (h .caps-positive) (power-positive (h .heeling-positive))) (not-above low f e c n m within (h .rooted .within))
       (not-below low t e c n m reached (h .rooted .reaches))
 
-  pub held-between : (more ≡ 0 → ⊥) → more ≤ 1000 * m → Rooted (e * n ^ 4) (c * m ^ 4) low (low + 1)
+  pub held-between : 0 < more → more ≤ 1000 * m → Rooted (e * n ^ 4) (c * m ^ 4) low (low + 1)
   held-between p q =
       let beyond : low * (1000 * m) < t * n = omega (arith, upper-end, p) in
       let reached : t * n ≤ (low + 1) * (1000 * m) = omega (arith, upper-end, q) in
@@ -162,17 +115,3 @@ module _ {low e c n m : ℕ} (h : Beside low e c n m) where
 
   pub above-middle : (low + 1) ^ 4 * (c * m ^ 4) < e * n ^ 4 → Rooted (e * n ^ 4) (c * m ^ 4) (low + 1) (low + 1 + 1)
   above-middle k = let next : low + 2 ≡ low + 1 + 1 = omega arith in rooted-between (low + 1) k (rw next at (h .below))
-
-pub square-fits : (n : ℕ) → n < 2 ^ 32 → n * n < 2 ^ 64
-square-fits n h = let k : n ≤ 2 ^ 32 - 1 = omega arith in omega (arith, mul-le-mul k k)
-
--- ---- as the definitions have it: num/den is e/(10⁴·c) times (n/(1000·m))⁴
-pub held-rounded : {f t e c n m bottom top : ℕ} (num : ℕ) {den : ℕ} → 0 < den → num ≤ den → Held f t e c n m
-    → num * (c * 10 ^ 4 * (1000 * m) ^ 4) ≡ e * n ^ 4 * den
-    → Rooted (e * n ^ 4) (c * m ^ 4) bottom top
-    → (bottom ≡ rootDown (10 ^ 16 * num / den)) × (top ≡ rootUp (ceil (10 ^ 16 * num) den))
-held-rounded {c = c} {m = m} num hd proper h e r =
-    ratio-rounded num hd proper (mul-pos (h .caps-positive) (power-positive (h .heeling-positive))) (omega (arith, e, scale num c m)) r
-  where
-    scale : (num c m : ℕ) → num * (c * 10 ^ 4 * (1000 * m) ^ 4) ≡ 10 ^ 16 * num * (c * m ^ 4)
-    scale = poly3 (λ num c m. [] ⊢ num :* (c :* C (10 ^ 4) :* (C 1000 :* m) :^ 4) := C (10 ^ 16) :* num :* (c :* m :^ 4)) tt

@@ -1,2 +1,5 @@
 pub mod Rooted
+pub mod Against
 pub mod Held
+pub mod Defined
+pub mod Values

@@ -82,6 +82,9 @@ module _ (num : ℕ) {den : ℕ} (hd : 0 < den) (proper : num ≤ den) where
       let up = up-of-fraction (10 ^ 16 * num) hd (up-root (ceil (10 ^ 16 * num) den) (omega arith)) in
       record { within = down .0; greatest = down .1; reaches = up .0; least = up .1 }
 
+  pub top-at-most-one : rootUp (ceil (10 ^ 16 * num) den) ≤ 10 ^ 4
+  top-at-most-one = rooted-ratio .least (10 ^ 4) (mul-le-mul-left (10 ^ 16) proper)
+
   -- whatever is rounded of the same fraction is that
   pub ratio-rounded : {n d bottom top : ℕ} → 0 < d → 10 ^ 16 * num * d ≡ n * den → Rooted n d bottom top
       → (bottom ≡ rootDown (10 ^ 16 * num / den)) × (top ≡ rootUp (ceil (10 ^ 16 * num) den))

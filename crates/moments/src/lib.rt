@@ -12,8 +12,8 @@ pub struct Rounded {
     pub top: u64,
 }
 
-// What s⁴ is above the line, as a wide number.
-fn above_line(fourth: u64, righting: u64) -> [u64; 6]
+// What stands above the line of s⁴ = fourth·righting⁴/(caps·heeling⁴), for s in ten-thousandths.
+fn numerator(fourth: u64, righting: u64) -> [u64; 6]
     requires { ⌜ righting < 2 ^ 32 ⌝ }
     ensures { λ r. ⌜ Writes r (fourth * righting ^ 4) ⌝ }
 {
@@ -21,8 +21,8 @@ fn above_line(fourth: u64, righting: u64) -> [u64; 6]
     product(fourth, square, square)
 }
 
-// What a survival's fourth power is, times all that stands below the line.
-fn times_below(s: u64, caps: u64, heeling: u64) -> [u64; 6]
+// The fourth power of a whole number of ten-thousandths, times what stands below the line.
+fn times_denominator(s: u64, caps: u64, heeling: u64) -> [u64; 6]
     requires { ⌜ (s ≤ 10 ^ 4) × (caps ≤ 25600000) × (heeling ≤ 2000000) ⌝ }
     ensures { λ r. ⌜ Writes r (s ^ 4 * (caps * heeling ^ 4)) ⌝ }
 {
@@ -35,20 +35,35 @@ fn compared(low: u64, fourth: u64, caps: u64, righting: u64, heeling: u64) -> Ro
     ensures { λ r. ⌜ Rooted (fourth * righting ^ 4) (caps * heeling ^ 4) (r .bottom) (r .top) ⌝ }
 {
     let middle = low + 1;
-    let survival = above_line(fourth, righting);
-    let mark = times_below(middle, caps, heeling);
-    if !at_most(mark, survival) {
-        return Rounded { bottom: low, top: middle };
+    let survival = numerator(fourth, righting);
+    let at_middle = times_denominator(middle, caps, heeling);
+    if !at_most(at_middle, survival) {
+        return Rounded {
+            bottom: low,
+            top: middle,
+        };
     }
-    if at_most(survival, mark) {
-        return Rounded { bottom: middle, top: middle };
+    if at_most(survival, at_middle) {
+        return Rounded {
+            bottom: middle,
+            top: middle,
+        };
     }
-    Rounded { bottom: middle, top: middle + 1 }
+    let bottom = middle;
+    let top = middle + 1;
+    Rounded { bottom, top }
 }
 
-// s-final times s-mom, from the ends of s-final, whose fourth power is fourth/(10⁴·caps), and from what s-mom is a fraction of: the righting moment over
-// 1,000 times the heeling one. The ends of s-final times s-mom enclose it, and where no whole number lies between them they are rounded as they are.
-pub fn held_down(bottom: u64, top: u64, fourth: u64, caps: u64, righting: u64, heeling: u64) -> Rounded
+// s-final times s-mom: bottom and top are the ends of s-final, whose fourth power is fourth/(10⁴·caps), and s-mom is righting/(1,000·heeling). Both ends
+// times s-mom enclose it: where no whole number lies between them they settle it, and where one does, the survival is compared with that number.
+pub fn held_down(
+    bottom: u64,
+    top: u64,
+    fourth: u64,
+    caps: u64,
+    righting: u64,
+    heeling: u64,
+) -> Rounded
     requires { ⌜ Held bottom top fourth caps righting heeling ⌝ }
     ensures { λ r. ⌜ Rooted (fourth * righting ^ 4) (caps * heeling ^ 4) (r .bottom) (r .top) ⌝ }
 {
@@ -57,10 +72,16 @@ pub fn held_down(bottom: u64, top: u64, fourth: u64, caps: u64, righting: u64, h
     let low = least / whole;
     let more = least % whole + (top - bottom) * righting;
     if more == 0 {
-        return Rounded { bottom: low, top: low };
+        return Rounded {
+            bottom: low,
+            top: low,
+        };
     }
     if more <= whole {
-        return Rounded { bottom: low, top: low + 1 };
+        return Rounded {
+            bottom: low,
+            top: low + 1,
+        };
     }
     compared(low, fourth, caps, righting, heeling)
 }

@@ -50,7 +50,8 @@ unfolding limit
 below {w} h =
     let s = h .small in
     rw (listed w (h .six))
-    (more-below _ (2 ^ 160) _ (s 0) (more-below _ (2 ^ 128) _ (s 1) (more-below _ (2 ^ 96) _ (s 2) (more-below _ (2 ^ 64) _ (s 3) (more-below _ (2 ^ 32) _ (s 4) (more-below _ 1 [] (s 5) none-below))))))
+    (more-below _ (2 ^ 160) _ (s 0) (more-below _ (2 ^ 128) _ (s 1) (more-below _ (2 ^ 96) _ (s 2)
+    (more-below _ (2 ^ 64) _ (s 3) (more-below _ (2 ^ 32) _ (s 4) (more-below _ 1 [] (s 5) none-below))))))
 
 -- r is what w is short of the largest number below t
 record Short (t : ℕ) (w r : List ℕ) : Type 0 where

@@ -79,5 +79,6 @@ product-limbs n factor z lower higher none h p q =
       limbs = six-limbs (l 0) (k 0) (k 1) (k 2) (k 3) (k 4);
       number =
           rw (first-apart (limb lower 0) (limb higher 0 ∷ limb higher 1 ∷ limb higher 2 ∷ limb higher 3 ∷ limb higher 4 ∷ []))
-          (two-limbs n factor z (2 ^ 160) _ _ _ (lower .carry) _ _ _ _ (higher .carry) refl none (ap value (listed _ (p .limbs .six)) ∙ first-apart _ _) (p .whole) (last-apart _ _ _ _ _ _) (ap value (listed _ (q .limbs .six)) ∙ last-apart _ _ _ _ _ _) (q .whole) h);
+          (two-limbs n factor z (2 ^ 160) _ _ _ (lower .carry) _ _ _ _ (higher .carry) refl none (ap value (listed _ (p .limbs .six)) ∙ first-apart _ _) (p .whole)
+          (last-apart _ _ _ _ _ _) (ap value (listed _ (q .limbs .six)) ∙ last-apart _ _ _ _ _ _) (q .whole) h);
     }

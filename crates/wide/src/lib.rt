@@ -50,6 +50,7 @@ fn carried(w: [u64; 6], factor: u64, more: [u64; 6], carry: u64) -> Sum
     }
 }
 
+// A number of 64 bits as limbs.
 fn of_number(n: u64) -> [u64; 6]
     ensures { λ r. ⌜ Writes r n ⌝ }
 {
@@ -91,7 +92,7 @@ fn complement(w: [u64; 6]) -> [u64; 6]
     ]
 }
 
-// Whether a is not above b: where it is above, it is more than b is short of the largest wide number, and something is carried out.
+// Whether a is not above b. Where it is above, a and what b is short of the largest wide number come to more than that number, and something is carried out.
 pub fn at_most(a: [u64; 6], b: [u64; 6]) -> bool
     requires { ⌜ Limbs a × Limbs b ⌝ }
     ensures { λ r. ⌜ r ≡ leb (value a) (value b) ⌝ }

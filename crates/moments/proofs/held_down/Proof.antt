@@ -27,13 +27,13 @@ add-more : tie.Need-add-more
 add-more c = omega (arith, more-small (c .pre))
 
 returns : tie.Need-returns
-returns c = held-exactly (c .before .pre) (c .if1 .taken)
+returns c = held-exactly (c .before .pre) (omega (arith, c .if1 .taken))
 
 add-t15 : tie.Need-add-t15
 add-t15 c = omega (arith, low-small (c .before .before .pre))
 
 returns-2 : tie.Need-returns-2
-returns-2 c = held-between (c .before .before .pre) (c .before .if1 .left) (omega (arith, c .if2 .taken))
+returns-2 c = held-between (c .before .before .pre) (omega (arith, c .before .if1 .left)) (omega (arith, c .if2 .taken))
 
 compared-requires : tie.Need-compared-requires
 compared-requires c κs = held-beside (c .before .before .pre) (omega (arith, c .if2 .left))

@@ -20,7 +20,7 @@ array-read-placed-4 : tie.Need-array-read-placed-4
 array-read-placed-4 c = search needs
 
 placed-requires-2 : tie.Need-placed-requires-2
-placed-requires-2 c κs = let p = c .before .pre in (p .0 .small 1, p .1, p .2 .small 1, c .placed .ensures .carry-small)
+placed-requires-2 c κs = let p = c .before .pre in (p .0 .small 1, p .1, p .2 .small 1, search needs)
 
 array-read-placed-5 : tie.Need-array-read-placed-5
 array-read-placed-5 c = search needs
@@ -29,7 +29,7 @@ array-read-placed-6 : tie.Need-array-read-placed-6
 array-read-placed-6 c = search needs
 
 placed-requires-3 : tie.Need-placed-requires-3
-placed-requires-3 c κs = let p = c .before .before .pre in (p .0 .small 2, p .1, p .2 .small 2, c .placed2 .ensures .carry-small)
+placed-requires-3 c κs = let p = c .before .before .pre in (p .0 .small 2, p .1, p .2 .small 2, search needs)
 
 array-read-placed-7 : tie.Need-array-read-placed-7
 array-read-placed-7 c = search needs
@@ -38,7 +38,7 @@ array-read-placed-8 : tie.Need-array-read-placed-8
 array-read-placed-8 c = search needs
 
 placed-requires-4 : tie.Need-placed-requires-4
-placed-requires-4 c κs = let p = c .before .before .before .pre in (p .0 .small 3, p .1, p .2 .small 3, c .placed3 .ensures .carry-small)
+placed-requires-4 c κs = let p = c .before .before .before .pre in (p .0 .small 3, p .1, p .2 .small 3, search needs)
 
 array-read-placed-9 : tie.Need-array-read-placed-9
 array-read-placed-9 c = search needs
@@ -47,7 +47,7 @@ array-read-placed-10 : tie.Need-array-read-placed-10
 array-read-placed-10 c = search needs
 
 placed-requires-5 : tie.Need-placed-requires-5
-placed-requires-5 c κs = let p = c .before .before .before .before .pre in (p .0 .small 4, p .1, p .2 .small 4, c .placed4 .ensures .carry-small)
+placed-requires-5 c κs = let p = c .before .before .before .before .pre in (p .0 .small 4, p .1, p .2 .small 4, search needs)
 
 array-read-placed-11 : tie.Need-array-read-placed-11
 array-read-placed-11 c = search needs
@@ -56,7 +56,7 @@ array-read-placed-12 : tie.Need-array-read-placed-12
 array-read-placed-12 c = search needs
 
 placed-requires-6 : tie.Need-placed-requires-6
-placed-requires-6 c κs = let p = c .before .before .before .before .before .pre in (p .0 .small 5, p .1, p .2 .small 5, c .placed5 .ensures .carry-small)
+placed-requires-6 c κs = let p = c .before .before .before .before .before .pre in (p .0 .small 5, p .1, p .2 .small 5, search needs)
 
 returns : tie.Need-returns
 returns c =

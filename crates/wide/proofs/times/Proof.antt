@@ -57,8 +57,8 @@ returns c =
     let lower = c .before .before .before in
     let zero = lower .before .of-number in
     let s = lower .before .before in
-    product-limbs (value (s .args .w)) (s .args .factor) (value (zero .result)) (lower .carried .result) (c .before .carried2 .result) (zero .ensures .number) (s .pre .1) (lower .carried .ensures)
-    (c .before .carried2 .ensures)
+    product-limbs (value (s .args .w)) (s .args .factor) (value (zero .result)) (lower .carried .result) (c .before .carried2 .result) (zero .ensures .number) (s .pre .1)
+    (lower .carried .ensures) (c .before .carried2 .ensures)
 
 pub times-spec : {M : Type 1} → statement M
 times-spec =

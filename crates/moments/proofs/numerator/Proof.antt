@@ -1,12 +1,12 @@
--- `moments::above_line` meets its contract: 64 bits hold the square. Assumes nothing.
+-- `moments::numerator` meets its contract: 64 bits hold the square. Assumes nothing.
 use borrow.Author.Needs.{needs}
 use mathlib.Core.List.{[]}
 use mathlib.Core.Path.{_∙_}
 use native.Mathlib.Omega.{arith}
 use Rattle.laws.proofs.Polynomial.{_:*_, _:^_, _:=_, _⊢_, poly2}
-use Rattle.moments.proofs.Held.{square-fits}
-use Rattle.moments.proofs.above_line.Statement.{statement}
-use Rattle.moments.proofs.above_line.Tie as tie
+use Rattle.moments.proofs.Against.{square-fits}
+use Rattle.moments.proofs.numerator.Statement.{statement}
+use Rattle.moments.proofs.numerator.Tie as tie
 
 mul-square : tie.Need-mul-square
 mul-square c = omega (arith, square-fits (c .args .righting) (c .pre))
@@ -22,5 +22,5 @@ returns c =
       number = c .product .ensures .number ∙ poly2 (λ e n. [] ⊢ e :* (n :* n) :* (n :* n) := e :* n :^ 4) tt (a .fourth) (a .righting);
     }
 
-pub above-line-spec : {M : Type 1} → statement M
-above-line-spec = tie.close (tie.spec mul-square product-requires returns)
+pub numerator-spec : {M : Type 1} → statement M
+numerator-spec = tie.close (tie.spec mul-square product-requires returns)

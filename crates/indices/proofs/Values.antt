@@ -11,13 +11,14 @@ use Rattle.records.specs.declared.Ends.{Ends}
 use Rattle.records.specs.declared.Finding.{Finding}
 use Rattle.records.specs.declared.Survival.{Survival}
 use Rattle.records.specs.declared.Trio.{Trio}
+use Rattle.records.specs.Results.{found as alone}
 use Rattle.solas.specs.Height.{v, vAt, rowV}
 use Rattle.solas.specs.Index.{dp, draughts}
 use Rattle.solas.specs.Survival.{k, s⁴, unlessImmersed}
 use Rattle.numbers.specs.Ratio.{ratioOf}
 use Rattle.heights.specs.Height.{rowVs}
 use Rattle.survival.specs.Marks.{unmarked}
-use Rattle.survival.specs.Survival.{factorOf, scaledOf, roundedOf, survivalOf, countsAt, survivalsOf}
+use Rattle.survival.specs.Survival.{factorOf, scaledOf, roundedOf, survivalOf, countsAt, survivalAt, survivalsOf}
 use Rattle.indices.specs.Index.{addsOf, trio, rowAdds, partials, attainedOf}
 
 abbrev found : ℕ → ℕ → ℕ → ℤ → Finding
@@ -39,16 +40,16 @@ vs = rowVs 0 18500 (draughts 6000 4000)
 abbrev file : Trio
 file =
     partials
-    (rowAdds (ends 0x072648b6 0x072648b7) vs (survivalsOf 2 (found 30 400 0 (pos 0) ∷ found 30 400 0 (pos 0) ∷ found 30 400 0 (pos 0) ∷ []))
-    ∷ rowAdds (ends 0x03e36aea 0x03e36aec) vs (survivalsOf 3 (given 0 ∷ given 0 ∷ given 0 ∷ []))
-    ∷ rowAdds (ends 0x3091165e 0x3091165f) vs (survivalsOf 3 (given 10000 ∷ given 10000 ∷ given 10000 ∷ []))
+    (rowAdds (ends 0x072648b6 0x072648b7) vs (survivalsOf 2 (alone (found 30 400 0 (pos 0) ∷ found 30 400 0 (pos 0) ∷ found 30 400 0 (pos 0) ∷ [])))
+    ∷ rowAdds (ends 0x03e36aea 0x03e36aec) vs (survivalsOf 3 (alone (given 0 ∷ given 0 ∷ given 0 ∷ [])))
+    ∷ rowAdds (ends 0x3091165e 0x3091165f) vs (survivalsOf 3 (alone (given 10000 ∷ given 10000 ∷ given 10000 ∷ [])))
     ∷ [])
 
 abbrev printed : Ends
 printed = ends 0x34243ab9 0x34243abb
 
 pub one-file : (file ≡ trio printed printed printed) × (attainedOf file ≡ printed)
-unfolding rowVs rowV vAt v dp survivalsOf countsAt survivalOf factorOf unlessImmersed s⁴ k ratioOf scaledOf roundedOf rootDown rootUp withDigits ceil _⊛_ _less_over_ addsOf rowAdds partials attainedOf
+unfolding rowVs rowV vAt v dp survivalsOf survivalAt countsAt survivalOf factorOf unlessImmersed s⁴ k ratioOf scaledOf roundedOf rootDown rootUp withDigits ceil _⊛_ _less_over_ addsOf rowAdds partials attainedOf
 one-file = (refl, refl)
 
 -- a row whose share and survival have two ends, and which adds something else at each draught

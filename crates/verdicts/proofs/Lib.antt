@@ -1,4 +1,4 @@
 pub mod Marks
-pub mod Required
+pub mod ByHull
 pub mod Verdicts
 pub mod Values

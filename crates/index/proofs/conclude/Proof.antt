@@ -1,6 +1,6 @@
 -- `conclude` meets its contract. Assumes nothing.
 use borrow.Author.Needs.{needs}
-use Rattle.verdicts.proofs.Required.{required-of-proper, mark-of-proper}
+use Rattle.verdicts.proofs.ByHull.{required-of-proper, mark-of-proper}
 use Rattle.index.proofs.Accepted.{concluded}
 use Rattle.index.proofs.conclude.Statement.{statement}
 use Rattle.index.proofs.conclude.Tie as tie

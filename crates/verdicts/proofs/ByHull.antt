@@ -1,9 +1,9 @@
 -- What a ship must reach by its hull: that of a cargo ship or of a passenger ship, never negative, and small enough to be compared. Assumes nothing.
 use Prim.Native.Nat.{ℕ, _+_, _*_, _^_, _≤_}
-use mathlib.Core.Bool.{true, false}
 use mathlib.Core.Path.{_≡_, refl}
 use native.Mathlib.Omega.{arith}
 use lib.Dec.{eqb}
+use borrow.Author.Tests.{ne-eqb}
 use Rattle.laws.specs.Fraction.{Fraction, whole, _≼_}
 use Rattle.laws.proofs.Tests.{picked}
 use Rattle.records.specs.declared.Hull.{Hull}
@@ -14,21 +14,21 @@ use Rattle.verdicts.proofs.Marks.{required-not-negative, mark-not-negat
 
 module _ (h : Hull) where
   -- ---- by its kind
-  pub passenger-required-of : eqb (h .kind) 6 ≡ true → requiredOf h ≡ passengerR (h .length) (h .lifeboats + 2 * h .excess)
-  unfolding requiredOf, persons
+  pub passenger-required-of : h .kind ≡ 6 → requiredOf h ≡ passengerR (h .length) (h .lifeboats + 2 * h .excess)
+  unfolding requiredOf persons
   passenger-required-of e = rw e refl
 
-  pub passenger-mark-of : eqb (h .kind) 6 ≡ true → markOf h ≡ passengerMark (h .length) (h .lifeboats + 2 * h .excess)
-  unfolding markOf, persons
+  pub passenger-mark-of : h .kind ≡ 6 → markOf h ≡ passengerMark (h .length) (h .lifeboats + 2 * h .excess)
+  unfolding markOf persons
   passenger-mark-of e = rw e refl
 
-  pub cargo-required-of : eqb (h .kind) 6 ≡ false → requiredOf h ≡ R (h .length)
+  pub cargo-required-of : (h .kind ≡ 6 → ⊥) → requiredOf h ≡ R (h .length)
   unfolding requiredOf
-  cargo-required-of e = rw e refl
+  cargo-required-of n = rw (ne-eqb (h .kind) 6 n) refl
 
-  pub cargo-mark-of : eqb (h .kind) 6 ≡ false → markOf h ≡ partialMark (h .length)
+  pub cargo-mark-of : (h .kind ≡ 6 → ⊥) → markOf h ≡ partialMark (h .length)
   unfolding markOf
-  cargo-mark-of e = rw e refl
+  cargo-mark-of n = rw (ne-eqb (h .kind) 6 n) refl
 
   -- ---- of either kind
   pub required-of-not-negative : whole 0 ≼ requiredOf h

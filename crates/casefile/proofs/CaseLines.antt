@@ -16,7 +16,7 @@ use Rattle.casefile.specs.Record.{Row, Case}
 use Rattle.casefile.specs.Layout.{kindOf, fieldsOf, isRow, hullOf, rowOf, countOf}
 use Rattle.casefile.specs.Table.{firstHolds, lineChecks}
 use Rattle.casefile.specs.Reading.{accepted, begin, inside, start, withRow, withEnd, readFrom}
-use Rattle.casefile.specs.Answer.{valuesOf}
+use Rattle.casefile.specs.Answer.{valuesOf, none}
 use Rattle.casefile.specs.Acceptance.{valuesFrom, rowValues, valuesAfter, caseValues, LinesSayTheCase}
 use Rattle.casefile.proofs.Checks.{line-of-end}
 use Rattle.casefile.proofs.Steps.{not-too-long}
@@ -43,19 +43,19 @@ rows-say (l ∷ ls) h p n c t e = by (isRow (kindOf (pairs (l .text)))) refl (λ
         let m : p .rows + 1 + length (d .rows) ≡ p .rows + suc (length (d .rows)) = omega arith in
         rw (k, row-judged h p l passed k, ← b) (ap (rowValues (rowOf bytes) ∷_) (rw m at (ih (rowOf bytes) d a)))
     by false k ih =
-        let (none, b) = ended h (withEnd p) (n + 1) ls c refl (rw k at (rest-accepted (inside h p) n l ls c e)) in
+        let (last, b) = ended h (withEnd p) (n + 1) ls c refl (rw k at (rest-accepted (inside h p) n l ls c e)) in
         let count : countOf bytes ≡ p .rows = line-of-end h p l passed k .1 .counts in
-        rw (k, end-judged h p l passed k, none, b, count, add-zero (p .rows)) refl
+        rw (k, end-judged h p l passed k, last, b, count, add-zero (p .rows)) refl
 
 whole : (ls : List Line) (c : Case) → readFrom begin 1 ls ≡ accepted c → valuesFrom begin ls ≡ caseValues c
 unfolding readFrom valuesFrom
 whole [] c e = not-accepted 10 1 c e
 whole (l ∷ ls) c e =
-    let h : Hull = hullOf (fieldsOf (pairs (l .text))) in
+    let h : Hull = hullOf (kindOf (pairs (l .text))) (fieldsOf (pairs (l .text))) in
     let after = rest-accepted begin 1 l ls c e in
     let rest : valuesFrom (inside h start) ls ≡ valuesAfter (c .rows) (0 + length (c .rows)) = rows-say ls h start 2 c refl after in
-    ap (λ (a : FirstLine). valuesOf (a .hull) [] (a .frame) ∷ valuesFrom (inside h start) ls) (first-passes l (passes begin 1 l ls c e))
-    ∙ ap (valuesOf h [] Frame.Hull ∷_) rest
+    ap (λ (a : FirstLine). valuesOf (a .hull) none (a .frame) ∷ valuesFrom (inside h start) ls) (first-passes l (passes begin 1 l ls c e))
+    ∙ ap (valuesOf h none Frame.Hull ∷_) rest
     ∙ rw (zero-add (length (c .rows)), accounts ls h start 2 c refl (omega arith) after .hull) refl
 
 pub lines-say-the-case : LinesSayTheCase

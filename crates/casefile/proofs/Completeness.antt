@@ -18,19 +18,20 @@ use Rattle.fields.specs.Fields.{wordAt}
 use Rattle.hexadecimal.proofs.Pairs.{pairs-hex, proper-hex, line-in-front}
 use Rattle.casefile.specs.declared.Progress.{Progress}
 use Rattle.casefile.specs.Record.{Row, Case}
-use Rattle.casefile.specs.Layout.{kindOf, fieldsOf, isRow, frameLength, hullLength, shortestHull, hullOf, rowOf, countOf, hullBytes, rowBytes, endBytes}
+use Rattle.casefile.specs.Layout.{kindOf, fieldsOf, isHull, isRow, takes, frameLength, hullLength, shortestHull, hullOf, rowOf, countOf, hullBytes, rowBytes, endBytes}
 use Rattle.casefile.specs.Limits.{longestInput, mostRows, sizesFit, zonesFit, rowFits}
 use Rattle.casefile.specs.Order.{outOfOrder, leavesOpen, endsOpen}
 use Rattle.casefile.specs.Table.{firstHolds, wrongHullFrame, wrongFrame, wrongZones, hullChecks, lineChecks}
 use Rattle.casefile.specs.Reading.{accepted, begin, inside, start, withRow, before, readFrom, reading}
 use Rattle.casefile.specs.Encode.{rowLines, encode}
-use Rattle.casefile.specs.Valid.{ClosesGroup, Follows, ValidHull, ValidRow, Valid}
+use Rattle.casefile.specs.Valid.{ClosesGroup, Follows, ShipType, cargo, passenger, ValidHull, ValidRow, Valid}
 use Rattle.casefile.proofs.Checks.{hull-passed, row-line-passes, end-line-passes}
 use Rattle.casefile.proofs.Steps.{not-too-long, line-passes, row-passes-on, end-passes-on}
 use Rattle.casefile.proofs.Limits.{Sizes, Zones, sizes-are, zones-are}
 use Rattle.casefile.proofs.Order.{in-order, none-open, end-closed, first-in-order, first-none-open, none-to-close}
 use Rattle.casefile.proofs.RowLayout.{row-again, row-length, row-kind, row-is-row, row-octets, end-octets}
 use Rattle.casefile.proofs.HullLayout.{hull-again, hull-kind, hull-length, hull-octets}
+use Rattle.casefile.proofs.RowKinds.{not-taken}
 use Rattle.casefile.proofs.Chain.{OrderedFrom, from-start}
 
 -- ---- the line of some bytes
@@ -48,9 +49,9 @@ end-count : (n : ℕ) → n ≤ mostRows → countOf (endBytes n) ≡ n
 unfolding endBytes bytes wordAt
 end-count n h = omega arith
 
-end-frame : (n : ℕ) → wrongFrame (endBytes n) ≡ false
+end-frame : (ship n : ℕ) → wrongFrame ship (endBytes n) ≡ false
 unfolding wrongFrame endBytes bytes frameLength
-end-frame n = refl
+end-frame ship n = rw (not-taken ship 15 refl) refl
 
 end-no-row : (n : ℕ) → isRow (kindOf (endBytes n)) ≡ false
 unfolding endBytes
@@ -75,7 +76,7 @@ module _ (h : Hull) (p : Progress) (n : ℕ) (going : p .ended ≡ false) where
       let no-row : isRow (kindOf (pairs (hex E))) ≡ false = rw same (end-no-row (p .rows)) in
       let passes : firstHolds (lineChecks h p l) ≡ 0 =
       end-line-passes h p l
-      (record { going = going; written = written-well E (end-octets (p .rows)) (end-some (p .rows)); frame = rw same (end-frame (p .rows)) })
+      (record { going = going; written = written-well E (end-octets (p .rows)) (end-some (p .rows)); frame = rw same (end-frame (h .kind) (p .rows)) })
       no-row
       (record { counts = rw same (end-count (p .rows) few); closed = nothing-open o }) in
       ap (readFrom (inside h p) n) (ap lines (sym (append-nil (lineOf E))) ∙ line-in-front E [] (end-octets (p .rows)))
@@ -92,9 +93,9 @@ module _ (h : Hull) (p : Progress) (n : ℕ) (going : p .ended ≡ false) where
     unfolding rowBytes
     row-some = omega arith
 
-    row-frame : wrongFrame (rowBytes r) ≡ false
+    row-frame : wrongFrame (h .kind) (rowBytes r) ≡ false
     unfolding wrongFrame
-    row-frame = rw (row-kind h r s z v, row-is-row h r s z v, eq-eqb (length (rowBytes r)) (frameLength (r .head .kind)) (row-length h r s z v)) refl
+    row-frame = rw (row-kind h r s z v, holds (takes (h .kind) (r .head .kind)) (v .taken), eq-eqb (length (rowBytes r)) (frameLength (r .head .kind)) (row-length h r s z v)) refl
 
     row-read : p .rows < mostRows → (p .last .kind ≡ 0) ⊎ Follows h (p .last) (r .head) → (rest : List ℕ) →
         readFrom (inside h p) n (lines (lineOf (rowBytes r) ++ rest)) ≡ before r (readFrom (inside h (withRow p r)) (n + 1) (lines rest))
@@ -132,27 +133,32 @@ module _ (h : Hull) (s : Sizes h) (z : Zones h) where
 
 module _ (h : Hull) (s : Sizes h) (z : Zones h) (v : ValidHull h) where
   abbrev same-bytes : pairs (hex (hullBytes h)) ≡ hullBytes h
-  same-bytes = pairs-hex (hullBytes h) (hull-octets h s z (v .places))
+  same-bytes = pairs-hex (hullBytes h) (hull-octets h (v .type) s z (v .places))
 
-  abbrev hull-there : hullOf (fieldsOf (pairs (hex (hullBytes h)))) ≡ h
-  hull-there = rw same-bytes (hull-again h s z (v .places))
+  abbrev hull-there : hullOf (kindOf (pairs (hex (hullBytes h)))) (fieldsOf (pairs (hex (hullBytes h)))) ≡ h
+  hull-there = rw same-bytes (hull-again h (v .type) s z (v .places))
 
   hull-frame : wrongHullFrame (hullBytes h) ≡ false
   unfolding wrongHullFrame
-  hull-frame = rw (hull-kind h s z (v .places), le-ltb (length (hullBytes h)) shortestHull (omega (arith, hull-length h s z (v .places), z .some))) refl
+  hull-frame =
+      rw (hull-kind h (v .type) s z (v .places), of-type (v .type), le-ltb (length (hullBytes h)) (shortestHull (h .kind)) (omega (arith, hull-length h (v .type) s z (v .places), z .some))) refl
+    where
+      of-type : ShipType h → isHull (h .kind) ≡ true
+      of-type (cargo k a b) = rw k refl
+      of-type (passenger k) = rw k refl
 
   hull-zones : wrongZones (hullBytes h) h ≡ false
   unfolding wrongZones
-  hull-zones = rw (holds (zonesFit h) (v .zones), eq-eqb (length (hullBytes h)) (hullLength (h .zones)) (hull-length h s z (v .places))) refl
+  hull-zones = rw (holds (zonesFit h) (v .zones), eq-eqb (length (hullBytes h)) (hullLength (h .kind) (h .zones)) (hull-length h (v .type) s z (v .places))) refl
 
   hull-read : (n : ℕ) (rest : List ℕ) → readFrom begin n (lines (lineOf (hullBytes h) ++ rest)) ≡ readFrom (inside h start) (n + 1) (lines rest)
   hull-read n rest =
       let l : Line = closedLine (hullBytes h) in
-      let o : Octets (hullBytes h) = hull-octets h s z (v .places) in
+      let o : Octets (hullBytes h) = hull-octets h (v .type) s z (v .places) in
       let passes : firstHolds (hullChecks l) ≡ 0 =
       hull-passed l
       (record {
-        written = written-well (hullBytes h) o (omega (arith, hull-length h s z (v .places)));
+        written = written-well (hullBytes h) o (omega (arith, hull-length h (v .type) s z (v .places)));
         frame = rw same-bytes hull-frame;
         sizes = rw hull-there (holds (sizesFit h) (v .sizes));
         zones = rw (hull-there, same-bytes) hull-zones;

@@ -2,38 +2,35 @@
 use Prim.Native.Nat.{ℕ, _+_, _-_, _*_}
 use mathlib.Core.Path.{_≡_, refl, sym, _∙_, ap}
 use mathlib.Core.Bool.{Bool, true, false, cond}
-use mathlib.Core.List.{List, [], _∷_}
+use mathlib.Core.List.{List, [], _∷_, _++_}
 use lib.Dec.{eqb}
-use lib.ListN.{drop}
-use lib.Seq.{drop-drop}
 use borrow.Author.Tests.{eqb-true}
-use Rattle.laws.specs.Bytes.{Octets}
 use Rattle.laws.specs.Lists.{tabulate}
 use Rattle.laws.proofs.Tests.{picked}
 use Rattle.records.specs.declared.Hull.{Hull}
 use Rattle.lines.specs.Lines.{Line}
 use Rattle.hexadecimal.specs.Hex.{pairs}
 use Rattle.hexadecimal.proofs.Pairs.{pairs-octets}
-use Rattle.fields.specs.Fields.{byteAt, wordAt, signedAt, unsigned}
-use Rattle.fields.proofs.Fields.{octets-drop, word-below, word-drop}
-use Rattle.fields.proofs.Signed.{unsigned-signed}
+use Rattle.fields.specs.Fields.{byteAt, wordAt}
+use Rattle.fields.proofs.Fields.{octets-drop}
 use Rattle.casefile.specs.declared.Frame.{Frame}
 use Rattle.casefile.specs.declared.Progress.{Progress}
-use Rattle.casefile.specs.Layout.{kindOf, fieldsOf, isRow, hullOf, headOf, findingOf, setOf, resultsOf, rowOf, countOf, resultNumbers}
+use Rattle.casefile.specs.Layout.{kindOf, fieldsOf, isRow, personsLength, zonesAt, hullOf, headOf, resultsOf, rowOf, countOf, personsOf, hullValues}
 use Rattle.casefile.specs.Table.{firstHolds, hullChecks, lineChecks}
 use Rattle.casefile.specs.Reading.{Stage, begin, inside, checks}
-use Rattle.casefile.specs.Answer.{numberOf, valuesOf, givenFirst, refusedFirst, unlessRefused, firstJudged, frameOf, judged, SaysTheLine, frameAt}
+use Rattle.casefile.specs.Answer.{numberOf, valuesOf, givenFirst, refusedFirst, unlessRefused, firstJudged, frameOf, judged, none, SaysTheLine, frameAt}
 use Rattle.casefile.proofs.Checks.{HullPasses, LinePasses, hull-passes, passes-first}
 use Rattle.casefile.proofs.Limits.{zones-are}
 use Rattle.casefile.proofs.HullLayout.{inner-words}
-use Rattle.casefile.proofs.RowKinds.{RowKind, one-set, survivals, two-sets, of-row-kind}
-use Rattle.casefile.proofs.Passing.{hull-frame, hull-zones, fits}
+use Rattle.casefile.proofs.RowKinds.{of-row-kind}
+use Rattle.casefile.proofs.RowNumbers.{results-read}
+use Rattle.casefile.proofs.Passing.{hull-zones, then-end}
 
 -- ---- line 1
 
 module _ (l : Line) where
   abbrev hull : Hull
-  hull = hullOf (fieldsOf (pairs (l .text)))
+  hull = hullOf (kindOf (pairs (l .text))) (fieldsOf (pairs (l .text)))
 
   first-by : (k : ℕ) → firstHolds (hullChecks l) ≡ k → firstJudged l ≡ unlessRefused k hull
   unfolding firstJudged
@@ -50,13 +47,29 @@ module _ (l : Line) where
   first-says-number = let k : ℕ = firstHolds (hullChecks l) in ap (λ a. numberOf (a .frame)) (first-by k refl) ∙ number-first k (eqb k 0) refl
 
   -- the fields of a hull's line: the numbers after the zone count are its inner bulkheads
-  hull-values : (p : HullPasses l) → let f = fieldsOf (pairs (l .text)) in valuesOf hull [] Frame.Hull
-      ≡ kindOf (pairs (l .text)) ∷ wordAt f 0 ∷ wordAt f 2 ∷ wordAt f 4 ∷ wordAt f 6 ∷ byteAt f 8 ∷ tabulate (λ i. wordAt f (9 + 2 * i)) (byteAt f 8 - 1)
+  hull-values : (p : HullPasses l) → let kind = kindOf (pairs (l .text)) in let f = fieldsOf (pairs (l .text)) in
+      hullValues hull
+      ≡ kind ∷ wordAt f 0 ∷ wordAt f 2 ∷ wordAt f 4 ∷ wordAt f 6 ∷ personsOf hull ++ byteAt f (zonesAt kind) ∷ tabulate (λ i. wordAt f (9 + personsLength kind + 2 * i)) (byteAt f (zonesAt kind) - 1)
   unfolding hullOf
   hull-values p =
+      let kind : ℕ = kindOf (pairs (l .text)) in
       let f : List ℕ = fieldsOf (pairs (l .text)) in
-      let sizes : List ℕ → List ℕ = λ ns. wordAt f 0 ∷ wordAt f 2 ∷ wordAt f 4 ∷ wordAt f 6 ∷ byteAt f 8 ∷ ns in
-      ap (λ ns. 1 ∷ sizes ns) (inner-words f (zones-are hull (hull-zones l (p .written) p .0) .most)) ∙ ap (_∷ sizes (tabulate (λ i. wordAt f (9 + 2 * i)) (byteAt f 8 - 1))) (sym (hull-frame l (p .written) p .0))
+      ap (λ ns. kind ∷ wordAt f 0 ∷ wordAt f 2 ∷ wordAt f 4 ∷ wordAt f 6 ∷ personsOf hull ++ byteAt f (zonesAt kind) ∷ ns) (inner-words kind f (zones-are hull (hull-zones l (p .written) p .0) .most))
+
+  passed-values : firstHolds (hullChecks l) ≡ 0 → valuesOf (firstJudged l .hull) none (firstJudged l .frame) ≡ hullValues hull
+  passed-values e = ap (λ a. valuesOf (a .hull) none (a .frame)) (first-passes e)
+
+  cargo-values : firstHolds (hullChecks l) ≡ 0 → kindOf (pairs (l .text)) ≡ 1 → let f = fieldsOf (pairs (l .text)) in
+      valuesOf (firstJudged l .hull) none (firstJudged l .frame)
+      ≡ 1 ∷ wordAt f 0 ∷ wordAt f 2 ∷ wordAt f 4 ∷ wordAt f 6 ∷ byteAt f 8 ∷ tabulate (λ i. wordAt f (9 + 2 * i)) (byteAt f 8 - 1)
+  unfolding hullOf
+  cargo-values e k = passed-values e ∙ hull-values (hull-passes l e) ∙ rw k refl
+
+  passenger-values : firstHolds (hullChecks l) ≡ 0 → kindOf (pairs (l .text)) ≡ 6 → let f = fieldsOf (pairs (l .text)) in
+      valuesOf (firstJudged l .hull) none (firstJudged l .frame)
+      ≡ 6 ∷ wordAt f 0 ∷ wordAt f 2 ∷ wordAt f 4 ∷ wordAt f 6 ∷ wordAt f 8 ∷ wordAt f 10 ∷ byteAt f 12 ∷ tabulate (λ i. wordAt f (13 + 2 * i)) (byteAt f 12 - 1)
+  unfolding hullOf
+  passenger-values e k = passed-values e ∙ hull-values (hull-passes l e) ∙ rw k refl
 
 -- ---- a line after the hull
 
@@ -84,76 +97,6 @@ module _ (h : Hull) (p : Progress) (l : Line) where
 
 -- ---- what the answer says
 
--- the results' numbers are those that stand after a, n, b and H
-results-read : (kind : ℕ) (f : List ℕ) → Octets f → RowKind kind → resultNumbers kind (resultsOf kind f) ≡ tabulate (λ i. wordAt f (6 + 2 * i)) (cond (eqb kind 2) 12 (cond (eqb kind 5) 24 3))
-unfolding setOf resultsOf findingOf tabulate
-results-read kind f o = by
-  where
-    again : (k : ℕ) → unsigned (signedAt (drop k f) 6) ≡ wordAt (drop k f) 6
-    again k = unsigned-signed (wordAt (drop k f) 6) (word-below (drop k f) 6 (octets-drop k f o))
-
-    by : RowKind kind → resultNumbers kind (resultsOf kind f) ≡ tabulate (λ i. wordAt f (6 + 2 * i)) (cond (eqb kind 2) 12 (cond (eqb kind 5) 24 3))
-    by (one-set t) =
-        rw (
-          t,
-          drop-drop 8 6 f,
-          drop-drop 16 6 f,
-          again 6,
-          again 14,
-          again 22,
-          word-drop 6 0 f,
-          word-drop 6 2 f,
-          word-drop 6 4 f,
-          word-drop 6 6 f,
-          word-drop 14 0 f,
-          word-drop 14 2 f,
-          word-drop 14 4 f,
-          word-drop 14 6 f,
-          word-drop 22 0 f,
-          word-drop 22 2 f,
-          word-drop 22 4 f,
-          word-drop 22 6 f,
-        ) refl
-    by (survivals t) = rw (t, drop-drop 2 6 f, drop-drop 4 6 f, word-drop 6 0 f, word-drop 8 0 f, word-drop 10 0 f) refl
-    by (two-sets t) =
-        rw (
-          t,
-          drop-drop 8 6 f,
-          drop-drop 16 6 f,
-          drop-drop 8 30 f,
-          drop-drop 16 30 f,
-          again 6,
-          again 14,
-          again 22,
-          again 30,
-          again 38,
-          again 46,
-          word-drop 6 0 f,
-          word-drop 6 2 f,
-          word-drop 6 4 f,
-          word-drop 6 6 f,
-          word-drop 14 0 f,
-          word-drop 14 2 f,
-          word-drop 14 4 f,
-          word-drop 14 6 f,
-          word-drop 22 0 f,
-          word-drop 22 2 f,
-          word-drop 22 4 f,
-          word-drop 22 6 f,
-          word-drop 30 0 f,
-          word-drop 30 2 f,
-          word-drop 30 4 f,
-          word-drop 30 6 f,
-          word-drop 38 0 f,
-          word-drop 38 2 f,
-          word-drop 38 4 f,
-          word-drop 38 6 f,
-          word-drop 46 0 f,
-          word-drop 46 2 f,
-          word-drop 46 4 f,
-          word-drop 46 6 f,
-        ) refl
-
 number-case : (k : ℕ) (f : Frame) (t : Bool) → eqb k 0 ≡ t → numberOf f ≡ 0 → numberOf (cond t f (Frame.Wrong k)) ≡ k
 number-case k f true e z = z ∙ sym (eqb-true k 0 e)
 number-case k f false e z = refl
@@ -165,20 +108,21 @@ frame-number bs = picked (λ f. numberOf f ≡ 0) (isRow (kindOf bs)) (Frame.Row
 -- a frame that passes and is no row is an end
 end-kind : (h : Hull) (p : Progress) (l : Line) → firstHolds (lineChecks h p l) ≡ 0 → isRow (kindOf (pairs (l .text))) ≡ false → 15 ≡ kindOf (pairs (l .text))
 end-kind h p l e k =
-    let q : LinePasses p l = passes-first h p l e .0 in
-    sym (eqb-true (kindOf (pairs (l .text))) 15 (rw k at (fits l (q .written) (q .frame) .0)))
+    let q : LinePasses h p l = passes-first h p l e .0 in
+    sym (eqb-true (kindOf (pairs (l .text))) 15 (then-end l (q .written) (h .kind) (q .frame) k))
 
 pub says-the-line : SaysTheLine
 unfolding headOf
 says-the-line = record {
   first-number = first-says-number;
-  hull = λ l e. ap (λ a. valuesOf (a .hull) [] (a .frame)) (first-passes l e) ∙ hull-values l (hull-passes l e);
+  cargo = cargo-values;
+  passenger = passenger-values;
   number = λ h p l. let k : ℕ = firstHolds (lineChecks h p l) in ap numberOf (by-number h p l k refl) ∙ number-case k (frameOf (pairs (l .text))) (eqb k 0) refl (frame-number (pairs (l .text)));
   row = λ h p l e k.
       let kind : ℕ = kindOf (pairs (l .text)) in
       let f : List ℕ = fieldsOf (pairs (l .text)) in
-      ap (valuesOf h (resultsOf kind f)) (row-judged h p l e k) ∙ ap (λ ns. kind ∷ byteAt f 0 ∷ byteAt f 1 ∷ wordAt f 2 ∷ wordAt f 4 ∷ ns) (results-read kind f (octets-drop 1 (pairs (l .text)) (pairs-octets (l .text))) (of-row-kind kind k));
-  end = λ h p l e k. ap (valuesOf h []) (end-judged h p l e k) ∙ ap (_∷ wordAt (fieldsOf (pairs (l .text))) 0 ∷ []) (end-kind h p l e k);
+      ap (valuesOf h (resultsOf kind f)) (row-judged h p l e k) ∙ ap (λ ns. kind ∷ byteAt f 0 ∷ byteAt f 1 ∷ wordAt f 2 ∷ wordAt f 4 ∷ ns) (results-read f (octets-drop 1 (pairs (l .text)) (pairs-octets (l .text))) (of-row-kind kind k));
+  end = λ h p l e k. ap (valuesOf h none) (end-judged h p l e k) ∙ ap (_∷ wordAt (fieldsOf (pairs (l .text))) 0 ∷ []) (end-kind h p l e k);
 }
 
 -- ---- the lines in turn

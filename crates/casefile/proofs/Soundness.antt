@@ -26,8 +26,8 @@ use Rattle.casefile.specs.Valid.{ClosesGroup, Follows, ValidRow, Valid}
 use Rattle.casefile.proofs.Checks.{LinePasses, HullPasses, RowPasses, EndPasses, hull-passes, passes-first, line-of-row, line-of-end}
 use Rattle.casefile.proofs.Steps.{not-too-long, too-long, line-passes, line-refused}
 use Rattle.casefile.proofs.Order.{follows, end-closes}
-use Rattle.casefile.proofs.RowKinds.{RowKind, one-set, survivals, two-sets, of-row-kind}
-use Rattle.casefile.proofs.Passing.{hull-valid, hull-line, row-line, end-line, row-valid}
+use Rattle.casefile.proofs.RowKinds.{RowKind, one-set, survivals, two-sets, passenger, of-row-kind}
+use Rattle.casefile.proofs.Passing.{hull-valid, hull-line, row-taken, row-line, end-line, row-valid}
 use Rattle.casefile.proofs.Chain.{OrderedFrom, Some, ordered}
 
 -- ---- the answers apart
@@ -73,7 +73,7 @@ pub record Accounts (h : Hull) (p : Progress) (ls : List Line) (c : Case) : Type
   pub few : p .rows + length (c .rows) ≤ mostRows
 
 -- a row stands first in what is left
-module _ (h : Hull) (p : Progress) (l : Line) (ls : List Line) (q : LinePasses p l) where
+module _ (h : Hull) (p : Progress) (l : Line) (ls : List Line) (q : LinePasses h p l) where
   abbrev bs : List ℕ
   bs = pairs (l .text)
 
@@ -90,6 +90,7 @@ module _ (h : Hull) (p : Progress) (l : Line) (ls : List Line) (q : LinePasses p
   is-some (one-set k) e = omega arith
   is-some (survivals k) e = omega arith
   is-some (two-sets k) e = omega arith
+  is-some (passenger k) e = omega arith
 
   row-first : isRow (kindOf bs) ≡ true → RowPasses h p row → (d : Case) → Accounts h (withRow p row) ls d → Accounts h p (l ∷ ls) (record { hull = d .hull; rows = row ∷ d .rows })
   unfolding rowLines
@@ -97,8 +98,8 @@ module _ (h : Hull) (p : Progress) (l : Line) (ls : List Line) (q : LinePasses p
       let n : p .rows + suc (length (d .rows)) ≡ p .rows + 1 + length (d .rows) = omega arith in
       record {
         hull = a .hull;
-        bytes = rw (n, row-line l (q .written) (q .frame) k, a .bytes) (sym (append-assoc (lineOf (rowBytes row)) (rowLines (d .rows)) (lineOf (endBytes (p .rows + 1 + length (d .rows))))));
-        rows = (row-valid h bs k (r .fits), a .rows);
+        bytes = rw (n, row-line l (q .written) (h .kind) (q .frame) k, a .bytes) (sym (append-assoc (lineOf (rowBytes row)) (rowLines (d .rows)) (lineOf (endBytes (p .rows + 1 + length (d .rows))))));
+        rows = (row-valid h bs (row-taken l (q .written) (h .kind) (q .frame) k) (r .fits), a .rows);
         some = (is-some (of-row-kind (kindOf bs) k), a .some);
         order = (after-another (eqb (p .last .kind) 0) refl (r .order) (r .closed), a .order);
         few = omega (arith, a .few);
@@ -113,7 +114,7 @@ module _ (h : Hull) (p : Progress) (l : Line) (ls : List Line) (q : LinePasses p
   unfolding rowLines
   end-first k r f none = record {
     hull = refl;
-    bytes = rw (none, add-zero (p .rows), ← r .counts, append-nil (written l)) (end-line l (q .written) (q .frame) k);
+    bytes = rw (none, add-zero (p .rows), ← r .counts, append-nil (written l)) (end-line l (q .written) (h .kind) (q .frame) k);
     rows = tt;
     some = tt;
     order = closed (eqb (p .last .kind) 0) refl (r .closed);
@@ -149,7 +150,7 @@ unfolding readFrom encode
 whole [] n c e = not-accepted 10 n c e
 whole (l ∷ ls) n c e =
     let q : HullPasses l = hull-passes l (passes begin n l ls c e) in
-    let h : Hull = hullOf (fieldsOf (pairs (l .text))) in
+    let h : Hull = hullOf (kindOf (pairs (l .text))) (fieldsOf (pairs (l .text))) in
     let a : Accounts h start ls c = accounts ls h start (n + 1) c refl (omega arith) (rest-accepted begin n l ls c e) in (
       record {
         hull = rw (a .hull) (hull-valid l (q .written) q);

@@ -60,7 +60,7 @@ module _ (h : Hull) (p : Progress) (l : Line) (n : ℕ) (ls : List Line) (few : 
       let fewer : p .rows < mostRows = row-counts h p l r e in
       let row : Row = rowOf (pairs (l .text)) in
       let (passes, is) = row-passes-as h p l r e in
-      let here : keptRow kept (0 + p .rows) ≡ row = ap (keptRow kept) (zero-add (p .rows)) ∙ row-placed kept was (p .rows) p l w (omega arith) passes is in
+      let here : keptRow kept (0 + p .rows) ≡ row = ap (keptRow kept) (zero-add (p .rows)) ∙ row-placed kept was (p .rows) h p l w (omega arith) passes is in
       let more : keptRows (p .rows + 1) kept 0 ≡ keptRows (p .rows) was 0 ++ (row ∷ []) = rw (add-one, kept-next (p .rows) kept 0, here, stay) refl in
       let rest : Reading = readFrom (inside h (record { rows = p .rows + 1; last = r; ended = false })) (n + 1) ls in
       (omega (arith, fewer), ap (after (keptRows (p .rows) was 0)) (row-goes-on h p l n r ls e) ∙ after-row (keptRows (p .rows) was 0) row rest ∙ ap (λ rs. after rs rest) (sym more))

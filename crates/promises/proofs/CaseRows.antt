@@ -1,12 +1,12 @@
 -- The rows of a valid case: their ends enclose their exact figures and are close, and what they add is what the answer sums. Assumes nothing.
-use Prim.Native.Nat.{ℕ, zero, suc, _^_, _≤_}
-use mathlib.Core.Path.{_≡_, refl, ap, _∙_}
+use Prim.Native.Nat.{ℕ, zero, suc, _≤_}
+use mathlib.Core.Path.{_≡_, refl, ap, ap₂, _∙_}
 use mathlib.Core.List.{List, [], _∷_, map}
 use native.Mathlib.Omega.{arith}
 use lib.ListN.{length, getD}
 use Rattle.laws.specs.Lists.{Every}
-use Rattle.records.specs.declared.Finding.{Finding}
 use Rattle.records.specs.declared.Hull.{Hull}
+use Rattle.records.specs.Results.{Results}
 use Rattle.solas.specs.Index.{draughts}
 use Rattle.solas.proofs.Height.{row-at-most}
 use Rattle.spans.specs.Hull.{shipOf, Hulled}
@@ -14,12 +14,11 @@ use Rattle.spans.proofs.Places.{ship-sound}
 use Rattle.chances.specs.Promises as chance
 use Rattle.chances.proofs.Row.{shares-enclosed, shares-near}
 use Rattle.heights.specs.Height.{rowVs}
-use Rattle.survival.specs.Survival.{countsAt, Sensible, given, factorsOf, survivalOf, survivalsOf}
+use Rattle.survival.specs.Survival.{Sensible}
 use Rattle.indices.specs.Index.{Given, rowAdds, partials}
 use Rattle.indices.specs.Exact as exact
 use Rattle.indices.specs.Exact.{Sound, Close, AtAll, rowAt, rowTrio}
-use Rattle.survival.proofs.Factors.{found-sensible}
-use Rattle.survival.proofs.Worse.{counts-either}
+use Rattle.survival.proofs.Rows.{row-rounds, row-sensible}
 use Rattle.indices.proofs.Sums.{sums-are-these}
 use Rattle.casefile.specs.Record.{Row, Case}
 use Rattle.casefile.specs.Valid.{Valid}
@@ -35,10 +34,16 @@ use Rattle.promises.proofs.WitnessEnclosure.{no-more}
 
 -- ---- what they add
 
+adds-one : (h : Hull) (z : Standing) (rs : Results) → addsAt h z rs ≡ rowTrio (exactRow h z rs)
+unfolding addsAt rowAdds
+adds-one h z rs =
+    let at = row-rounds (z .head .kind) rs in
+    rw (at 0 .bottom, at 0 .top, at 1 .bottom, at 1 .top, at 2 .bottom, at 2 .top) refl
+
 adds-are : (h : Hull) (y : Standing) (rs : List Row) → addsFrom h y rs ≡ map rowTrio (exactRows h y rs)
-unfolding addsFrom addsAt exactRows rowAdds countsAt survivalsOf survivalOf factorsOf
+unfolding addsFrom exactRows
 adds-are h y [] = refl
-adds-are h y (r ∷ rs) = let z = stands y (r .head) in ap (λ ts. addsAt h z (r .results) ∷ ts) (adds-are h z rs)
+adds-are h y (r ∷ rs) = let z = stands y (r .head) in ap₂ _∷_ (adds-one h z (r .results)) (adds-are h z rs)
 
 pub sums-are : (c : Case) → partialsOf c ≡ exact.partialsOf (rowsOf c)
 unfolding partialsOf rowsOf
@@ -57,21 +62,14 @@ as-many c = (rows-length 0 (c .hull) nowhere (c .rows), rows-length 1 (c .hull) 
 
 -- ---- one row
 
-module _ {h : Hull} (k : Hulled h) (y : Standing) (s : Stood h y) {fs : List Finding} (g : Given fs) (i : ℕ) where
+module _ {h : Hull} (k : Hulled h) (y : Standing) (s : Stood h y) {rs : Results} (g : Given rs) (i : ℕ) where
   layer : chance.Row (shipOf h) (y .head .first) (y .head .count) (y .before) (y .head .depth)
   layer = record { sound = ship-sound k; narrow = k .narrow; group = s .group; some = s .some; rising = s .deeper; deep = s .within }
 
-  sensible : Sensible (rowAt i (exactRow h y fs) .factor)
-  unfolding factorsOf
-  sensible = by i
-    where
-      by : (i : ℕ) → Sensible (getD (factorsOf (y .head .kind) fs) i (given 0))
-      by zero = found-sensible (y .head .kind) _ (counts-either (λ f. f .given ≤ 10 ^ 4) (y .head .kind) fs 0 (g .each 0) (g .each 3))
-      by (suc zero) = found-sensible (y .head .kind) _ (counts-either (λ f. f .given ≤ 10 ^ 4) (y .head .kind) fs 1 (g .each 1) (g .each 4))
-      by (suc (suc zero)) = found-sensible (y .head .kind) _ (counts-either (λ f. f .given ≤ 10 ^ 4) (y .head .kind) fs 2 (g .each 2) (g .each 5))
-      by (suc (suc (suc i))) = omega arith
+  sensible : Sensible (rowAt i (exactRow h y rs) .factor)
+  sensible = row-sensible (y .head .kind) rs (g .each) (λ j. g .loads j .some) i
 
-  low-enough : rowAt i (exactRow h y fs) .v ≤ 916500
+  low-enough : rowAt i (exactRow h y rs) .v ≤ 916500
   unfolding rowVs
   low-enough = by i
     where
@@ -81,12 +79,12 @@ module _ {h : Hull} (k : Hulled h) (y : Standing) (s : Stood h y) {fs : List Fin
       by (suc (suc zero)) = row-at-most (y .below) (y .head .height) _
       by (suc (suc (suc i))) = omega arith
 
-  pub sound-row : Sound (rowAt i (exactRow h y fs))
+  pub sound-row : Sound (rowAt i (exactRow h y rs))
   unfolding shareAt
   sound-row =
       record { share = shares-enclosed (shipOf h) (y .head .first) (y .head .count) (y .before) (y .head .depth) layer; factor = sensible }
 
-  pub close-row : Close 32 (rowAt i (exactRow h y fs))
+  pub close-row : Close 32 (rowAt i (exactRow h y rs))
   unfolding shareAt
   close-row = record { near = shares-near (shipOf h) (y .head .first) (y .head .count) (y .before) (y .head .depth) layer .near; height = low-enough; factor = sensible }
 

@@ -13,7 +13,7 @@ use Rattle.laws.specs.Rounding.{ceil}
 use Rattle.records.specs.declared.Answer.{Answer}
 use Rattle.records.specs.declared.Ends.{Ends}
 use Rattle.records.specs.declared.Trio.{Trio}
-use Rattle.solas.specs.Index.{R, partialMark}
+use Rattle.verdicts.specs.Required.{requiredOf, markOf}
 use Rattle.records.specs.declared.Ratio.{Ratio}
 use Rattle.numbers.specs.Ratio.{ratioOf}
 use Rattle.indices.specs.Index.{attainedOf}
@@ -24,7 +24,7 @@ use Rattle.indices.specs.Promises.{AtMostOne}
 use Rattle.indices.proofs.Enclosure.{no-more-than-upper, no-less-than-lower, attained-no-more, attained-no-less}
 use Rattle.indices.proofs.Width.{partial-width, attained-width}
 use Rattle.verdicts.proofs.Verdicts.{verdict-by-ends, meets-is-right, fails-is-right}
-use Rattle.verdicts.proofs.Marks.{required-not-negative, mark-not-negative}
+use Rattle.verdicts.proofs.ByHull.{required-of-not-negative, mark-of-not-negative}
 use Rattle.casefile.specs.Record.{Row, Case}
 use Rattle.casefile.specs.Valid.{Valid}
 use Rattle.casefile.specs.Reading.{Reading, refused, accepted, reading}
@@ -45,7 +45,7 @@ module _ (c : Case) (v : Valid c) where
   rows = rowsOf c
 
   abbrev made : Answer
-  made = figures (c .hull .length) (length (c .rows)) (exact.partialsOf rows)
+  made = figures (c .hull) (length (c .rows)) (exact.partialsOf rows)
 
   enclosed : Enclosure c made
   unfolding figures
@@ -94,10 +94,10 @@ module _ (c : Case) (v : Valid c) where
 
   -- ---- the verdict
   abbrev required : Fraction
-  required = R (c .hull .length)
+  required = requiredOf (c .hull)
 
   abbrev mark : Fraction
-  mark = partialMark (c .hull .length)
+  mark = markOf (c .hull)
 
   one-of-three : (a : Ends) (t : Trio) (q m : Ratio) → (verdictOf a t q m ≡ 1) ⊎ ((verdictOf a t q m ≡ 2) ⊎ (verdictOf a t q m ≡ 3))
   unfolding verdictOf
@@ -112,8 +112,8 @@ module _ (c : Case) (v : Valid c) where
   unfolding figures
   judged =
       let s = all-sound c v in
-      let p = required-not-negative (c .hull .length) in
-      let q = mark-not-negative (c .hull .length) in
+      let p = required-of-not-negative (c .hull) in
+      let q = mark-of-not-negative (c .hull) in
       record {
         meets = meets-is-right rows s required mark p q;
         fails = fails-is-right rows s required mark p q;

@@ -13,9 +13,10 @@ use Rattle.records.specs.declared.Finding.{Finding}
 use Rattle.records.specs.declared.Marks.{Marks}
 use Rattle.records.specs.declared.Hull.{Hull}
 use Rattle.records.specs.declared.RowHead.{RowHead}
+use Rattle.records.specs.Results.{found as alone}
 use Rattle.survival.specs.Marks.{foundMarks, marksOf}
 use Rattle.solas.specs.Survival.{k, s⁴, unlessImmersed}
-use Rattle.survival.specs.Survival.{worseOf, countsAt, survivalOf, survivalsOf}
+use Rattle.survival.specs.Survival.{worseOf, countsAt, survivalOf, survivalAt, survivalsOf}
 use Rattle.printing.specs.Marks.{marksAt}
 use Rattle.printing.specs.ReadBack.{marksOfLines, toldBy}
 use Rattle.casefile.specs.Record.{Row}
@@ -35,10 +36,10 @@ abbrev found : ℕ → ℕ → ℕ → ℤ → Finding
 found lever range heel opening = record { lever = lever; range = range; heel = heel; opening = opening; given = 0 }
 
 abbrev turned : Row
-turned = record { head = record { kind = 2; first = 1; count = 1; depth = 1; height = 1 }; results = found 119 1600 0 (pos 0) ∷ found 120 1599 0 (pos 0) ∷ found 120 1600 2501 (pos 0) ∷ [] }
+turned = record { head = record { kind = 2; first = 1; count = 1; depth = 1; height = 1 }; results = alone (found 119 1600 0 (pos 0) ∷ found 120 1599 0 (pos 0) ∷ found 120 1600 2501 (pos 0) ∷ []) }
 
 abbrev immersed : Row
-immersed = record { head = record { kind = 2; first = 1; count = 1; depth = 1; height = 2 }; results = found 120 1600 0 (pos 0) ∷ found 120 1600 0 (negsuc 0) ∷ found 120 1600 0 (pos 1) ∷ [] }
+immersed = record { head = record { kind = 2; first = 1; count = 1; depth = 1; height = 2 }; results = alone (found 120 1600 0 (pos 0) ∷ found 120 1600 0 (negsuc 0) ∷ found 120 1600 0 (pos 1) ∷ []) }
 
 abbrev marks : Bool → Bool → Bool → Bool → Marks
 marks lever range heel opening = record { lever = lever; range = range; heel = heel; opening = opening }
@@ -47,22 +48,22 @@ abbrev twoSets : Row
 twoSets =
     record {
       head = record { kind = 5; first = 1; count = 1; depth = 1; height = 3 };
-      results = found 120 1587 0 (pos 0) ∷ found 119 1600 0 (pos 0) ∷ found 60 1600 0 (pos 0) ∷ found 119 1600 0 (pos 0) ∷ found 120 1600 2501 (negsuc 0) ∷ found 120 800 0 (pos 0) ∷ [];
+      results = alone (found 120 1587 0 (pos 0) ∷ found 119 1600 0 (pos 0) ∷ found 60 1600 0 (pos 0) ∷ found 119 1600 0 (pos 0) ∷ found 120 1600 2501 (negsuc 0) ∷ found 120 800 0 (pos 0) ∷ []);
     }
 
 in-turn : marksOfRows (turned ∷ immersed ∷ twoSets ∷ [])
     ≡ marks true false false false ∷ marks false true false false ∷ marks false false true false
     ∷ marks false false false false ∷ marks false false false true ∷ marks false false false false
     ∷ marks true false false false ∷ marks false false true true ∷ marks true false false false ∷ []
-unfolding marksOfRows marksOf foundMarks worseOf countsAt unlessImmersed s⁴ k _≼?_ _⊛_ _less_over_
+unfolding marksOfRows survivalAt survivalOf marksOf foundMarks worseOf countsAt unlessImmersed s⁴ k _≼?_ _⊛_ _less_over_
 in-turn = refl
 
 same-marks : (h : Hull) (y : Standing) (rs : List Row) → marksOfLines (linesFrom h y rs) ≡ marksOfRows rs
-unfolding linesFrom marksOfLines marksOfRows marksAt survivalsOf survivalOf
+unfolding linesFrom marksOfLines marksOfRows marksAt survivalsOf
 same-marks h y [] = refl
 same-marks h y (r ∷ rs) =
     let z = stands y (r .head) in
-    let at : RowHead → ℕ → Marks = λ head j. marksOf (head .kind) (countsAt (head .kind) (r .results) j) in
+    let at : RowHead → ℕ → Marks = λ head j. survivalAt (head .kind) (r .results) j .marks in
     ap (λ (head : RowHead). at head 0 ∷ at head 1 ∷ at head 2 ∷ marksOfLines (linesFrom h z rs)) (head-is y (r .head))
     ∙ ap (λ ms. resultMarks r 0 ∷ resultMarks r 1 ∷ resultMarks r 2 ∷ ms) (same-marks h z rs)
 

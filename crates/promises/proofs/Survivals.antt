@@ -7,7 +7,7 @@ use native.Mathlib.Omega.{arith}
 use lib.Dec.{leb}
 use lib.ListN.{length, getD}
 use borrow.Author.Tests.{le-leb}
-use Rattle.survival.specs.Survival.{survivalOf, survivalsOf}
+use Rattle.survival.specs.Survival.{survivalsOf}
 use Rattle.printing.specs.Written.{countIn, writtenIn}
 use Rattle.casefile.specs.Record.{Row}
 use Rattle.listing.specs.Survivals.{threeNumbers, survivalNumbers, survivalsFrom}
@@ -20,7 +20,7 @@ refused-tells-none f lent k l e = let t : leb 0 (length lent) ≡ true = le-leb 
 
 -- the row at the front
 here : (r : Row) (rs : List Row) (j : ℕ) → j < 3 → RowAt (survivalsFrom (r ∷ rs)) (3 * j) r j
-unfolding survivalsFrom survivalNumbers threeNumbers survivalsOf survivalOf
+unfolding survivalsFrom survivalNumbers threeNumbers survivalsOf
 here r rs zero l = record { bottom = refl; top = refl; marks = refl }
 here r rs (suc zero) l = record { bottom = refl; top = refl; marks = refl }
 here r rs (suc (suc zero)) l = record { bottom = refl; top = refl; marks = refl }

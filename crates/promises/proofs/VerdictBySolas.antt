@@ -6,19 +6,22 @@ use mathlib.Core.List.{List, [], _∷_}
 use lib.ListN.{length}
 use Rattle.laws.specs.Fraction.{Fraction, _≈_, _≺_}
 use Rattle.laws.proofs.Fraction.{≈-sym, ≼-of-≈, ≼-trans}
+use lib.Dec.{eqb}
+use Rattle.laws.proofs.Tests.{told}
 use Rattle.laws.proofs.FractionCompare.{strictly-then-below, below-then-strictly}
-use Rattle.solas.specs.Index.{R, partialMark}
+use Rattle.verdicts.specs.Required.{requiredOf, markOf}
 use Rattle.regulation.specs.RegulationIndex.{Boundary, vm}
 use Rattle.regulation.specs.RegulationSums.{plain}
 use Rattle.regulation.specs.OfSolasSums.{NoneNegative}
 use Rattle.regulation.proofs.RegulationIndices.{required-is-01's, partial-mark-is-01's}
+use Rattle.regulation.proofs.RegulationPassengers.{passenger-required-is-02's, passenger-mark-is-02's}
 use Rattle.indices.specs.Exact.{RowAt, Each, NoneBelow, Thrice, AtAll, AtEach}
 use Rattle.verdicts.specs.Promises.{attained, atDeepest, atPartial, atLight, ReachAll, OneShort}
 use Rattle.casefile.specs.Record.{Case}
 use Rattle.casefile.specs.Groups.{Grouped}
 use Rattle.promises.specs.Rows.{rowsOf}
 use Rattle.promises.specs.Sums.{LowButTops, OneEach, SummedUp}
-use Rattle.promises.specs.VerdictBySolas.{ReachBySolas, ShortBySolas, MeetsBySolas, PlainMeetsBySolas, FailsBySolas, PlainFailsBySolas}
+use Rattle.promises.specs.VerdictBySolas.{requiredIn, markIn, ReachBySolas, ShortBySolas, MeetsBySolas, PlainMeetsBySolas, FailsBySolas, PlainFailsBySolas}
 use Rattle.promises.proofs.CaseRows.{as-many}
 use Rattle.promises.proofs.CutLists.{low-at-middle}
 use Rattle.promises.proofs.Kept.{promise}
@@ -39,16 +42,29 @@ none-negative [] (x ∷ xs) n = absurd n
 none-negative (r ∷ rs) [] n = absurd n
 none-negative (r ∷ rs) (x ∷ xs) n = (n .0 .0, none-negative rs xs (n .1))
 
+-- R and the mark are the regulation's, by the ship's type
+required-same : (c : Case) → requiredIn c ≈ requiredOf (c .hull)
+unfolding requiredOf
+required-same c =
+    let h = c .hull in
+    told (eqb (h .kind) 6) (λ t. rw t (passenger-required-is-02's (h .length) (h .lifeboats) (h .excess))) (λ t. rw t (required-is-01's (h .length)))
+
+mark-same : (c : Case) → markIn c ≈ markOf (c .hull)
+unfolding markOf
+mark-same c =
+    let h = c .hull in
+    told (eqb (h .kind) 6) (λ t. rw t (passenger-mark-is-02's (h .length) (h .lifeboats) (h .excess))) (λ t. rw t (partial-mark-is-01's (h .length)))
+
 of-equals : {f f′ g g′ : Fraction} → f′ ≈ f → g ≈ g′ → f ≺ g → f′ ≺ g′
 of-equals p q l = below-then-strictly (≼-of-≈ p) (strictly-then-below l (≼-of-≈ q))
 
 module _ (difference : Boundary → Boundary → Fraction → Fraction) (c : Case) (√ : Fraction) (q : Grouped (c .hull) (c .rows))
     {Such : List Fraction → Type 0} (sums : SummedUp difference c √ q Such) where
   abbrev required : Fraction
-  required = R (c .hull .length)
+  required = requiredOf (c .hull)
 
   abbrev mark : Fraction
-  mark = partialMark (c .hull .length)
+  mark = markOf (c .hull)
 
   module _ (P : RowAt → Fraction → Type 0) where
     at-deepest : (xs : List Fraction) → Each P (rowsOf c .deepest) xs → OneEach c xs
@@ -66,9 +82,9 @@ module _ (difference : Boundary → Boundary → Fraction → Fraction) (c : Cas
   reach : (xs : Thrice (List Fraction)) → AtAll (OneEach c) xs → AtAll Such xs → ReachAll (rowsOf c) required mark xs →
       ReachBySolas difference c √ q xs
   reach xs n e all =
-      let up = ≼-of-≈ (partial-mark-is-01's (c .hull .length)) in
+      let up = ≼-of-≈ (mark-same c) in
       record {
-        attained = ≼-trans (≼-of-≈ (required-is-01's (c .hull .length))) (≼-trans (all .attained) (sums .attained-not-above xs n e));
+        attained = ≼-trans (≼-of-≈ (required-same c)) (≼-trans (all .attained) (sums .attained-not-above xs n e));
         atDeepest = ≼-trans up (≼-trans (all .atDeepest) (sums .deepest .not-above (xs .deepest) (n .0) (e .0)));
         atPartial = ≼-trans up (≼-trans (all .atPartial) (sums .partial .not-above (xs .partial) (n .1) (e .1)));
         atLight = ≼-trans up (≼-trans (all .atLight) (sums .light .not-above (xs .light) (n .2) (e .2)));
@@ -76,14 +92,14 @@ module _ (difference : Boundary → Boundary → Fraction → Fraction) (c : Cas
 
   short : LowButTops c (c .hull .light) → OneShort (rowsOf c) required mark → ShortBySolas difference c √ q
   short low (attained l) =
-      attained (λ xs n. of-equals (sums .attained-same low xs (at-all _ xs n)) (≈-sym (required-is-01's (c .hull .length))) (l xs n))
+      attained (λ xs n. of-equals (sums .attained-same low xs (at-all _ xs n)) (≈-sym (required-same c)) (l xs n))
   short low (atDeepest l) =
-      atDeepest (λ xs n. of-equals (sums .same-at-deepest xs (at-deepest _ xs n)) (≈-sym (partial-mark-is-01's (c .hull .length))) (l xs n))
+      atDeepest (λ xs n. of-equals (sums .same-at-deepest xs (at-deepest _ xs n)) (≈-sym (mark-same c)) (l xs n))
   short low (atPartial l) =
       let low-there = low-at-middle c low in
-      atPartial (λ xs n. of-equals (sums .partial .same low-there xs (at-partial _ xs n)) (≈-sym (partial-mark-is-01's (c .hull .length))) (l xs n))
+      atPartial (λ xs n. of-equals (sums .partial .same low-there xs (at-partial _ xs n)) (≈-sym (mark-same c)) (l xs n))
   short low (atLight l) =
-      atLight (λ xs n. of-equals (sums .light .same low xs (at-light _ xs n)) (≈-sym (partial-mark-is-01's (c .hull .length))) (l xs n))
+      atLight (λ xs n. of-equals (sums .light .same low xs (at-light _ xs n)) (≈-sym (mark-same c)) (l xs n))
 
 pub meets-by-solas : MeetsBySolas
 meets-by-solas f c e √ root q one xs n =

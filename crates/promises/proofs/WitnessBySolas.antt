@@ -11,7 +11,7 @@ use Rattle.regulation.specs.Regulation.{Jmax, Jkn, pk, lmax, b0, Jm, Jk, b11, b
 use Rattle.regulation.specs.RegulationIndex as regulation
 use Rattle.regulation.specs.RegulationIndex.{v, counted, vOf, held, vm}
 use Rattle.regulation.specs.RegulationSums.{plain, inBrackets, si, dA, partialA}
-use Rattle.survival.specs.Survival.{countsAt, tenThousandths, factorOf, factorsOf}
+use Rattle.survival.specs.Survival.{countsAt, tenThousandths, factorOf, factorAt, factorsOf}
 use Rattle.indices.specs.Exact.{Each, NoneBelow, Thrice, AtEach}
 use Rattle.casefile.specs.Record.{Case}
 use Rattle.casefile.specs.Order.{sameGroup, sameLayer}
@@ -60,7 +60,7 @@ abbrev xs : Thrice (List Fraction)
 xs = survivals (31 over 100) (whole 0) (whole 1)
 
 pub none-below : AtEach NoneBelow (rowsOf rising) xs
-unfolding rowsOf exactRows stands sameGroup sameLayer countsAt factorsOf factorOf _less_over_
+unfolding rowsOf exactRows stands sameGroup sameLayer countsAt factorsOf factorAt factorOf _less_over_
 none-below =
     let ones : Each (λ n x. (whole 0 ≼ x) × (tenThousandths n ≼ x)) (10000 ∷ 10000 ∷ 10000 ∷ []) (xs .deepest) =
     ((not-more-than tt, not-more-than tt), ((not-more-than tt, not-more-than tt), ((not-more-than tt, not-more-than tt), tt))) in

@@ -11,6 +11,7 @@ use Rattle.records.specs.declared.Answer.{Answer}
 use Rattle.records.specs.declared.Ends.{Ends}
 use Rattle.records.specs.declared.Finding.{Finding}
 use Rattle.records.specs.declared.Hull.{Hull}
+use Rattle.records.specs.Results.{found as alone}
 use Rattle.solas.specs.Span.{touch, p, P}
 use Rattle.solas.specs.Penetration.{c, d, G1, G3}
 use Rattle.solas.specs.Count.{added, taken}
@@ -25,8 +26,9 @@ use Rattle.penetration.specs.Penetration.{partEnds, GEnds, mixed, QEnds}
 use Rattle.chances.specs.Share.{withinEnds, sumsOf, lowest, highest, rowOf, rowEnds}
 use Rattle.numbers.specs.Ratio.{ratioOf}
 use Rattle.heights.specs.Height.{rowVs}
-use Rattle.survival.specs.Survival.{worseOf, countsAt, factorOf, scaledOf, roundedOf, survivalOf, survivalsOf}
+use Rattle.survival.specs.Survival.{worseOf, countsAt, factorOf, scaledOf, roundedOf, survivalOf, survivalAt, survivalsOf}
 use Rattle.indices.specs.Index.{addsOf, rowAdds, partials, attainedOf}
+use Rattle.verdicts.specs.Required.{requiredOf, markOf}
 use Rattle.verdicts.specs.Verdict.{reaches, allReach, verdictOf}
 use Rattle.casefile.specs.Record.{Row, Case}
 use Rattle.casefile.specs.Order.{sameGroup, sameLayer}
@@ -38,16 +40,19 @@ use Rattle.answers.specs.Answer.{partialsOf, figures, answer}
 abbrev hull : ℕ → ℕ → ℕ → ℕ → ℕ → Hull
 hull light zones x y z =
     record {
+      kind = 1;
       length = 10000;
       breadth = 1600;
       deepest = 6000;
       light = light;
+      lifeboats = 0;
+      excess = 0;
       zones = zones;
       places = 0 ∷ x ∷ y ∷ z ∷ 0 ∷ 0 ∷ 0 ∷ 0 ∷ 0 ∷ 0 ∷ 0 ∷ 0 ∷ 0 ∷ 0 ∷ 0 ∷ 0 ∷ 0 ∷ 0 ∷ 0 ∷ 0 ∷ 0 ∷ [];
     }
 
 abbrev row : ℕ → ℕ → ℕ → ℕ → ℕ → List Finding → Row
-row kind a n b H results = record { head = record { kind = kind; first = a; count = n; depth = b; height = H }; results = results }
+row kind a n b H results = record { head = record { kind = kind; first = a; count = n; depth = b; height = H }; results = alone results }
 
 -- survivals that are given, at the three draughts
 abbrev given : ℕ → ℕ → ℕ → List Finding
@@ -151,7 +156,7 @@ pub record Answers : Type 0 where
 pub answers : Answers
 unfolding answer figures partialsOf addsFrom addsAt shareAt stands sameGroup sameLayer
     rowEnds rowOf lowest highest sumsOf withinEnds added taken QEnds mixed c d PEnds GEnds pEnds partEnds G1Ends G3Ends minus plus rounded.endsOf billionthsOf portionOf halvesOf ceil touch P p G1 G3 _⊹_ _⊛_ _≼?_ _less_over_
-    rowVs rowV vAt v dp worseOf countsAt survivalsOf survivalOf factorOf unlessImmersed s⁴ k ratioOf scaledOf roundedOf rootDown rootUp withDigits addsOf rowAdds partials attainedOf R partialMark reaches allReach verdictOf
+    rowVs rowV vAt v dp worseOf countsAt survivalsOf survivalAt survivalOf factorOf unlessImmersed s⁴ k ratioOf scaledOf roundedOf rootDown rootUp withDigits addsOf rowAdds partials attainedOf requiredOf markOf R partialMark reaches allReach verdictOf
 answers = record { of-decked = refl; of-meeting = refl; of-failing = refl; of-unsettled = refl; of-flooded = refl; of-seconded = refl; rising-meets = refl; raised-fails = refl }
 
 -- ---- two zones, whose pair is not listed, and three, of which nothing is listed and the middle one is longer than any damage

@@ -8,7 +8,7 @@ use Rattle.solas.specs.Share.{within, share, rowShare}
 use Rattle.solas.specs.Height.{v, vAt, rowV}
 use Rattle.solas.specs.Index.{dp, attained}
 use Rattle.heights.specs.Height.{rowVs}
-use Rattle.survival.specs.Survival.{countsAt, factorOf, factorsOf}
+use Rattle.survival.specs.Survival.{countsAt, factorOf, factorAt, factorsOf}
 use Rattle.indices.specs.Exact.{Thrice}
 use Rattle.casefile.specs.Order.{sameGroup, sameLayer}
 use Rattle.rows.specs.Standing.{stands}
@@ -26,9 +26,9 @@ each = record { deepest = xs; partial = xs; light = xs }
 
 module _ (said : Kept decked deckedAnswer) where
   pub no-more : Compared (said .enclosure .no-more .0 xs) × Compared (said .enclosure .no-more .1 xs) × Compared (said .enclosure .no-more .2 xs) × Compared (said .enclosure .attained-no-more each)
-  unfolding rowsOf exactRows stands sameGroup sameLayer rowShare share within Q G P p C G1 G3 touch rowVs rowV vAt v dp countsAt factorsOf factorOf attained _⊹_ _⊝_ _⊛_ _less_over_
+  unfolding rowsOf exactRows stands sameGroup sameLayer rowShare share within Q G P p C G1 G3 touch rowVs rowV vAt v dp countsAt factorsOf factorAt factorOf attained _⊹_ _⊝_ _⊛_ _less_over_
   no-more = (λ h. refl, λ h. refl, λ h. refl, λ h. refl)
 
   pub no-less : Compared (said .enclosure .no-less .0 xs) × Compared (said .enclosure .no-less .1 xs) × Compared (said .enclosure .no-less .2 xs) × Compared (said .enclosure .attained-no-less each)
-  unfolding rowsOf exactRows stands sameGroup sameLayer rowShare share within Q G P p C G1 G3 touch rowVs rowV vAt v dp countsAt factorsOf factorOf attained _⊹_ _⊝_ _⊛_ _less_over_
+  unfolding rowsOf exactRows stands sameGroup sameLayer rowShare share within Q G P p C G1 G3 touch rowVs rowV vAt v dp countsAt factorsOf factorAt factorOf attained _⊹_ _⊝_ _⊛_ _less_over_
   no-less = (λ h. refl, λ h. refl, λ h. refl, λ h. refl)

@@ -12,8 +12,9 @@ use Rattle.solas.specs.Share.{within, share, rowShare}
 use Rattle.solas.specs.Height.{v, vAt, rowV}
 use Rattle.solas.specs.Index.{dp, R, partialMark}
 use Rattle.heights.specs.Height.{rowVs}
-use Rattle.survival.specs.Survival.{countsAt, tenThousandths, factorOf, factorsOf}
+use Rattle.survival.specs.Survival.{countsAt, tenThousandths, factorOf, factorAt, factorsOf}
 use Rattle.indices.specs.Exact.{RowAt, NoneAbove, weight, weightedSum, Thrice, rowAt}
+use Rattle.verdicts.specs.Required.{requiredOf, markOf}
 use Rattle.verdicts.specs.Promises.{atLight}
 use Rattle.casefile.specs.Order.{sameGroup, sameLayer}
 use Rattle.rows.specs.Standing.{nowhere, stands}
@@ -31,12 +32,12 @@ module _ (said : Kept meeting meetingAnswer) where
   none = record { deepest = whole 0 ∷ []; partial = whole 0 ∷ []; light = whole 0 ∷ [] }
 
   pub meets : Said (said .verdict .meets refl none)
-  unfolding rowsOf exactRows stands sameGroup sameLayer countsAt factorsOf factorOf _less_over_
+  unfolding rowsOf exactRows stands sameGroup sameLayer countsAt factorsOf factorAt factorOf _less_over_
   meets h = absurd (not-so (h .0 .0 .1) refl)
 
   pub one : Compared (λ (e : 1 ≡ 1). said .verdict .by-ends .one .0 e .attained) × Compared (λ (e : 1 ≡ 1). said .verdict .by-ends .one .0 e .atDeepest) ×
       Compared (λ (e : 1 ≡ 1). said .verdict .by-ends .one .0 e .atPartial) × Compared (λ (e : 1 ≡ 1). said .verdict .by-ends .one .0 e .atLight)
-  unfolding R partialMark _⊛_ _less_over_
+  unfolding requiredOf markOf R partialMark _⊛_ _less_over_
   one = (λ e. refl, λ e. refl, λ e. refl, λ e. refl)
 
 -- "fails" where Al alone is short: each list with nothing above gives it 1/5 at most, and R/2 is 31/126
@@ -55,13 +56,13 @@ module _ (said : Kept failing failingAnswer) where
       below (positive x) (is-⊹ once (is-nothing (positive x))) (is-self x) (omega arith)
 
   short : (mark : Fraction) → tenThousandths 2000 ≺ mark → (xs : List Fraction) → NoneAbove (rowsOf failing .light) xs → weightedSum (rowsOf failing .light) xs ≺ mark
-  unfolding rowsOf exactRows stands sameGroup sameLayer countsAt factorsOf factorOf
+  unfolding rowsOf exactRows stands sameGroup sameLayer countsAt factorsOf factorAt factorOf
   short mark l [] h = absurd h
   short mark l (x ∷ []) h = below-then-strictly (≼-trans (as-it-is x) (h .0 .1)) l
   short mark l (x ∷ y ∷ xs) h = absurd (h .1)
 
   pub fails : Said (said .verdict .fails)
-  unfolding R partialMark _⊛_ _less_over_
+  unfolding requiredOf markOf R partialMark _⊛_ _less_over_
   fails e = atLight (short _ (less-than refl))
 
 -- a third verdict

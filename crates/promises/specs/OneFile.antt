@@ -1,5 +1,5 @@
--- Document 01, "One file in full", with document 02's openings and marks: what `damindex` reads and what it writes, character by character, and the case that it is; and a file
--- with a second set. Assumes nothing.
+-- Document 01, "One file in full", with document 02's openings and marks: what `damindex` reads and what it writes, character by character, and the case that it is; a file
+-- with a second set, and a passenger ship's. Assumes nothing.
 use Prim.Native.Nat.{ℕ}
 use Prim.Native.Char.{code}
 use Prim.Native.String.{String, [] as none, _∷_ as _then_}
@@ -72,3 +72,18 @@ textOfTwoSets = line "81021d4410c01d44fb202a257d602a27040005f5e10005f5e100321d97
 
 abbrev pub TwoSetsInFull : Type 0
 TwoSetsInFull = report (reading twoSets) ≡ textOfTwoSets
+
+-- ---- a passenger ship's file: 24 m long, 6 m broad, 90 persons with a place in a lifeboat and 30 without, one zone. At the deepest draught lever, range and heel
+-- hold the final stage down, and the moment halves what is left; at the partial one, a ro-ro case with a lever of 160, the intermediate stage is the worse; at the
+-- light one nothing is marked, and the moment leaves nine tenths
+abbrev pub passengerFile : List ℕ
+passengerFile =
+    line "060960025805dc03e8005a001e01"
+    ++ line "070101012c36b0006405dc0384000000a007d0000000c80082064000000000000000780000000e003c0320012c000000006e0000000c001e02bc05dc010000005a00000009003202bc000000"
+    ++ line "0f0001"
+
+abbrev pub textOfPassengers : List ℕ
+textOfPassengers = line "810229b1d40029b30c8018f4dae018f66180347542a03476c94035a4e90035a4e900" ++ lineWith "823b9aca003b9aca00" "070100"
+
+abbrev pub PassengersInFull : Type 0
+PassengersInFull = report (reading passengerFile) ≡ textOfPassengers

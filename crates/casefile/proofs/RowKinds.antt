@@ -14,7 +14,7 @@ use Rattle.records.specs.declared.Finding.{Finding}
 use Rattle.casefile.specs.Layout.{isRow, isEnd, takes, frameLength, resultLength, resultCount, floodingLength, floodingCount}
 use Rattle.casefile.specs.Valid.{Formed, found, given}
 -- checked first, so that a definition that reads a worked file otherwise is refused there
-use Rattle.casefile.proofs.Examples.{ferry-accepted}
+use Rattle.casefile.proofs.PassengerExamples.{ferry-accepted}
 
 pub data RowKind (kind : ℕ) : Type 0 where
   one-set : kind ≡ 2 → RowKind kind

@@ -1,5 +1,5 @@
 -- A row's kind, case by case: 02 has one set of results, 03 given survivals, 05 two sets, 07 one set and what a passenger ship's row tells besides. Assumes nothing.
-use Prim.Native.Nat.{ℕ, _+_, _*_, _<_, _≤_}
+use Prim.Native.Nat.{ℕ, _+_, _*_, _<_}
 use mathlib.Core.Path.{_≡_, refl, sym, _∙_}
 use mathlib.Core.Bool.{Bool, true, false, cond, _||_, true≢false}
 use mathlib.Core.List.{List, [], _∷_}

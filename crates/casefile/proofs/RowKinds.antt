@@ -1,5 +1,5 @@
 -- A row's kind, case by case: 02 has one set of results, 03 given survivals, 05 two sets, 07 one set and what a passenger ship's row tells besides. Assumes nothing.
-use Prim.Native.Nat.{ℕ, _+_, _*_, _<_, _≤_}
+use Prim.Native.Nat.{ℕ, _+_, _*_, _<_}
 use mathlib.Core.Path.{_≡_, refl, sym, _∙_}
 use mathlib.Core.Bool.{Bool, true, false, cond, _||_, true≢false}
 use mathlib.Core.List.{List, [], _∷_}
@@ -14,7 +14,7 @@ use Rattle.records.specs.declared.Finding.{Finding}
 use Rattle.casefile.specs.Layout.{isRow, isEnd, takes, frameLength, resultLength, resultCount, floodingLength, floodingCount}
 use Rattle.casefile.specs.Valid.{Formed, found, given}
 -- checked first, so that a definition that reads a worked file otherwise is refused there
-use Rattle.casefile.proofs.Examples.{ferry-accepted}
+use Rattle.casefile.proofs.PassengerExamples.{ferry-accepted}
 
 pub data RowKind (kind : ℕ) : Type 0 where
   one-set : kind ≡ 2 → RowKind kind

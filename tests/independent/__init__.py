@@ -1,13 +1,13 @@
 """An independent program for the case files of documents 01 and 02, in whole numbers and exact fractions."""
 
 from .answering import Answer, answer, answer_to_case
-from .casefile import Case, Hull, Refusal, Result, Row, reading
+from .casefile import Case, Hull, Refusal, Result, Row, Stage, reading
 from .printing import exact_text, figures, printed, row_numbers, rows_text, total_text
 from .rounding import Ends
 from .settling import settled_text
 
 __all__ = [
-    "Answer", "Case", "Ends", "Hull", "Refusal", "Result", "Row",
+    "Answer", "Case", "Ends", "Hull", "Refusal", "Result", "Row", "Stage",
     "answer", "answer_to_case", "exact_text", "figures", "judge", "printed", "reading", "row_numbers", "rows_text", "run", "settled_text",
     "total_text",
 ]

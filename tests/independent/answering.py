@@ -3,7 +3,7 @@
 from typing import NamedTuple, Tuple
 
 from .casefile import Refusal, reading
-from .regulation import NO_MARKS, Marks, draughts, marks, s_fourth, survival_marks
+from .regulation import NO_MARKS, Marks, draughts, marks, passenger_marks, passenger_s_fourth, s_fourth, survival_marks
 from .rounding import BILLION, Ends, added_ends, attained_ends, share_ends, sum_ends, survival_ends
 
 MEETS, FAILS, UNSETTLED = 1, 2, 3
@@ -44,10 +44,17 @@ def lower_survival(first, second):
     return Survival(ends, one.marks if s_fourth(*first) <= s_fourth(*second) else other.marks)
 
 
+def passenger_survival(result, stage):
+    """Passenger ships: the survival of one draught's result and stage; its marks are those of the final stage."""
+    return Survival(survival_ends(passenger_s_fourth(result, stage)), passenger_marks(result, stage.roro))
+
+
 def row_survival(row, draught):
     """Height and survival: a row's survival at one draught; a given one has bottom = top, and no mark."""
     if row.given is not None:
         return Survival(Ends(row.given[draught], row.given[draught]), NO_MARKS)
+    if row.stages is not None:
+        return passenger_survival(row.results[draught], row.stages[draught])
     if row.second is None:
         return result_survival(row.results[draught])
     return lower_survival(row.results[draught], row.second[draught])
@@ -60,11 +67,11 @@ def partial_ends(case, shares, survivals, draught):
     return sum_ends([added_ends(share, row, d, three[draught].ends) for row, share, three in rows])
 
 
-def verdict_of(ends, L):
-    """Height and survival: 1 meets, 2 fails, 3 unsettled, all compared exactly."""
-    if all(end.lower >= mark * BILLION for end, mark in zip(ends, marks(L))):
+def verdict_of(ends, L, persons=None):
+    """Height and survival: 1 meets, 2 fails, 3 unsettled, all compared exactly; Passenger ships: by the marks of a ship with these persons."""
+    if all(end.lower >= mark * BILLION for end, mark in zip(ends, marks(L, persons))):
         return MEETS
-    if any(end.upper < mark * BILLION for end, mark in zip(ends, marks(L))):
+    if any(end.upper < mark * BILLION for end, mark in zip(ends, marks(L, persons))):
         return FAILS
     return UNSETTLED
 
@@ -75,7 +82,7 @@ def answer_to_case(case):
     survivals = tuple(tuple(row_survival(row, draught) for draught in range(3)) for row in case.rows)
     partials = tuple(partial_ends(case, shares, survivals, draught) for draught in range(3))
     ends = (attained_ends(*partials),) + partials
-    return Answer(0, 0, verdict_of(ends, case.hull.L), ends, shares, survivals)
+    return Answer(0, 0, verdict_of(ends, case.hull.L, case.hull.persons), ends, shares, survivals)
 
 
 def answer(data, sheet=None):

@@ -9,8 +9,11 @@ MOST_ROWS = 500
 MOST_ZONES = 20
 ABOVE_DEEPEST = 12_500  # a layer's top lies this far above ds
 
-HULL, LEVER_ROW, GIVEN_ROW, TWO_SETS_ROW, END = 0x01, 0x02, 0x03, 0x05, 0x0F
-LENGTHS = {LEVER_ROW: 31, GIVEN_ROW: 13, TWO_SETS_ROW: 55, END: 3}
+MOST_PERSONS = 10_000
+
+HULL, LEVER_ROW, GIVEN_ROW, TWO_SETS_ROW, PASSENGER_HULL, PASSENGER_ROW, END = 0x01, 0x02, 0x03, 0x05, 0x06, 0x07, 0x0F
+LENGTHS = {LEVER_ROW: 31, GIVEN_ROW: 13, TWO_SETS_ROW: 55, END: 3}  # of the lines after a cargo ship's hull
+PASSENGER_LENGTHS = {PASSENGER_ROW: 76, END: 3}                     # and after a passenger ship's
 
 
 class Refusal(NamedTuple):
@@ -21,13 +24,15 @@ class Refusal(NamedTuple):
 
 
 class Hull(NamedTuple):
-    """The hull: length and breadth, deepest and light draught, and each zone by its places."""
+    """The hull: length and breadth, deepest and light draught, and each zone by its places; of a passenger ship also the persons for whom there are
+    lifeboats and those in excess."""
 
     L: int
     B: int
     ds: int
     dl: int
     zones: Tuple[Span, ...]
+    persons: Optional[Tuple[int, int]] = None
 
     @property
     def top(self):
@@ -43,8 +48,21 @@ class Result(NamedTuple):
     opening: int
 
 
+class Stage(NamedTuple):
+    """What a passenger ship's row has at one draught beside its result: displacement and heeling moment, the intermediate stage's lever, range and heel,
+    and the ro-ro mark."""
+
+    displacement: int
+    moment: int
+    lever: int
+    reach: int
+    heel: int
+    roro: int
+
+
 class Row(NamedTuple):
-    """A row with results or given survivals by draught, the b of the layer before it and the H of the row below it, and a second set of results or none."""
+    """A row with results or given survivals by draught, the b of the layer before it and the H of the row below it, and a second set of results or a
+    passenger ship's stages or neither."""
 
     a: int
     n: int
@@ -55,6 +73,7 @@ class Row(NamedTuple):
     b_before: int = 0
     H_below: Optional[int] = None
     second: Optional[Tuple[Result, ...]] = None
+    stages: Optional[Tuple[Stage, ...]] = None
 
     @property
     def sets(self):
@@ -99,6 +118,11 @@ def two_bytes(frame, at):
     return 256 * frame[at] + frame[at + 1]
 
 
+def four_bytes(frame, at):
+    """Passenger ships: a number of four bytes, the high byte first."""
+    return 65_536 * two_bytes(frame, at) + two_bytes(frame, at + 2)
+
+
 def two_bytes_signed(frame, at):
     """Openings: a number of two bytes in two's complement, the high byte first."""
     number = two_bytes(frame, at)
@@ -109,25 +133,32 @@ def two_bytes_signed(frame, at):
 
 
 def hull_of(frame):
-    """The case file: the hull frame's number of refusal, or its hull."""
-    if frame[0] != HULL or len(frame) < 10:
+    """The case file: the hull frame's number of refusal, or its hull; Passenger ships: the persons after dl, and limits of their own."""
+    if frame[0] not in (HULL, PASSENGER_HULL):
+        return 3
+    passengers = frame[0] == PASSENGER_HULL
+    count_at = 13 if passengers else 9
+    if len(frame) <= count_at:
         return 3
     L, B, ds, dl = (two_bytes(frame, at) for at in (1, 3, 5, 7))
+    persons = (two_bytes(frame, 9), two_bytes(frame, 11)) if passengers else None
+    shortest, narrowest = (2_000, 400) if passengers else (8_000, 1_000)
     within = (
-        8_000 <= L <= 19_800
-        and B % 2 == 0 and 1_000 <= B <= 6_000
+        shortest <= L <= 19_800
+        and B % 2 == 0 and narrowest <= B <= 6_000
         and 1_000 <= ds <= 30_000
         and 500 <= dl <= ds and (ds - dl) % 5 == 0
+        and all(count <= MOST_PERSONS for count in persons or ())
     )
     if not within:
         return 4
-    m = frame[9]
-    if not 1 <= m <= MOST_ZONES or len(frame) != 8 + 2 * m:
+    m = frame[count_at]
+    if not 1 <= m <= MOST_ZONES or len(frame) != count_at - 1 + 2 * m:
         return 5
-    places = [0] + [two_bytes(frame, 10 + 2 * i) for i in range(m - 1)] + [L]
+    places = [0] + [two_bytes(frame, count_at + 1 + 2 * i) for i in range(m - 1)] + [L]
     if not all(here < there for here, there in zip(places, places[1:])):
         return 5
-    return Hull(L, B, ds, dl, tuple(Span(here, there) for here, there in zip(places, places[1:])))
+    return Hull(L, B, ds, dl, tuple(Span(here, there) for here, there in zip(places, places[1:])), persons)
 
 
 # Rows and end
@@ -139,20 +170,38 @@ def result_of(frame, at):
     return Result(lever, reach, heel, two_bytes_signed(frame, at + 6))
 
 
+def stage_of(frame, at):
+    """Passenger ships: what a row has at one draught beside its result."""
+    return Stage(four_bytes(frame, at), four_bytes(frame, at + 4), *(two_bytes(frame, at + field) for field in (8, 10, 12)), frame[at + 14])
+
+
 def row_of(frame):
-    """The case file: the fields of a row frame of any kind; Smaller damage, worse result: a second set of results after the first."""
+    """The case file: the fields of a row frame of any kind; Smaller damage, worse result: a second set of results after the first; Passenger ships: the
+    stages after the results."""
     a, n, b, H = frame[1], frame[2], two_bytes(frame, 3), two_bytes(frame, 5)
     if frame[0] == GIVEN_ROW:
         return Row(a, n, b, H, None, tuple(two_bytes(frame, 7 + 2 * j) for j in range(3)))
     first = tuple(result_of(frame, 7 + 8 * j) for j in range(3))
     if frame[0] == LEVER_ROW:
         return Row(a, n, b, H, first, None)
+    if frame[0] == PASSENGER_ROW:
+        return Row(a, n, b, H, first, None, stages=tuple(stage_of(frame, 31 + 15 * j) for j in range(3)))
     return Row(a, n, b, H, first, None, second=tuple(result_of(frame, 31 + 8 * j) for j in range(3)))
 
 
 def result_is_within(result):
     """Refusal 7: the limits of a result's numbers."""
     return result.lever <= 5_000 and result.reach <= 9_000 and result.heel <= 9_000 and -30_000 <= result.opening <= 30_000
+
+
+def stage_is_within(stage):
+    """Refusal 7: the limits of a stage's numbers."""
+    return (
+        1 <= stage.displacement <= 300_000
+        and 1 <= stage.moment <= 2_000_000
+        and stage.lever <= 5_000 and stage.reach <= 9_000 and stage.heel <= 9_000
+        and stage.roro <= 1
+    )
 
 
 def row_is_within(row, hull):
@@ -165,6 +214,7 @@ def row_is_within(row, hull):
         and 1 <= row.H <= 60_000
         and all(result_is_within(result) for results in row.sets for result in results)
         and all(survival <= 10_000 for survival in row.given or ())
+        and all(stage_is_within(stage) for stage in row.stages or ())
     )
 
 
@@ -247,7 +297,8 @@ def reading(data):
                 return Refusal(hull, 1)
             continue
         kind = frame[0]
-        if kind not in LENGTHS or len(frame) != LENGTHS[kind]:
+        lengths = LENGTHS if hull.persons is None else PASSENGER_LENGTHS
+        if kind not in lengths or len(frame) != lengths[kind]:
             return Refusal(3, number)
         if kind == END:
             refused = end_refusal(frame, hull, rows)

@@ -67,7 +67,8 @@ def with_fault(file, old, new, on_corpus=False):
 def main():
     """Exit status 0 where nothing is found without a fault, and each fault is."""
     parser = argparse.ArgumentParser(prog="faults", description=__doc__)
-    parser.add_argument("--corpus", action="store_true", help="the faults of the input's limit and of the second set, which the corpus alone must find")
+    parser.add_argument("--corpus", action="store_true",
+                        help="the faults of the input's limit, of the second set and of passenger ships, which the corpus alone must find")
     on_corpus = parser.parse_args().corpus
     begun, found, missed = time.monotonic(), 0, 0
     unbroken = with_fault("rounding", "BILLION = 10**9", "BILLION = 10**9", on_corpus)

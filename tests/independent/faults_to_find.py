@@ -1,7 +1,9 @@
 """The faults that the tests must find, by file: what is wrong, the text as it stands, and the text with the fault."""
 
+from . import passenger_faults as passengers
+
 DRY = "tuple(result._replace(opening=0) for result in row.results)"
-TABLE = "        if kind not in LENGTHS or"
+TABLE = "        if kind not in lengths or"
 JUDGED = "result_is_within(result) for results in row.sets for result in results)"
 SECOND_ROW = "    return Row(a, n, b, H, first, None, second=tuple(result_of(frame, 31 + 8 * j) for j in range(3)))"
 BOTH = "return lower_survival(row.results[draught], row.second[draught])"
@@ -41,31 +43,31 @@ READING = [
     ("the openings stand after the three results", "tuple(result_of(frame, 7 + 8 * j) for j in range(3))",
      "tuple(result_of(frame, 7 + 6 * j)._replace(opening=two_bytes_signed(frame, 25 + 2 * j)) for j in range(3))"),
     ("a result begins where it did without openings", "result_of(frame, 7 + 8 * j)", "result_of(frame, 7 + 6 * j)"),
-    ("a row without openings is let through as dry", "        if kind not in LENGTHS or", """\
+    ("a row without openings is let through as dry", "        if kind not in lengths or", """\
         if kind == LEVER_ROW and len(frame) == 25:
             frame = b"".join((frame[:13], bytes(2), frame[13:19], bytes(2), frame[19:], bytes(2)))
-        if kind not in LENGTHS or"""),
-    ("a row of results that is too long is let through", "len(frame) != LENGTHS[kind]", "(len(frame) != LENGTHS[kind] and len(frame) <= 31)"),
-    ("a row of results that is too short is let through", "        if kind not in LENGTHS or", """\
+        if kind not in lengths or"""),
+    ("a row of results that is too long is let through", "len(frame) != lengths[kind]", "(len(frame) != lengths[kind] and len(frame) <= 31)"),
+    ("a row of results that is too short is let through", "        if kind not in lengths or", """\
         frame = frame.ljust(31, bytes(1)) if kind == LEVER_ROW else frame
-        if kind not in LENGTHS or"""),
+        if kind not in lengths or"""),
     # Judging order
     ("2 is judged before 10", "if ended:", "if ended and is_written_well(text, closed):"),
-    ("5 is judged before 4", "if not within:", "if not within and 1 <= frame[9] <= MOST_ZONES:"),
-    ("6 is judged before 3 at row 501 of kind 02", "        if kind not in LENGTHS or", """\
+    ("5 is judged before 4", "if not within:", "if not within and 1 <= frame[count_at] <= MOST_ZONES:"),
+    ("6 is judged before 3 at row 501 of kind 02", "        if kind not in lengths or", """\
         if kind == LEVER_ROW and len(rows) == MOST_ROWS:
             return Refusal(6, number)
-        if kind not in LENGTHS or"""),
-    ("6 is judged before 3 at row 501 of kind 03", "        if kind not in LENGTHS or", """\
+        if kind not in lengths or"""),
+    ("6 is judged before 3 at row 501 of kind 03", "        if kind not in lengths or", """\
         if kind == GIVEN_ROW and len(rows) == MOST_ROWS:
             return Refusal(6, number)
-        if kind not in LENGTHS or"""),
+        if kind not in lengths or"""),
     ("7 is judged before 6 at row 501", "if len(rows) == MOST_ROWS:",
      "if len(rows) == MOST_ROWS and row_is_within(row, hull):"),
-    ("7 is judged before 3 where the opening is outside", "        if kind not in LENGTHS or", """\
+    ("7 is judged before 3 where the opening is outside", "        if kind not in lengths or", """\
         if kind == LEVER_ROW and len(frame) >= 15 and not result_is_within(result_of(frame, 7)):
             return Refusal(7, number)
-        if kind not in LENGTHS or"""),
+        if kind not in lengths or"""),
     ("8 is judged before 7 where the opening is outside", "if not row_is_within(row, hull):",
      "if not row_is_within(row, hull) and (not rows or row.given or not is_out_of_order(row, rows[-1], hull)):"),
     ("9 is judged before 8", "if rows and is_out_of_order(row, rows[-1], hull):",
@@ -104,7 +106,7 @@ FIGURES = [
     ("an opening of -1 is not immersed", "if opening < 0:", "if opening < -1:"),
     ("a dry opening is taken for an immersed one", "if opening < 0:", "if opening > 0:"),
     ("survival stays as it was where the opening is immersed", "    if opening < 0:\n        return Fraction(0)\n", ""),
-    ("survival is one where the opening is immersed", "        return Fraction(0)\n", "        return Fraction(1)\n"),
+    ("survival is one where the opening is immersed", "    if opening < 0:\n        return Fraction(0)\n", "    if opening < 0:\n        return Fraction(1)\n"),
     ("the higher s⁴ of two is the exact one", "return min(s_fourth(*results[draught])", "return max(s_fourth(*results[draught])"),
     ("the partial draught is the mean", "3 * (ds - dl) // 5", "(ds - dl) // 2"),
     # Marks
@@ -119,15 +121,15 @@ FIGURES = [
     ("a range of nothing is not marked", "reach < 1_600", "0 < reach < 1_600"),
     ("lever and range are told for each other", "Marks(lever < 120, reach < 1_600,", "Marks(reach < 1_600, lever < 120,"),
     ("the heel alone is marked where it makes survival 0", "Marks(lever < 120, reach < 1_600,", "Marks(lever < 120 and heel < 3_000, reach < 1_600,"),
-    ("an opening at zero is marked", "opening < 0)", "opening <= 0)"),
-    ("an opening of -1 is not marked", "opening < 0)", "opening < -1)"),
-    ("a dry opening is marked", "opening < 0)", "opening > 0)"),
-    ("an opening of -30,000 is not marked", "opening < 0)", "-30_000 < opening < 0)"),
+    ("an opening at zero is marked", " opening < 0)", " opening <= 0)"),
+    ("an opening of -1 is not marked", " opening < 0)", " opening < -1)"),
+    ("a dry opening is marked", " opening < 0)", " opening > 0)"),
+    ("an opening of -30,000 is not marked", " opening < 0)", " -30_000 < opening < 0)"),
     ("the opening alone is marked where it is immersed", "Marks(lever < 120, reach < 1_600, heel > 2_500,",
      "Marks(lever < 120 and opening >= 0, reach < 1_600, heel > 2_500,"),
     ("an immersed opening marks the lever too", "Marks(lever < 120, reach < 1_600, heel > 2_500,",
      "Marks(lever < 120 or opening < 0, reach < 1_600, heel > 2_500,"),
-    ("the opening is marked where nothing else is", "opening < 0)", "opening < 0 and heel <= 2_500)"),
+    ("the opening is marked where nothing else is", " opening < 0)", " opening < 0 and heel <= 2_500)"),
     ("R changes its form a centimetre too late", "L > 10_000", "L > 10_001"),
     ("a partial index must reach the whole of R", "(R(L), R(L) / 2, ", "(R(L), R(L), "),
 ]
@@ -205,6 +207,7 @@ TEXT = [
     ("heel and opening change their bytes", "4 * marks.heel + 8 * marks.opening", "8 * marks.heel + 4 * marks.opening"),
     ("the exact survival has no eye for the opening", "row_s_fourth(row, draught)", "row_s_fourth(row._replace(results=%s), draught)" % DRY),
     ("the exact survival has no eye for the second set", "row_s_fourth(row, draught)", "row_s_fourth(row._replace(second=None), draught)"),
+    ("the exact figures of a passenger ship have a cargo ship's R", "index_marks(hull.L, hull.persons)", "index_marks(hull.L)"),
     ("the marks of the light draught stand for the partial", "for survival in survivals)", "for survival in (survivals[0], *survivals[2:] * 2))"),
     ("the draughts come light first", "for survival in survivals)", "for survival in survivals[::-1])"),
     ("the first row's marks are repeated", "row_line(*row) for row in zip(answer.shares, answer.survivals)",
@@ -228,6 +231,8 @@ SETTLING = [
     ("a root is rounded down on both sides", "Fraction(down + 1, scale)", "Fraction(down, scale)"),
     ("an immersed opening counts as dry", "row_s_fourth(row, draught)", "row_s_fourth(row._replace(results=%s), draught)" % DRY),
     ("the second set does not count", "row_s_fourth(row, draught)", "row_s_fourth(row._replace(second=None), draught)"),
+    ("a passenger ship is settled by a cargo ship's R", "marks(hull.L, hull.persons)", "marks(hull.L)"),
+    ("a passenger ship's partial mark is told as R/2", '"R/2" if hull.persons is None else "0.9 R"', '"R/2"'),
     ("v does not count", "share * row_v(row, d) / WHOLE_V", "share"),
     ("A weighs each draught alike", "(Fraction(2, 5), Fraction(2, 5), Fraction(1, 5))", "(Fraction(1, 3),) * 3"),
     ("the ship fails only where all fall short", "if any(one.reaches is False", "if all(one.reaches is False"),
@@ -358,8 +363,8 @@ SECOND_ANSWERED = [
      "    return lower_survival(*(results[draught]._replace(opening=opening) for results in row.sets))"),
 ]
 
-ON_CORPUS = {"casefile": SECOND_READ, "answering": SECOND_ANSWERED}
+ON_CORPUS = {"casefile": SECOND_READ + passengers.READ, "regulation": passengers.WORKED, "answering": SECOND_ANSWERED + passengers.ANSWERED}
 FAULTS = {
-    "casefile": READING + SECOND_READ, "regulation": FIGURES, "rounding": ENDS, "answering": ANSWER + SECOND_ANSWERED, "printing": TEXT,
-    "settling": SETTLING,
+    "casefile": READING + SECOND_READ + passengers.READ, "regulation": FIGURES + passengers.WORKED, "rounding": ENDS,
+    "answering": ANSWER + SECOND_ANSWERED + passengers.ANSWERED, "printing": TEXT, "settling": SETTLING,
 }

@@ -78,9 +78,32 @@ def s_fourth(lever, reach, heel, opening):
     return K_fourth * min(lever, Fraction(12, 100)) / Fraction(12, 100) * min(reach, Fraction(16)) / 16
 
 
+def s_intermediate_fourth(lever, reach, heel):
+    """002, 2.7.2: s-intermediate⁴ of a passenger ship, from metres and degrees; zero where the heel exceeds 15 degrees."""
+    return Fraction(0) if heel > 15 else min(lever, Fraction(5, 100)) / Fraction(5, 100) * min(reach, Fraction(7)) / 7
+
+
+def s_final_fourth(lever, reach, heel, roro):
+    """002, 2.7.3: s-final⁴ of a passenger ship, K being the root of (15 - heel)/(15 - 7); TGZmax and TRange are those of ro-ro spaces where there are such."""
+    TGZmax, TRange = (Fraction(20, 100), 20) if roro else (Fraction(12, 100), 16)
+    K_fourth = min(Fraction(1), max(Fraction(0), (15 - heel) / Fraction(15 - 7))) ** 2
+    return K_fourth * min(lever, TGZmax) / TGZmax * min(reach, Fraction(TRange)) / TRange
+
+
+def s_mom(lever, displacement, moment):
+    """002, 2.7.4: s-mom of a passenger ship, from metres, tonnes and tonne-metres: not above one, and not below zero."""
+    return min(Fraction(1), max(Fraction(0), (lever - Fraction(4, 100)) * displacement / moment))
+
+
 def R(length):
     """Regulation 6: the required index of a cargo ship of so many metres."""
     above = 1 - Fraction(128) / (length + 152)
     if length > 100:
         return above
     return 1 - 1 / (1 + length / 100 * above / (1 - above))
+
+
+def passenger_R(length, in_lifeboats, in_excess):
+    """003, 10.2: the required index of a passenger ship of so many metres, N1 persons in lifeboats and N2 in excess of them."""
+    N = in_lifeboats + 2 * in_excess
+    return 1 - 5_000 / (length + Fraction(5, 2) * N + 15_225)

@@ -4,7 +4,7 @@ from fractions import Fraction
 from math import floor
 
 from .casefile import Refusal
-from .regulation import R, WHOLE_SURVIVAL, WHOLE_V, draughts, group_share, row_s_fourth, row_share, row_v
+from .regulation import WHOLE_SURVIVAL, WHOLE_V, draughts, group_share, marks as index_marks, row_s_fourth, row_share, row_v
 
 DRAUGHTS = ("deepest", "partial", "light")
 
@@ -69,8 +69,8 @@ def exact_text(read):
         lines.append(f"row {number}: group ({row.a}, {row.n}) b {row.b} H {row.H} share {share}")
         for draught, name in enumerate(DRAUGHTS):
             lines.append(f"  {name}: v {row_v(row, depths[draught])}/{WHOLE_V} {exact_survival(row, draught)}")
-    lines.append(f"R {R(hull.L)}")
-    lines.append(f"partial mark {R(hull.L) / 2}")
+    required, partial, *_ = index_marks(hull.L, hull.persons)
+    lines += [f"R {required}", f"partial mark {partial}"]
     for d, name in zip(depths, DRAUGHTS):
         total = sum(share * row_v(row, d) for row, share in zip(read.rows, shares)) / WHOLE_V if shares else 0
         lines.append(f"total chance at {name} draught {d}: {total}")

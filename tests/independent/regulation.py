@@ -181,7 +181,9 @@ def s_fourth(lever, reach, heel, opening):
 
 
 def row_s_fourth(row, draught):
-    """Height and survival: s⁴ of a row's result at one draught; Smaller damage, worse result: the lower one of its two."""
+    """Height and survival: s⁴ of a row's result at one draught; Smaller damage, worse result: the lower one of its two; Passenger ships: theirs."""
+    if row.stages is not None:
+        return passenger_s_fourth(row.results[draught], row.stages[draught])
     return min(s_fourth(*results[draught]) for results in row.sets)
 
 
@@ -190,18 +192,75 @@ def survival_marks(lever, reach, heel, opening):
     return Marks(lever < 120, reach < 1_600, heel > 2_500, opening < 0)
 
 
+# Passenger ships
+
+
+def s_intermediate_fourth(stage):
+    """Passenger ships, 002 2.7.2: s-intermediate⁴ of one stage; its heel may be 15 degrees."""
+    if stage.heel > 1_500:
+        return Fraction(0)
+    return Fraction(min(stage.lever, 50), 50) * Fraction(min(stage.reach, 700), 700)
+
+
+def final_caps(roro):
+    """Passenger ships, 002 2.7.3: the caps of the final stage's lever and range."""
+    return (200, 2_000) if roro else (120, 1_600)
+
+
+def s_final_fourth(result, roro):
+    """Passenger ships, 002 2.7.3: s-final⁴, from the final stage's lever, range and heel."""
+    most_lever, most_reach = final_caps(roro)
+    if result.heel <= 700:
+        k = Fraction(1)
+    elif result.heel >= 1_500:
+        k = Fraction(0)
+    else:
+        k = Fraction(1_500 - result.heel, 800) ** 2
+    return Fraction(min(result.lever, most_lever), most_lever) * Fraction(min(result.reach, most_reach), most_reach) * k
+
+
+def s_mom(lever, stage):
+    """Passenger ships, 002 2.7.4: s-mom from the final stage's lever, which has no cap here, in millimetres, held between 0 and 1."""
+    return min(max(Fraction((lever - 40) * stage.displacement, 1_000 * stage.moment), Fraction(0)), Fraction(1))
+
+
+def passenger_s_fourth(result, stage):
+    """Passenger ships: s⁴ at one draught, the lesser of s-intermediate⁴ and s-final⁴ times s-mom⁴; Openings: nothing where the opening is immersed."""
+    if result.opening < 0:
+        return Fraction(0)
+    return min(s_intermediate_fourth(stage), s_final_fourth(result, stage.roro) * s_mom(result.lever, stage) ** 4)
+
+
+def passenger_marks(result, roro):
+    """Passenger ships: the marks of the final stage, with its own caps and heel limit."""
+    most_lever, most_reach = final_caps(roro)
+    return Marks(result.lever < most_lever, result.reach < most_reach, result.heel > 700, result.opening < 0)
+
+
+# Draughts and the required index
+
+
 def draughts(ds, dl):
     """Height and survival: deepest, partial, light; dp is whole because ds - dl is a multiple of 5."""
     return (ds, dl + 3 * (ds - dl) // 5, dl)
 
 
 def R(L):
-    """Height and survival: the required index."""
+    """Height and survival: the required index of a cargo ship."""
     if L > 10_000:
         return Fraction(L + 2_400, L + 15_200)
     return Fraction(L * (L + 2_400), L * (L + 2_400) + 128_000_000)
 
 
-def marks(L):
-    """Height and survival: what A, As, Ap and Al must reach."""
-    return (R(L), R(L) / 2, R(L) / 2, R(L) / 2)
+def passenger_R(L, in_lifeboats, in_excess):
+    """Passenger ships, 003 10.2: the required index, with L in centimetres."""
+    length_and_persons = L + 250 * (in_lifeboats + 2 * in_excess)
+    return Fraction(length_and_persons + 1_022_500, length_and_persons + 1_522_500)
+
+
+def marks(L, persons=None):
+    """Height and survival: what A, As, Ap and Al must reach; Passenger ships: with these persons, and nine tenths for each partial."""
+    if persons is None:
+        return (R(L), R(L) / 2, R(L) / 2, R(L) / 2)
+    required = passenger_R(L, *persons)
+    return (required,) + 3 * (required * Fraction(9, 10),)

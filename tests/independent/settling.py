@@ -1,4 +1,4 @@
-"""Settles a ship that the answer leaves unsettled: A against R and each partial index against R/2, with the roots to more places."""
+"""Settles a ship that the answer leaves unsettled: A against R and each partial index against its part of R, with the roots to more places."""
 
 from fractions import Fraction
 from math import ceil, floor, isqrt
@@ -86,7 +86,9 @@ def figures_of(case):
     shares = [row_share(case.hull, row) for row in case.rows]
     partials = [partial_parts(case, shares, draught) for draught in range(3)]
     whole = [(part * weight, fourth) for part, parts in zip(OF_A, partials) for weight, fourth in parts]
-    named = zip(("A", "As", "Ap", "Al"), ("R", "R/2", "R/2", "R/2"), marks(case.hull.L), [whole, *partials])
+    hull = case.hull
+    of_R = "R/2" if hull.persons is None else "0.9 R"
+    named = zip(("A", "As", "Ap", "Al"), ("R", of_R, of_R, of_R), marks(hull.L, hull.persons), [whole, *partials])
     return [Figure(name, mark_name, mark, lambda places, parts=parts: sum_bounds(parts, places))
             for name, mark_name, mark, parts in named]
 

@@ -7,6 +7,12 @@ def hull_line(L, B, ds, dl, bulkheads, m=None):
     return f"01{L:04x}{B:04x}{ds:04x}{dl:04x}{count:02x}" + "".join(f"{place:04x}" for place in bulkheads)
 
 
+def passenger_hull_line(L, B, ds, dl, persons, bulkheads, m=None):
+    """Passenger ships: a hull frame of kind 06, with the persons in lifeboats and those in excess after dl."""
+    cargo = hull_line(L, B, ds, dl, bulkheads, m)
+    return "06" + cargo[2:18] + "".join(f"{count:04x}" for count in persons) + cargo[18:]
+
+
 def result_digits(lever, reach, heel, opening):
     """Openings: a result as a row has it, the opening in two's complement."""
     return f"{lever:04x}{reach:04x}{heel:04x}{opening % 65_536:04x}"
@@ -20,6 +26,16 @@ def lever_row(a, n, b, H, results):
 def two_sets_row(a, n, b, H, first, second):
     """Smaller damage, worse result: a row of kind 05, the three results of the first set and then those of the second."""
     return "05" + lever_row(a, n, b, H, (*first, *second))[2:]
+
+
+def stage_digits(displacement, moment, lever, reach, heel, roro):
+    """Passenger ships: a stage as a row has it."""
+    return f"{displacement:08x}{moment:08x}{lever:04x}{reach:04x}{heel:04x}{roro:02x}"
+
+
+def passenger_row(a, n, b, H, results, stages):
+    """Passenger ships: a row of kind 07, the three results and then the three stages (displacement, moment, lever, range, heel, ro-ro mark)."""
+    return "07" + lever_row(a, n, b, H, results)[2:] + "".join(stage_digits(*stage) for stage in stages)
 
 
 def given_row(a, n, b, H, survivals):

@@ -26,9 +26,24 @@ def results(dice, sets):
     return tuple(n for _ in range(3 * sets) for n in (dice.between(0, 150), dice.between(0, 2_000), dice.between(0, 3_100), dice.between(-150, 2_849)))
 
 
+def passengers(dice, bears):
+    """What a passenger ship's row has at the three draughts: final stages of which most are below the caps; and moments that are borne in full, or of
+    which some part is not, with an intermediate stage that is below its caps in one of four, and a ro-ro space in one of three."""
+    finals, besides = [], []
+    for _ in range(3):
+        lever = dice.between(45, 250)
+        finals += [lever, dice.between(200, 2_400), dice.between(0, 1_450), dice.between(-150, 2_849)]
+        weight = dice.between(8_000, 12_000)
+        full = (lever - 40) * weight // 1_000
+        moment = dice.between(1, full) if bears else dice.between(full + 1, 4 * full + 1_000)
+        stage = (dice.between(5, 49), dice.between(100, 699)) if dice.one_in(4) else (dice.between(50, 300), dice.between(700, 2_000))
+        besides += [weight, moment, *stage, dice.between(0, 1_500), int(dice.one_in(3))]
+    return tuple(finals + besides)
+
+
 def rows(dice, hull, count, heights, longest, sets=1):
     """So many rows: of each group of up to so many zones as many layers as it takes, each of so many heights. With two sets of results they are of
-    kind 05, with one of kind 02."""
+    kind 05, with one of kind 02; a passenger ship's are of kind 07, and in every other one no moment is borne in full."""
     groups = groups_of(hull, longest)
     layers = -(-count // heights)
     found = []
@@ -37,13 +52,14 @@ def rows(dice, hull, count, heights, longest, sets=1):
         depths = [hull.half * (k + 1) // mine for k in range(mine)]
         for b in depths:
             tall = min(heights, count - len(found))
-            found += [Row(a, n, b, h, results(dice, sets)) for h in [hull.ds + 900 * (k + 1) for k in range(tall - 1)] + [hull.top]]
+            found += [Row(a, n, b, h, passengers(dice, k % 2) if hull.persons else results(dice, sets)) for k, h in enumerate(
+                 [hull.ds + 900 * (k + 1) for k in range(tall - 1)] + [hull.top], len(found))]
     return found
 
 
 def valid_files():
-    """Each name and its bytes: the file that the ratio is of, the same ship with rows of kind 05, others of 500 rows and 20 zones, and two series
-    that grow."""
+    """Each name and its bytes: the file that the ratio is of, the same ship with rows of kind 05, others of 500 rows and 20 zones, two series that
+    grow, and a passenger ship of 4 zones with as many rows as its file may have."""
     for name, count, zones, heights, longest, sets in (
             [("typical", 500, 20, 2, 5, 1), ("second-sets", 500, 20, 2, 5, 2)]
             + [("layers", 500, 20, 1, 20, 1), ("layers-of-few", 500, 20, 1, 2, 1), ("heights", 500, 20, 5, 5, 1)]
@@ -51,6 +67,8 @@ def valid_files():
             + [("zones-%02d" % zones, 500, zones, 2, 5, 1) for zones in ZONES]):
         hull = ship(zones)
         yield name, case_file(hull, rows(Dice(len(name) + count + zones), hull, count, heights, longest, sets))
+    ferry = ship(4)._replace(persons=(900, 300))
+    yield "passengers", case_file(ferry, rows(Dice(428), ferry, 428, 2, 4))
 
 
 def slow_files():

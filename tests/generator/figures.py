@@ -1,5 +1,5 @@
-"""The generator's own reading of the figures: shares, heights, survivals, openings, second sets, marks and the verdict, each rule a method that can be
-broken."""
+"""The generator's own reading of the figures: shares, heights, survivals, openings, second sets, passenger ships' survivals, marks and the verdict, each
+rule a method that can be broken."""
 
 BILLION = 10 ** 9
 FULL_HEIGHT = 916500
@@ -197,6 +197,8 @@ class Figures:
         """Bottom and top in ten-thousandths at draught 0, 1 or 2."""
         if len(row.figures) == 3:
             return row.figures[draught], row.figures[draught]
+        if len(row.figures) == 30:
+            return self.passenger_survival(row, draught)
         return self.rounded(self.counting(row, draught))
 
     def rounded(self, result):
@@ -213,6 +215,60 @@ class Figures:
                 above = middle
         return bottom, bottom + (bottom ** 4 * under < over)
 
+    # a passenger ship's survival, in fractions of two whole numbers
+
+    def stage(self, row, draught):
+        """Displacement, moment, the intermediate stage's lever, range and heel, and the ro-ro mark at draught 0, 1 or 2."""
+        at = 12 + 6 * draught
+        return row.figures[at:at + 6]
+
+    def caps(self, roro):
+        """The caps of the final stage's lever and range."""
+        return (200, 2000) if roro else (120, 1600)
+
+    def passenger_heeled(self, heel):
+        """k of the final stage over 800 squared."""
+        return 640000 if heel <= 700 else 0 if heel >= 1500 else (1500 - heel) ** 2
+
+    def intermediate(self, lever, reach, heel):
+        """s-intermediate to the fourth."""
+        return 0 if heel > 1500 else min(lever, 50) * min(reach, 700), 50 * 700
+
+    def final(self, lever, reach, heel, roro):
+        """s-final to the fourth."""
+        most_lever, most_range = self.caps(roro)
+        return min(lever, most_lever) * min(reach, most_range) * self.passenger_heeled(heel), most_lever * most_range * 640000
+
+    def moved(self, lever, displacement, moment):
+        """s-mom: the lever in millimetres less 40, and no cap on it."""
+        over, under = (lever - 40) * displacement, 1000 * moment
+        return (0, 1) if over < 0 else (1, 1) if over > under else (over, under)
+
+    def lesser(self, one, other):
+        return one if one[0] * other[1] < other[0] * one[1] else other
+
+    def upright(self, row, draught):
+        """s-final times s-mom, to the fourth."""
+        lever, reach, heel, _ = self.result(row, draught)
+        displacement, moment, *_, roro = self.stage(row, draught)
+        (over, under), (turned, whole) = self.final(lever, reach, heel, roro), self.moved(lever, displacement, moment)
+        return over * turned ** 4, under * whole ** 4
+
+    def passenger_fourth(self, row, draught):
+        """s to the fourth: the lesser of the two, nothing where the opening is immersed."""
+        if self.immersed(self.result(row, draught)[3]):
+            return 0, 1
+        return self.lesser(self.intermediate(*self.stage(row, draught)[2:5]), self.upright(row, draught))
+
+    def passenger_survival(self, row, draught):
+        over, under = self.passenger_fourth(row, draught)
+        return self.root(10 ** 16 * over, under)
+
+    def passenger_marked(self, lever, reach, heel, opening, roro):
+        """Yes or no to the final stage's lever, range, heel and opening."""
+        most_lever, most_range = self.caps(roro)
+        return lever < most_lever, reach < most_range, heel > 700, opening < 0
+
     # what holds a survival down
 
     def marked(self, lever, reach, heel, opening):
@@ -227,6 +283,8 @@ class Figures:
         """The byte of a row's marks at draught 0, 1 or 2; a given survival has none."""
         if len(row.figures) == 3:
             return 0
+        if len(row.figures) == 30:
+            return self.added_up(*self.passenger_marked(*self.result(row, draught), self.stage(row, draught)[5]))
         return self.added_up(*self.marked(*self.counting(row, draught)))
 
     def row_marks(self):
@@ -243,8 +301,20 @@ class Figures:
         low, high = (2 * partials[0][end] + 2 * partials[1][end] + partials[2][end] for end in (0, 1))
         return down(low, 5), up(high, 5)
 
+    def persons(self):
+        """N of a passenger ship: those in excess of the lifeboats count twice."""
+        in_lifeboats, in_excess = self.hull.persons
+        return in_lifeboats + 2 * in_excess
+
+    def passenger_required(self):
+        """1 - 5000/(Ls + 2.5N + 15225), the length in centimetres."""
+        under = self.hull.ls + 250 * self.persons() + 1522500
+        return under - 500000, under
+
     def required(self):
         ls = self.hull.ls
+        if self.hull.persons is not None:
+            return self.passenger_required()
         if ls > 10000:
             return ls + 2400, ls + 15200
         return ls * (ls + 2400), ls * (ls + 2400) + 128000000
@@ -252,7 +322,7 @@ class Figures:
     def marks(self):
         """The marks of A and of the three partials as fractions."""
         over, under = self.required()
-        return [(over, under)] + [(over, 2 * under)] * 3
+        return [(over, under)] + [(over, 2 * under) if self.hull.persons is None else (9 * over, 10 * under)] * 3
 
     def verdict(self, ends):
         """The verdict on the ends of A and of the three partials."""

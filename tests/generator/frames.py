@@ -1,16 +1,17 @@
 """Case files written from numbers: hull, rows and end as lines of hexadecimal."""
 
-from typing import NamedTuple, Tuple
+from typing import NamedTuple, Optional, Tuple
 
 
 class Hull(NamedTuple):
-    """A hull: lengths in centimetres, draughts in millimetres, the inner bulkheads from aft."""
+    """A hull: lengths in centimetres, draughts in millimetres, the inner bulkheads from aft; persons in lifeboats and in excess make it kind 06."""
 
     ls: int
     breadth: int
     ds: int
     dl: int
     bulkheads: Tuple[int, ...] = ()
+    persons: Optional[Tuple[int, int]] = None
 
     @property
     def zones(self):
@@ -28,7 +29,8 @@ class Hull(NamedTuple):
 
 class Row(NamedTuple):
     """A row: twelve figures, lever, range, heel and opening at each draught, make it kind 02, twelve more for a second set kind 05, three given
-    survivals kind 03."""
+    survivals kind 03. Kind 07 has eighteen more than kind 02: displacement, moment, an intermediate stage's lever, range and heel, and a ro-ro mark
+    at each draught."""
 
     a: int
     n: int
@@ -50,12 +52,19 @@ def pairs(values):
 def hull_line(hull, zones=None):
     """The hull's line; another zone count than the bulkheads' own may be asked for."""
     count = hull.zones if zones is None else zones
-    return "01" + pairs(hull[:4]) + number(count, 1) + pairs(hull.bulkheads)
+    kind, persons = ("01", ()) if hull.persons is None else ("06", hull.persons)
+    return kind + pairs(hull[:4] + tuple(persons)) + number(count, 1) + pairs(hull.bulkheads)
+
+
+SIZES = (4, 4, 2, 2, 2, 1)  # in bytes, of what a passenger row has at each draught after its results
 
 
 def row_line(row):
-    kind = {12: "02", 3: "03", 24: "05"}[len(row.figures)]
-    return kind + number(row.a, 1) + number(row.n, 1) + pairs((row.b, row.h) + tuple(row.figures))
+    kind = {12: "02", 3: "03", 24: "05", 30: "07"}[len(row.figures)]
+    head = kind + number(row.a, 1) + number(row.n, 1) + pairs((row.b, row.h))
+    if kind != "07":
+        return head + pairs(row.figures)
+    return head + pairs(row.figures[:12]) + "".join(number(figure, size) for figure, size in zip(row.figures[12:], 3 * SIZES))
 
 
 def end_line(count):

@@ -5,6 +5,8 @@ from .shapes import seeded_case
 
 LIMITS = (0, 1, 2, 3, 5, 20, 21, 255, 256, 499, 500, 501, 999, 1000, 1001, 1002, 5000, 5001, 5998, 6000, 6002, 7999, 8000, 9000, 9001,
           10000, 10001, 12499, 12500, 19800, 19801, 30000, 30001, 32767, 32768, 35535, 35536, 60000, 60001, 65534, 65535)
+PASSENGER_LIMITS = LIMITS + (39, 40, 41, 49, 50, 51, 120, 200, 398, 400, 402, 699, 700, 701, 1499, 1501, 1600, 1999, 2000, 2001, 65536, 299999, 300000,
+                             300001, 1999999, 2000000, 2000001, 2 ** 31, 2 ** 32 - 1)
 ALIEN = b"\x00\r \tABCDEFGg/:`@-\x7f\x80\xff\n"
 
 
@@ -68,24 +70,34 @@ def wrong_count(dice, data):
     return joined(lines + [end_line(max(count, 0))])
 
 
+def fields_of(line, is_first):
+    """Where the fields of a line begin, and how many digits each has."""
+    if is_first:
+        persons = [(18, 4), (22, 4)] if line[:2] == "06" else []
+        zones = 18 + 4 * len(persons)
+        return [(2, 4), (6, 4), (10, 4), (14, 4)] + persons + [(zones, 2)] + [(place, 4) for place in range(zones + 2, len(line), 4)]
+    if line[:2] == "0f":
+        return [(2, 4)]
+    head = [(2, 2), (4, 2)]
+    if line[:2] != "07":
+        return head + [(place, 4) for place in range(6, len(line), 4)]
+    stage = ((0, 8), (8, 8), (16, 4), (20, 4), (24, 4), (28, 2))
+    return head + [(place, 4) for place in range(6, 62, 4)] + [(at + place, size) for at in (62, 92, 122) for place, size in stage]
+
+
 def field_changed(dice, data):
     """A whole field of one line set to a limit, or to what it was give or take a little."""
     lines = data.split(b"\n")
     at = 0 if dice.one_in(3) else dice.below(max(len(lines) - 1, 1))
     line = lines[at].decode("latin-1")
-    if at == 0:
-        places = [(2, 4), (6, 4), (10, 4), (14, 4), (18, 2)] + [(place, 4) for place in range(20, len(line), 4)]
-    elif line[:2] == "0f":
-        places = [(2, 4)]
-    else:
-        places = [(2, 2), (4, 2)] + [(place, 4) for place in range(6, len(line), 4)]
+    places, limits = fields_of(line, at == 0), PASSENGER_LIMITS if is_passengers(data) else LIMITS
     start, size = dice.pick(places + [(0, 2)])
     most = 16 ** size
     try:
         was = int(line[start:start + size] or "0", 16)
     except ValueError:
         was = 0
-    value = dice.pick((dice.pick(LIMITS), was + 1, was - 1, was + 5, was - 5, was + dice.between(-300, 300), dice.below(most)))
+    value = dice.pick((dice.pick(limits), was + 1, was - 1, was + 5, was - 5, was + dice.between(-300, 300), dice.below(most)))
     lines[at] = (line[:start] + "%0*x" % (size, value % most) + line[start + size:]).encode("latin-1")
     return b"\n".join(lines)
 
@@ -100,17 +112,34 @@ def set_changed(dice, data):
     return b"\n".join(lines)
 
 
-WAYS = (flip, another_digit, another_digit, alien_byte, cut, twice, line_doubled, line_dropped, lines_swapped,
-        carriage_returns, upper_case, wrong_count) + 2 * (set_changed,) + 8 * (field_changed,)
+def is_passengers(data):
+    return data[:2] == b"06"
+
+
+def type_changed(dice, data):
+    """A line of a passenger file made one of a cargo file, or of another length: its stages gone, or one of them, or its openings; stages swapped."""
+    lines = data.split(b"\n")
+    at = dice.below(len(lines))
+    line = lines[at]
+    cargo = b"01" + line[2:18] + line[26:] if at == 0 else b"02" + line[2:62]
+    lines[at] = dice.pick((cargo, cargo, b"03" + line[2:26], b"05" + line[2:62] + line[14:62], b"05" + line[2:], line[:62], line[:92], line[:122], line[:150],
+                           line + b"00", line[:26] + line[30:42] + line[46:58] + line[62:], line[:62] + line[92:122] + line[62:92] + line[122:]))
+    return b"\n".join(lines)
+
+
+SIMPLE_WAYS = (flip, another_digit, another_digit, alien_byte, cut, twice, line_doubled, line_dropped, lines_swapped,
+               carriage_returns, upper_case, wrong_count)
+WAYS = SIMPLE_WAYS + 2 * (set_changed,) + 8 * (field_changed,)
+PASSENGER_WAYS = SIMPLE_WAYS + 3 * (type_changed,) + 10 * (field_changed,)
 
 
 def damaged(dice, data):
     """One to three damages; the words say which."""
-    names = []
+    names, ways = [], PASSENGER_WAYS if is_passengers(data) else WAYS
     for _ in range(dice.pick((1, 1, 1, 2, 2, 3))):
         if not data:
             break
-        way = dice.pick(WAYS)
+        way = dice.pick(ways)
         data = way(dice, data)
         names.append(way.__name__.replace("_", " "))
     return data, ", ".join(names)
@@ -130,18 +159,19 @@ def short_tops(dice, hull, rows):
 
 
 def seeded_file(dice):
-    """A file of any sort with a word on how it was made: about half of them undamaged."""
-    most = dice.pick((0, 1, 5, 20, 20, 60)) if not dice.one_in(40) else 500
-    hull, rows = seeded_case(dice, most)
+    """A file of any sort with a word on how it was made: about half of them undamaged, a third of a passenger ship."""
+    most, passengers = dice.pick((0, 1, 5, 20, 20, 60)) if not dice.one_in(40) else 500, dice.one_in(3)
+    hull, rows = seeded_case(dice, most, passengers=passengers)
     way = dice.below(8)
     if way < 4:
-        return case_file(hull, rows), "valid, %d zones, %d rows" % (hull.zones, len(rows))
+        return case_file(hull, rows), "valid, %s, %d zones, %d rows" % ("passengers" if passengers else "cargo", hull.zones, len(rows))
     if way == 4:
         return case_file(hull, short_tops(dice, hull, rows)), "a row moved"
     if way == 5:
         lines = lines_of(hull, rows)
+        others = lines_of(*seeded_case(dice, 3, passengers=not passengers)) if dice.one_in(3) else lines
         at = dice.below(len(lines))
-        return joined(lines[:at] + [dice.pick(lines)] + lines[at:]), "a line put in"
+        return joined(lines[:at] + [dice.pick(others)] + lines[at:]), "a line put in"
     if way == 6 and dice.one_in(8):
         data = case_file(hull, rows)
         size = dice.pick((32768, 32769, 65535, 65536, 65537, 80000))

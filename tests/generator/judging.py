@@ -1,6 +1,6 @@
 """The generator's own reading of the refusals: which line, which number, each rule a method that can be broken."""
 
-from .frames import Hull, Row
+from .frames import SIZES, Hull, Row
 
 DIGITS = b"0123456789abcdef"
 
@@ -20,7 +20,7 @@ class Line:
         self.before = rows[-1] if rows else None
         digits = [max(DIGITS.find(byte), 0) for byte in text.lower()]
         self.frame = bytes(16 * high + low for high, low in zip(digits[::2], digits[1::2]))
-        self.is_row = number > 1 and self.frame[:1] in (b"\x02", b"\x03", b"\x05")
+        self.is_row = number > 1 and self.frame[:1] in (b"\x02", b"\x03", b"\x05", b"\x07")
         self.is_end = number > 1 and self.frame[:1] == b"\x0f"
 
     def field(self, at):
@@ -30,11 +30,29 @@ class Line:
         """A field in two's complement."""
         return int.from_bytes(self.frame[at:at + 2], "big", signed=True)
 
+    def persons(self):
+        """The persons of a passenger hull, in lifeboats and in excess; a cargo hull has none."""
+        return (self.field(9), self.field(11)) if self.frame[0] == 6 else None
+
+    def zones_at(self):
+        """Where a hull has its zone count: after dl, or after the persons."""
+        return 13 if self.frame[0] == 6 else 9
+
     def bulkheads(self):
-        return tuple(self.field(at) for at in range(10, len(self.frame), 2))
+        return tuple(self.field(at) for at in range(self.zones_at() + 1, len(self.frame), 2))
+
+    def stages(self):
+        """What a passenger row has at each draught after its results, in turn."""
+        found, at = [], 31
+        for size in 3 * SIZES:
+            found.append(int.from_bytes(self.frame[at:at + size], "big"))
+            at += size
+        return tuple(found)
 
     def figures(self):
         """The numbers after H; each result, of one set of three or of two, has an opening as its fourth."""
+        if self.frame[0] == 7:
+            return tuple(self.opening(at) if at % 8 == 5 else self.field(at) for at in range(7, 31, 2)) + self.stages()
         places = range(7, len(self.frame), 2)
         if len(places) not in (12, 24):
             return tuple(self.field(at) for at in places)
@@ -53,9 +71,14 @@ class Judging:
     most_rows = 500
     order = (10, 2, 3, 4, 5, 6, 7, 8, 9)
     lengths = {2: 31, 3: 13, 5: 55, 15: 3}
+    passenger_lengths = {7: 76, 15: 3}
+    shortest_hulls = {1: 10, 6: 14}
+    least = {False: (8000, 1000), True: (2000, 400)}  # length and breadth, of a cargo ship and of a passenger ship
+    most_persons = (10000, 10000)
     rise = 12500
     row_limits = ((5000, 9000, 9000, 30000), (10000,))
     lowest = -30000  # of an opening, the one figure that can be below zero
+    stage_limits = ((1, 300000), (1, 2000000), (0, 5000), (0, 9000), (0, 9000), (0, 1))
 
     def refusal(self, data):
         """The number and line of a refused file, nothing for an accepted one."""
@@ -109,7 +132,7 @@ class Judging:
             return False
 
     def hull(self, line):
-        return Hull(line.field(1), line.field(3), line.field(5), line.field(7), line.bulkheads())
+        return Hull(line.field(1), line.field(3), line.field(5), line.field(7), line.bulkheads(), line.persons())
 
     def rule_10(self, line):
         return line.ended
@@ -121,21 +144,32 @@ class Judging:
     def rule_3(self, line):
         kind = line.frame[0]
         if line.number == 1:
-            return kind != 1 or len(line.frame) < 10
-        return kind not in self.lengths or len(line.frame) != self.lengths[kind]
+            return kind not in self.shortest_hulls or len(line.frame) < self.shortest_hulls[kind]
+        lengths = self.lengths_after(line.hull)
+        return kind not in lengths or len(line.frame) != lengths[kind]
+
+    def lengths_after(self, hull):
+        """The length of each kind of line that may come after a hull: rows of its ship type, and the end."""
+        return self.lengths if hull.persons is None else self.passenger_lengths
 
     def rule_4(self, line):
         if line.number > 1:
             return False
         ls, breadth, ds, dl = (line.field(at) for at in (1, 3, 5, 7))
-        return (not 8000 <= ls <= 19800 or not 1000 <= breadth <= 6000 or breadth % 2 == 1
-                or not 1000 <= ds <= 30000 or not 500 <= dl <= ds or (ds - dl) % 5 != 0)
+        length, width = self.least[line.frame[0] == 6]
+        return (not length <= ls <= 19800 or not width <= breadth <= 6000 or breadth % 2 == 1
+                or not 1000 <= ds <= 30000 or not 500 <= dl <= ds or (ds - dl) % 5 != 0 or self.crowded(line))
+
+    def crowded(self, line):
+        """Whether a passenger ship has too many persons of a sort."""
+        return line.frame[0] == 6 and any(count > most for count, most in zip(line.persons(), self.most_persons))
 
     def rule_5(self, line):
         if line.number > 1:
             return False
-        zones = line.frame[9] if len(line.frame) > 9 else 0
-        if not 1 <= zones <= 20 or len(line.frame) != 8 + 2 * zones:
+        at = line.zones_at()
+        zones = line.frame[at] if len(line.frame) > at else 0
+        if not 1 <= zones <= 20 or len(line.frame) != at - 1 + 2 * zones:
             return True
         hull = self.hull(line)
         places = (0,) + hull.bulkheads + (hull.ls,)
@@ -150,9 +184,11 @@ class Judging:
         if not line.is_row:
             return False
         row, hull = line.row(), line.hull
-        limits = self.row_limits[0 if len(row.figures) in (12, 24) else 1]
+        limits = self.row_limits[0 if len(row.figures) in (12, 24, 30) else 1]
+        results, stages = (row.figures[:12], row.figures[12:]) if len(row.figures) == 30 else (row.figures, ())
         return (self.group_outside(row, hull) or not 1 <= row.b <= hull.half or not 1 <= row.h <= 60000
-                or any(not self.lowest <= figure <= limits[at % len(limits)] for at, figure in enumerate(row.figures)))
+                or any(not self.lowest <= figure <= limits[at % len(limits)] for at, figure in enumerate(results))
+                or any(not low <= figure <= high for figure, (low, high) in zip(stages, 3 * self.stage_limits)))
 
     def group_outside(self, row, hull):
         return row.a < 1 or row.n < 1 or row.a + row.n - 1 > hull.zones

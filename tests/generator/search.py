@@ -1,5 +1,7 @@
 """The searches whose results stand in found.py: python3 tests/generator --search writes it anew, in about a minute."""
 
+from fractions import Fraction
+from math import gcd, isqrt
 from pprint import pformat
 
 from .dice import Dice
@@ -175,7 +177,53 @@ def near_ties():
     return {pair: results for pair, (_, *results) in sorted(found.items())}
 
 
-SEARCHES = (band_edges, depth_edges, wide_rows, full_ships, marks, near_roots, near_ties)
+def passenger_marks():
+    """For passenger ships by length and persons, ten tenths of the mark or nine, and verdict: rows as in marks()."""
+    found = {}
+    for ls, persons in ((2000, (0, 0)), (2500, (1900, 0)), (9900, (400, 600)), (19800, (10000, 10000))):
+        over, under = Figures(Hull(ls, 2000, 8000, 5000, (), persons), []).required()
+        for tenths in (10, 9):
+            for verdict, wanted in WANTED.items():
+                found[ls, persons, tenths, verdict] = tuned(tenths * over, 10 * under, wanted)
+    return found
+
+
+def near_moments(most=3):
+    """Levers, displacements and moments whose s-mom is next to a whole ten-thousandth, as near as can be with these moments, from above and from below."""
+    found = {"above": [], "below": []}
+    for moment in range(1999999, 1000000, -1234):
+        for lever in (41, 47, 143, 1039, 5000):
+            tens = 10 * (lever - 40)  # times displacement over moment it is s-mom in ten-thousandths
+            if gcd(tens, moment) > 1:
+                continue
+            more = pow(tens, -1, moment)
+            for name, displacement in (("above", more), ("below", moment - more)):
+                if displacement <= 300000 and 1000 < tens * displacement // moment < 9999:
+                    found[name].append((lever, displacement, moment))
+    return {name: sorted(all_found)[::max(len(all_found) // most, 1)][:most] for name, all_found in found.items()}
+
+
+def near_products(most=3, tries=20000, seed=4):
+    """Final stages with displacements and moments whose s-final times s-mom is next to a whole ten-thousandth, the nearest from above and from below,
+    without a ro-ro mark and with one: lever, range, heel, displacement, moment."""
+    dice, figures, found = Dice(seed), plain(12000), {}
+    for at in range(tries):
+        roro = at % 2
+        lever, reach, heel = dice.between(60, dice.pick((200, 5000))), dice.between(100, 2100), dice.pick((0, dice.between(0, 1499)))
+        (over, under), s = figures.final(lever, reach, heel, roro), dice.between(500, 9000)
+        root = isqrt(isqrt(10 ** 120 * over // under))  # s-final to thirty places
+        near = Fraction(s * 10 ** 30, 10 * root * (lever - 40)).limit_denominator(2000000)
+        displacement, moment = near.numerator, near.denominator
+        if not 1 <= displacement <= 300000 or (lever - 40) * displacement >= 1000 * moment:
+            continue
+        apart = over * ((lever - 40) * displacement) ** 4 * 10 ** 16 - under * (1000 * moment * s) ** 4
+        if apart:
+            far = abs(apart) * 10 ** 30 // (under * (1000 * moment * s) ** 4)
+            found.setdefault(("above" if apart > 0 else "below", roro), []).append((far, lever, reach, heel, displacement, moment))
+    return {key: [one[1:] for one in sorted(all_found)[:most]] for key, all_found in sorted(found.items())}
+
+
+SEARCHES = (band_edges, depth_edges, wide_rows, full_ships, marks, near_roots, near_ties, passenger_marks, near_moments, near_products)
 
 
 def write(path):

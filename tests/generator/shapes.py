@@ -64,10 +64,18 @@ def places(dice, hull_length, count):
 def seeded_hull(dice, zones=None):
     ls = dice.pick((8000, 9900, 10000, 10001, 19800)) if dice.one_in(5) else dice.between(8000, 19800)
     breadth = dice.pick((1000, 6000)) if dice.one_in(6) else 2 * dice.between(500, 3000)
+    return with_zones(dice, Hull(ls, breadth, *seeded_draughts(dice)), zones)
+
+
+def seeded_draughts(dice):
     ds = dice.pick((1000, 30000)) if dice.one_in(6) else dice.between(1000, 30000)
-    dl = ds if dice.one_in(6) else ds - 5 * dice.between(0, (ds - 500) // 5)
+    return ds, ds if dice.one_in(6) else ds - 5 * dice.between(0, (ds - 500) // 5)
+
+
+def with_zones(dice, hull, zones):
+    """The hull with so many zones, or as many as it may be."""
     count = zones or dice.pick((1, 2, 2, 3, 3, 4, 5, 6, 8, 12, 20))
-    return Hull(ls, breadth, ds, dl, places(dice, ls, count - 1))
+    return hull._replace(bulkheads=places(dice, hull.ls, count - 1))
 
 
 def seeded_layers(dice, hull, count):
@@ -170,12 +178,12 @@ def seeded_second_sets(dice, rows):
 
 
 def seeded_rows(dice, hull, most):
-    """Closed groups in order, at most so many rows."""
+    """Closed groups in order, at most so many rows, of the hull's ship type."""
     listed = groups_of(hull, dice.pick((1, 2, 3, hull.zones, hull.zones)))
     if dice.one_in(2):
         listed = [one for one in listed if dice.one_in(2)]
     deep, tall = dice.below(4), dice.below(4)
-    figures = dice.pick((mixed_figures, mixed_figures, mild_figures, marked_figures))
+    figures = dice.pick((mixed_figures, mixed_figures, mild_figures, marked_figures) if hull.persons is None else PASSENGER_FIGURES)
     rows = []
     for a, n in listed:
         more = []
@@ -185,9 +193,84 @@ def seeded_rows(dice, hull, most):
         if len(rows) + len(more) > most:
             break
         rows += more
-    return seeded_second_sets(dice, seeded_openings(dice, rows))
+    rows = seeded_openings(dice, rows)
+    return seeded_second_sets(dice, rows) if hull.persons is None else seeded_stages(dice, hull, rows)
 
 
-def seeded_case(dice, most=60, zones=None):
-    hull = seeded_hull(dice, zones)
-    return hull, seeded_rows(dice, hull, most)
+def seeded_case(dice, most=60, zones=None, passengers=False):
+    """A cargo ship or a passenger ship, whose rows are so long that fewer fit into a file."""
+    hull = (seeded_ferry if passengers else seeded_hull)(dice, zones)
+    return hull, seeded_rows(dice, hull, min(most, MOST_PASSENGER_ROWS) if passengers else most)
+
+
+# passenger ships
+
+FERRY = Hull(9000, 1800, 6000, 4500, (2000, 4500, 7000), (400, 600))
+CALM = (300000, 1, 50, 700, 1500, 0)  # a displacement, a moment, an intermediate stage and a ro-ro mark that leave survival to the final stage
+AFLOAT = (5000, 9000, 700, 0)         # a result of the final stage that leaves survival at one, with or without a ro-ro mark
+ABOARD = 3 * AFLOAT + 3 * CALM
+MOST_PASSENGER_ROWS = 427             # of 20 zones, in 65,536 bytes
+
+
+def seeded_ferry(dice, zones=None):
+    """A passenger ship's hull: of any length and breadth, many of them shorter or narrower than a cargo ship can be, and any number of persons."""
+    ls = dice.pick((2000, 2001, 7999, 8000, 19800)) if dice.one_in(5) else dice.between(2000, dice.pick((8000, 19800)))
+    breadth = dice.pick((400, 402, 998, 6000)) if dice.one_in(6) else 2 * dice.between(200, dice.pick((500, 3000)))
+    draughts = seeded_draughts(dice)
+    persons = tuple(dice.pick((0, 1, 9999, 10000)) if dice.one_in(4) else dice.below(10001) for _ in range(2))
+    return with_zones(dice, Hull(ls, breadth, *draughts, persons=persons), zones)
+
+
+def final_figures(dice, hull):
+    """Lever, range and heel of the final stage at three draughts, many of them at a cap or a limit, with a ro-ro mark or without."""
+    return sum((final_result(dice) for _ in range(3)), ())
+
+
+def final_result(dice):
+    lever = dice.pick((0, 1, 39, 40, 41, 119, 120, 121, 199, 200, 201, 5000)) if dice.one_in(3) else dice.between(20, dice.pick((220, 220, 5000)))
+    reach = dice.pick((0, 1, 1599, 1600, 1601, 1999, 2000, 2001, 9000)) if dice.one_in(3) else dice.between(0, 2200)
+    heel = dice.pick((0, 699, 700, 701, 1499, 1500, 1501, 3000, 9000)) if dice.one_in(3) else dice.between(0, 1600)
+    return lever, reach, heel
+
+
+def upright_figures(dice, hull):
+    """Final stages that most passenger ships would be glad of."""
+    return tuple(figure for _ in range(3) for figure in (dice.between(100, 1500), dice.between(1400, 2500), dice.between(0, 800)))
+
+
+def certain_figures(dice, hull):
+    """Final stages that leave survival to the heeling moment and the intermediate stage."""
+    return tuple(figure for _ in range(3) for figure in (dice.between(200, 5000), dice.between(2000, 9000), dice.between(0, 700)))
+
+
+PASSENGER_FIGURES = (final_figures, upright_figures, certain_figures, certain_figures)
+
+
+def seeded_moment(dice, lever, displacement, required, way):
+    """A heeling moment that does not count, one at which s-mom is next to the required index, or any: next to one, a part of one, at a limit."""
+    full = max(lever - 40, 0) * displacement // 1000  # the most at which s-mom is one
+    over, under = required
+    moment = {"none": 1, "required": full * under // over + dice.between(-1, 1)}.get(way)
+    if moment is None:
+        moment = dice.pick((full + dice.between(-1, 2), full * 10000 // dice.between(3000, 9999), dice.pick((1, 1999999, 2000000)), dice.between(1, 2000000)))
+    return min(max(moment, 1), 2000000)
+
+
+def seeded_stage(dice, lever, required, way, rough):
+    """What a row has at one draught beside this lever: one in so many intermediate stages is not calm, all where that is 1, none where it is 0."""
+    displacement = dice.pick((1, 2, 299999, 300000)) if way == "any" and dice.one_in(4) else dice.between(1 if way == "any" else 100000, 300000)
+    between = 50 + dice.below(20), 700 + dice.below(20), dice.pick((0, 700, 1499, 1500))
+    if rough and dice.one_in(rough):
+        between = (dice.pick((0, 1, 49, 50, 51, 5000)) if dice.one_in(2) else dice.between(0, 60),
+                   dice.pick((0, 1, 699, 700, 701, 9000)) if dice.one_in(2) else dice.between(0, 800),
+                   dice.pick((0, 701, 1499, 1500, 1501, 3000, 9000)) if dice.one_in(2) else dice.between(0, 1500))
+    return (displacement, seeded_moment(dice, lever, displacement, required, way)) + between + (dice.below(2),)
+
+
+def seeded_stages(dice, hull, rows):
+    """The rows with their stages: calm ones in some ships, in others one in so many decides; and with heeling moments of one way or another."""
+    rough, way, required = dice.pick((0, 0, 1, 2, 5)), dice.pick(("none", "required", "any")), Figures(hull, []).required()
+
+    def staged(row):
+        return row._replace(figures=row.figures + sum((seeded_stage(dice, row.figures[at], required, way, rough) for at in (0, 4, 8)), ()))
+    return [staged(row) for row in rows]

@@ -33,7 +33,7 @@ GOES_ON = (6, 10)
 
 
 def rows_in(lines):
-    return sum(line[:2] in ("02", "03", "05") for line in lines)
+    return sum(line[:2] in ("02", "03", "05", "07") for line in lines)
 
 
 def both(early, where, before, late, what, after):

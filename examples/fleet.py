@@ -1,10 +1,11 @@
-"""The eight ships of the examples, in metres: each zone by its name and forward end, from aft forward.
+"""The eleven ships of the examples, in metres: each zone by its name and forward end, from aft forward.
 
-The lowest opening stands as low as the load lines let it: an air pipe 0.76 m above the deck, a ventilator 0.9 m."""
+The lowest opening stands as low as the load lines let it: an air pipe 0.76 m above the deck, a ventilator 0.9 m. Of the cruise ship it is the bulkhead deck
+itself, by which people leave."""
 
-from ship import Ship, Zone
+from ship import People, Ship, Zone
 
-CARGO, CONTAINERS, PENS, MACHINERY = 0.7, 0.8, 0.85, 0.85  # permeabilities; peaks and voids have 0.95
+CARGO, CONTAINERS, PENS, VEHICLES, MACHINERY = 0.7, 0.8, 0.85, 0.9, 0.85  # permeabilities; cabins, peaks and voids have 0.95
 
 
 def alongside(width):
@@ -163,4 +164,68 @@ PAPER_CARRIER = Ship(
     ),
 )
 
-FLEET = (COASTER, BULK_CARRIER, CONTAINER_SHIP, HEAVY_LIFT, TIMBER_CARRIER, REEFER, LIVESTOCK_CARRIER, PAPER_CARRIER)
+BULKHEAD_DECK = 9.0
+UNDER_THE_GARAGE = {"decks": (BULKHEAD_DECK,), "garage": BULKHEAD_DECK}
+LOWER_HOLD = {**UNDER_THE_GARAGE, "tanks": (5.04,), "hold": "lower hold", "vehicles": True, "permeability": VEHICLES}
+
+RO_PAX_FERRY = Ship(
+    name="ro-pax-ferry", what="ro-ro passenger ferry, 158.4 m", verdict="fails", heeled="boats", turned=("heeling moments", "ro-ro marks"),
+    shows="A reaches R, and the ship fails all the same: at the deepest draught As is below 0.9 R, for its ro-ro space and for its boats",
+    length=158.4, breadth=25.2, depth=13.8, deepest=6.0, light=5.2, block=0.6, gm=(2.6, 3.4, 3.8), vents=14.56,
+    people=People(in_lifeboats=960, in_excess=120, passengers=1000, side=26.0, boats=4, boat=16.0, davit=15.4),
+    zones=(
+        Zone("steering gear", 10.8, **UNDER_THE_GARAGE),
+        Zone("stores", 21.6, **UNDER_THE_GARAGE),
+        Zone("auxiliary machinery", 33.6, permeability=MACHINERY, **UNDER_THE_GARAGE),
+        Zone("engine room aft", 46.8, permeability=MACHINERY, **UNDER_THE_GARAGE),
+        Zone("engine room forward", 60.0, permeability=MACHINERY, **UNDER_THE_GARAGE),
+        Zone("wing tanks 3", 73.2, **LOWER_HOLD),
+        Zone("wing tanks 2", 86.4, **LOWER_HOLD),
+        Zone("wing tanks 1", 99.6, **LOWER_HOLD),
+        Zone("void 2", 112.8, **UNDER_THE_GARAGE),
+        Zone("void 1", 124.8, **UNDER_THE_GARAGE),
+        Zone("bow thruster", 136.8, **UNDER_THE_GARAGE),
+        Zone("fore peak", 158.4, decks=(BULKHEAD_DECK,)),
+    ),
+)
+
+DAY_BOAT = Ship(
+    name="day-boat", what="day boat without lifeboats, 24.6 m", verdict="fails", heeled="passengers", turned=("heeling moments",),
+    shows="117 tonnes and 120 passengers: all of them on one side hold nearly every survival down, and without that moment it would meet",
+    length=24.6, breadth=6.4, depth=3.2, deepest=1.4, light=1.25, block=0.52, gm=(2.2, 2.3, 2.4), vents=3.96,
+    people=People(in_lifeboats=0, in_excess=124, passengers=120, side=4.8, boats=0, boat=0, davit=0),
+    zones=(
+        Zone("aft peak", 2.4),
+        Zone("steering gear", 5.4),
+        Zone("engine room", 9.0, permeability=MACHINERY),
+        Zone("saloon aft", 12.6),
+        Zone("saloon forward", 16.2),
+        Zone("stores", 19.8),
+        Zone("fore peak", 24.6),
+    ),
+)
+
+INNER_WALLS = {"decks": (8.0,), "walled": True}
+
+CRUISE_SHIP = Ship(
+    name="cruise-ship", what="small cruise ship, 112 m", verdict="meets", heeled="wind",
+    shows="cabin walls hold the water on the damaged side for a while: in some rows it is the intermediate stage that counts",
+    length=112.0, breadth=18.4, depth=9.4, deepest=5.2, light=4.6, block=0.6, gm=(2.0, 2.1, 2.25), vents=8.0,
+    people=People(in_lifeboats=360, in_excess=60, passengers=300, side=23.0, boats=2, boat=12.0, davit=10.6),
+    zones=(
+        Zone("aft peak", 8.0, decks=(8.0,)),
+        Zone("stores", 19.2, **INNER_WALLS),
+        Zone("engine room", 32.0, decks=(8.0,), permeability=MACHINERY),
+        Zone("auxiliary machinery", 43.2, decks=(8.0,), permeability=MACHINERY),
+        Zone("crew cabins", 54.0, **INNER_WALLS),
+        Zone("cabins aft", 65.2, **INNER_WALLS),
+        Zone("cabins forward", 77.2, **INNER_WALLS),
+        Zone("laundry", 88.4, **INNER_WALLS),
+        Zone("bow thruster", 99.2, decks=(8.0,)),
+        Zone("fore peak", 112.0, decks=(8.0,)),
+    ),
+)
+
+FLEET = (
+    COASTER, BULK_CARRIER, CONTAINER_SHIP, HEAVY_LIFT, TIMBER_CARRIER, REEFER, LIVESTOCK_CARRIER, PAPER_CARRIER, RO_PAX_FERRY, DAY_BOAT, CRUISE_SHIP,
+)

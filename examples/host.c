@@ -21,7 +21,7 @@ static const char *const refusals[] = {
     [DAMINDEX_TOO_LONG] = "the input is too long",
     [DAMINDEX_NOT_HEXADECIMAL] = "not a line of hexadecimal digits",
     [DAMINDEX_WRONG_FRAME] = "no frame that may stand here",
-    [DAMINDEX_HULL_LIMITS] = "length, breadth or a draught is outside its limits",
+    [DAMINDEX_HULL_LIMITS] = "length, breadth, a draught or the persons are outside their limits",
     [DAMINDEX_ZONES] = "zone count or bulkheads are wrong",
     [DAMINDEX_ROW_COUNT] = "too many rows, or they are counted wrongly",
     [DAMINDEX_ROW_LIMITS] = "a number of the row is outside its limits",
@@ -51,9 +51,16 @@ static void tell_index(const char *name, const uint64_t ends[2]) {
     printf("%-2s %10" PRIu64 " to %10" PRIu64 " billionths\n", name, ends[0], ends[1]);
 }
 
-/* What holds a survival down. Of a given survival, and of one that is one already, there is nothing to tell. */
-static void tell_marks(uint64_t added_up) {
-    const char *before = ", held down by ";
+/* Whether a file is a passenger ship's: its hull is of kind 06. */
+static int is_of_passengers(const uint8_t *input, size_t length) {
+    return length >= 2 && input[0] == '0' && input[1] == '6';
+}
+
+/* What holds a survival down. Of a given survival, and of one that is one already, there is nothing to tell. A passenger ship's marks are those of the final
+ * stage; what is below one without a mark is so by the intermediate stage or the heeling moment, and which of the two it is the answer does not say. */
+static void tell_marks(uint64_t bottom, uint64_t added_up, int of_passengers) {
+    const char *before = of_passengers ? ", held down in the final stage by " : ", held down by ";
+    if (of_passengers && added_up == 0 && bottom < 10000) printf(", held down by the intermediate stage or the heeling moment");
     for (size_t i = 0; i < sizeof marks / sizeof *marks; i++) {
         if (!(added_up & marks[i].mark)) continue;
         printf("%s%s", before, marks[i].name);
@@ -62,10 +69,10 @@ static void tell_marks(uint64_t added_up) {
 }
 
 /* A row's survival at each draught: bottom, top, and its marks. */
-static void tell_survivals(uint64_t row, const uint64_t numbers[DAMINDEX_ROW_NUMBERS]) {
+static void tell_survivals(uint64_t row, const uint64_t numbers[DAMINDEX_ROW_NUMBERS], int of_passengers) {
     for (size_t at = 0; at < DAMINDEX_ROW_NUMBERS; at += 3) {
         printf("row %3" PRIu64 ": %-7s survival %5" PRIu64 " to %5" PRIu64 " ten-thousandths", row, draughts[at / 3], numbers[at], numbers[at + 1]);
-        tell_marks(numbers[at + 2]);
+        tell_marks(numbers[at], numbers[at + 2], of_passengers);
         printf("\n");
     }
 }
@@ -102,7 +109,7 @@ int main(void) {
     damindex_rows(input, length, rows, DAMINDEX_LONGEST_ROWS);
     for (uint64_t row = 0; row < figures[DAMINDEX_ROWS]; row++) {
         printf("row %3" PRIu64 ": share %10" PRIu64 " to %10" PRIu64 " billionths\n", row + 1, sheet[2 * row], sheet[2 * row + 1]);
-        tell_survivals(row + 1, rows + DAMINDEX_ROW_NUMBERS * row);
+        tell_survivals(row + 1, rows + DAMINDEX_ROW_NUMBERS * row, is_of_passengers(input, length));
     }
     return statuses[figures[DAMINDEX_VERDICT]];
 }

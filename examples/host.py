@@ -13,7 +13,7 @@ import sys
 from pathlib import Path
 
 LIBRARY = Path(__file__).resolve().parent.parent / "target" / "library" / "lib" / "libdamindex.so"
-WRITTEN_FOR = 40000  # version 4.0.0; another one serves where the major number is the same and it is not older
+WRITTEN_FOR = 50000  # version 5.0.0; another one serves where the major number is the same and it is not older
 
 # as include/damindex.h has them
 LONGEST_INPUT, LONGEST_REPORT, LONGEST_SHEET, FIGURES = 65536, 12569, 1000, 12
@@ -31,7 +31,7 @@ REFUSALS = {
     1: "the input is too long",
     2: "not a line of hexadecimal digits",
     3: "no frame that may stand here",
-    4: "length, breadth or a draught is outside its limits",
+    4: "length, breadth, a draught or the persons are outside their limits",
     5: "zone count or bulkheads are wrong",
     6: "too many rows, or they are counted wrongly",
     7: "a number of the row is outside its limits",
@@ -91,13 +91,21 @@ def decimal(count, places=9):
     return "%d.%0*d" % (count // 10 ** places, places, count % 10 ** places)
 
 
-def held_down(marks):
-    """What holds a survival down, in words. Of a given survival, and of one that is one already, there is nothing to tell."""
+def is_of_passengers(data):
+    """Whether a file is a passenger ship's: its hull is of kind 06."""
+    return data.startswith(b"06")
+
+
+def held_down(bottom, marks, of_passengers):
+    """What holds a survival down, in words. Of a given survival, and of one that is one already, there is nothing to tell. A passenger ship's marks are those of
+    the final stage; what is below one without a mark is so by the intermediate stage or the heeling moment, and which of the two it is the answer does not say."""
     names = [name for mark, name in MARKS.items() if marks & mark]
-    return ", held down by " + " and ".join(names) if names else ""
+    if names:
+        return ", held down %sby %s" % ("in the final stage " if of_passengers else "", " and ".join(names))
+    return ", held down by the intermediate stage or the heeling moment" if of_passengers and bottom < 10000 else ""
 
 
-def tell(told, shares, rows):
+def tell(told, shares, rows, of_passengers):
     """The answer in words, and the status that the program ends with."""
     number, line, verdict, _, *ends = told
     if number:
@@ -109,7 +117,7 @@ def tell(told, shares, rows):
     for row, ((lower, upper), three) in enumerate(zip(shares, rows), 1):
         print("row %3d: share %s to %s" % (row, decimal(lower), decimal(upper)))
         for draught, (bottom, top, marks) in zip(DRAUGHTS, three):
-            print("row %3d: %-7s survival %s to %s%s" % (row, draught, decimal(bottom, 4), decimal(top, 4), held_down(marks)))
+            print("row %3d: %-7s survival %s to %s%s" % (row, draught, decimal(bottom, 4), decimal(top, 4), held_down(bottom, marks, of_passengers)))
     return STATUSES[verdict]
 
 
@@ -135,7 +143,7 @@ def main():
         arguments.error(str(fault))
     told, shares = figures(library, data)
     if not chosen.report:
-        return tell(told, shares, survivals(library, data))
+        return tell(told, shares, survivals(library, data), is_of_passengers(data))
     sys.stdout.write(report(library, data))
     return REFUSED if told[0] else STATUSES[told[2]]
 

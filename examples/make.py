@@ -12,12 +12,14 @@ HERE = Path(__file__).resolve().parent
 ROOT = HERE.parent
 sys.path[:0] = [str(HERE), str(ROOT / "tests")]
 
-from fleet import FLEET, PAPER_CARRIER  # noqa: E402
+from fleet import CRUISE_SHIP, DAY_BOAT, FLEET, PAPER_CARRIER, RO_PAX_FERRY  # noqa: E402
 from independent import answer, reading  # noqa: E402
-from independent.regulation import R, group_share, s_fourth  # noqa: E402
-from ship import case_file, exact, groups  # noqa: E402
+from independent.regulation import group_share, marks, row_s_fourth, s_final_fourth, s_fourth, s_intermediate_fourth, s_mom  # noqa: E402
+from heeling import MOMENTS, displacement, greatest, moment  # noqa: E402
+from ship import DRAUGHTS, case_file, exact, groups  # noqa: E402
 
 VERDICTS = {1: "meets", 2: "fails", 3: "unsettled"}
+DRAUGHT_NAMES = ("deepest", "partial", "light")
 PROGRAMS = {"damindex": [str(ROOT / "damindex")], "the independent program": [sys.executable, str(ROOT / "tests" / "independent")]}
 PRINTED = (
     b"0126ac064017700fa00205dc\n"
@@ -33,6 +35,24 @@ MARKS_HEAD = ("| file | rows of results | deepest | partial | light |", "|---|--
 SETS_HEAD = ("| survived worse | deepest | partial | light |", "|---|---|---|---|")
 SETS = {1: "the second set, with the inner bottom whole", -1: "the first set, with everything flooded", 0: "neither"}
 MARKS = slice(-3, None)  # the last bytes of a row's line, at the deepest, the partial and the light draught
+PEOPLE_HEAD = ("| file | persons in lifeboats | in excess | N | R | 0.9 R | As | Ap | Al |", "|---|---|---|---|---|---|---|---|---|")
+MOMENT_HEAD = (
+    "| file | draught | displacement, t | passengers, tm | wind, tm | boats, tm | entered, tm |",
+    "|---|---|---|---|---|---|---|",
+)
+HELD_HEAD = (
+    "| file | draught | one | intermediate stage | final stage | heeling moment | final stage and heeling moment | lost |",
+    "|---|---|---|---|---|---|---|---|",
+)
+ONE, INTERMEDIATE, FINAL, MOMENT, BOTH, LOST = HELD = ("one", "intermediate stage", "final stage", "heeling moment", "final stage and heeling moment", "lost")
+WITHOUT_HEAD = (
+    "| file | as it is | without intermediate stages | without heeling moments | without ro-ro marks |",
+    "|---|---|---|---|---|",
+)
+# the numbers that a passenger ship's row has at a draught beside its result, by their digits, and those that leave something out: an intermediate stage at its
+# caps, the least heeling moment that a file may have, no ro-ro mark
+STAGE = re.compile("(.{8})(.{8})(.{12})(..)")
+LEFT_OUT = {"intermediate stages": r"\g<1>\g<2>003202bc0000\g<4>", "heeling moments": r"\g<1>00000001\g<3>\g<4>", "ro-ro marks": r"\g<1>\g<2>\g<3>00"}
 
 found = lru_cache(maxsize=None)(answer)
 
@@ -65,12 +85,21 @@ def millionths(count):
     return f"0.{count:06d}"
 
 
+def in_millionths(ends):
+    """The ends of an index to six places, the lower cut off and the upper rounded up."""
+    return f"{millionths(ends.lower // 1000)} to {millionths(-(-ends.upper // 1000))}"
+
+
+def attained(data):
+    """The ends of A to six places."""
+    return in_millionths(found(data).ends[0])
+
+
 def table_line(name, what, shows, data):
-    """A line of the table: the ends of A to six places, the lower cut off and the upper rounded up."""
-    told, required = found(data), R(reading(data).hull.L)
-    lower, upper = told.ends[0].lower // 1000, -(-told.ends[0].upper // 1000)
-    return (f"| [{name}]({name}.case) | {what} | {shows} | {told.rows} | {millionths(lower)} to {millionths(upper)} "
-            f"| {millionths(round(required * 10**6))} | {verdict(data)} |")
+    """A line of the table."""
+    hull = reading(data).hull
+    required = marks(hull.L, hull.persons)[0]
+    return f"| [{name}]({name}.case) | {what} | {shows} | {found(data).rows} | {attained(data)} | {millionths(round(required * 10**6))} | {verdict(data)} |"
 
 
 def marks_line(name, data):
@@ -90,6 +119,57 @@ def sets_lines(data):
         yield f"| {what} | {' | '.join(map(str, cells))} |"
 
 
+def people_line(ship):
+    """A line of the fourth table: a passenger ship's persons, what they make of R, and the partial indices."""
+    hull = reading(made(ship)).hull
+    in_lifeboats, in_excess = hull.persons
+    required, partial, *_ = (millionths(round(mark * 10**6)) for mark in marks(hull.L, hull.persons))
+    partials = " | ".join(map(in_millionths, found(made(ship)).ends[1:]))
+    return f"| {ship.name} | {in_lifeboats} | {in_excess} | {in_lifeboats + 2 * in_excess} | {required} | {partial} | {partials} |"
+
+
+def moment_lines(ship):
+    """The lines of the fifth table: a passenger ship's displacement and its three heeling moments, to a tenth, with the one that is entered."""
+    for at, draught in zip(DRAUGHTS, DRAUGHT_NAMES):
+        three = " | ".join(f"{round(of(ship, at) * 10) / 10:.1f}" for of in MOMENTS.values())
+        yield f"| {ship.name} | {draught} | {displacement(ship, at):,} | {three} | {moment(ship, at):,} |"
+
+
+def held_down(row, at):
+    """What holds a passenger ship's survival down at one draught: the intermediate stage where it alone is the lesser; otherwise the final stage, the heeling
+    moment or both; that the ship is lost in the end where lever, range, heel and opening are all 0."""
+    result, stage = row.results[at], row.stages[at]
+    final = s_final_fourth(result, stage.roro) if result.opening >= 0 else 0
+    upright = s_mom(result.lever, stage)
+    if not any(result):
+        return LOST
+    if s_intermediate_fourth(stage) < final * upright**4:
+        return INTERMEDIATE
+    if final == 1:
+        return ONE if upright == 1 else MOMENT
+    return FINAL if upright == 1 else BOTH
+
+
+def held_lines(name, data):
+    """The lines of the sixth table: of how many rows of a passenger ship what holds the survival down, at each draught."""
+    rows = reading(data).rows
+    for at, draught in zip(DRAUGHTS, DRAUGHT_NAMES):
+        counts = Counter(held_down(row, at) for row in rows)
+        yield f"| {name} | {draught} | {' | '.join(str(counts[what]) for what in HELD)} |"
+
+
+def without(data, what):
+    """A passenger ship's file with its intermediate stages, its heeling moments or its ro-ro marks left out."""
+    lines = [line[:62] + STAGE.sub(LEFT_OUT[what], line[62:]) if line.startswith("07") else line for line in data.decode("ascii").splitlines()]
+    return "".join(line + "\n" for line in lines).encode("ascii")
+
+
+def without_line(name, data):
+    """A line of the seventh table: A and the verdict of a passenger ship as it is, and with one thing left out."""
+    files = [data, *(without(data, what) for what in LEFT_OUT)]
+    return f"| {name} | {' | '.join('the same' if file == data and at else f'{attained(file)}, {verdict(file)}' for at, file in enumerate(files))} |"
+
+
 def with_table(text, head, lines):
     """A page with other lines under the head of one of its tables."""
     before, _, rest = text.partition(head[0] + "\n")
@@ -100,12 +180,17 @@ def with_tables(text):
     """README.md with the tables of the examples as they are made now."""
     text = with_table(text, HEAD, [table_line(*case) for case in cases()])
     text = with_table(text, MARKS_HEAD, [marks_line(name, data) for name, _, _, data in cases()])
-    return with_table(text, SETS_HEAD, sets_lines(made(PAPER_CARRIER)))
+    text = with_table(text, SETS_HEAD, sets_lines(made(PAPER_CARRIER)))
+    carriers = [ship for ship in FLEET if ship.people]
+    text = with_table(text, PEOPLE_HEAD, map(people_line, carriers))
+    text = with_table(text, MOMENT_HEAD, [line for ship in carriers for line in moment_lines(ship)])
+    text = with_table(text, HELD_HEAD, [line for ship in carriers for line in held_lines(ship.name, made(ship))])
+    return with_table(text, WITHOUT_HEAD, [without_line(ship.name, made(ship)) for ship in carriers])
 
 
 def survivals(row):
-    """The fourth powers of a row's survival: those of the results, of two at a draught the lower; a given survival here is 0."""
-    return row.given or [min(s_fourth(*result) for result in at) for at in zip(*row.sets)]
+    """The fourth powers of a row's survival: those of its results; a given survival here is 0."""
+    return row.given or [row_s_fourth(row, at) for at in DRAUGHTS]
 
 
 def rising(case):
@@ -154,7 +239,7 @@ def of_one_set(data, place):
 
 def ship_faults():
     """For each ship: its verdict, its list of groups, and that no longer damage is survived better; what a millimetre of GM does, how much higher its
-    vents must be, and what either set of results does alone."""
+    vents must be, and what either set of results does alone; of a passenger ship which heeling moment is the greatest, and what turns its verdict."""
     for ship in FLEET:
         case = reading(made(ship))
         yield None if verdict(made(ship)) == ship.verdict else f"{ship.name}: the verdict is not {ship.verdict}"
@@ -169,13 +254,43 @@ def ship_faults():
         if ship.alone is not None:
             told = [verdict(of_one_set(made(ship), place)) for place in (0, 1)]
             yield None if told == [ship.alone, ship.alone] else f"{ship.name}: the first and the second set alone give {told}"
+        if ship.people:
+            told = [greatest(ship, at) for at in DRAUGHTS]
+            yield None if told == 3 * [ship.heeled] else f"{ship.name}: the greatest heeling moments are those of {told}"
+            told = tuple(what for what in LEFT_OUT if verdict(without(made(ship), what)) != ship.verdict)
+            yield None if told == ship.turned else f"{ship.name}: its verdict is turned without {told}"
+
+
+def counted():
+    """What README.md counts of the passenger ships beside its tables, in its own words."""
+    rows = reading(made(RO_PAX_FERRY)).rows
+    marked = [row for row in rows if all(stage.roro for stage in row.stages)]
+    yield f"has {len(rows)} rows, and {len(marked)} of them have the ro-ro mark, at all three draughts"
+    yield f"The other {sum(not any(stage.roro for stage in row.stages) for row in rows)} go by 120 mm and 16 degrees."
+
+    rows, told = reading(made(DAY_BOAT)).rows, found(made(DAY_BOAT)).survivals
+    silent = [three for three in told if all(not any(one.marks) and one.ends.lower < 10_000 for one in three)]
+    yield f"Of its {len(rows)} rows {len(silent)} have no mark at any draught, and a survival below one at each."
+    lever, stage = rows[4].results[0].lever, rows[4].stages[0]
+    yield (f"In row 5 the lever is {lever} mm at the deepest draught, nearly twice what s-final asks for, and {DAY_BOAT.people.passengers} passengers on one side of "
+           f"{stage.displacement} tonnes leave s-mom at ({lever} - 40) · {stage.displacement} / {1000 * stage.moment:,} = {float(s_mom(lever, stage)):.4f}.")
+
+    row, told = reading(made(CRUISE_SHIP)).rows[44], found(made(CRUISE_SHIP)).survivals[44]
+    heels = [f"{stage.heel / 100:.2f}" for stage in row.stages]
+    bottom, top = told[1].ends
+    yield f"has inner walls in {('no', 'one', 'two', 'three', 'four', 'five')[sum(zone.walled for zone in CRUISE_SHIP.zones)]} zones"
+    yield f"In row 45 the heel on the way is {heels[0]}, {heels[1]} and {heels[2]} degrees at the three draughts"
+    yield f"a lever of {row.stages[1].lever} mm is left of the 50, and it is {bottom / 10_000:.4f} to {top / 10_000:.4f}, with {'a' if any(told[1].marks) else 'no'} mark"
+    yield f"the survival is {told[0].ends.upper}; at the partial"
 
 
 def page_faults():
-    """The tables of README.md, and files that nothing makes."""
+    """The tables of README.md, what it counts beside them, and files that nothing makes."""
     page = HERE / "README.md"
     text = page.read_text(encoding="utf-8")
     yield None if text == with_tables(text) else "the tables of README.md are not what is made"
+    for words in counted():
+        yield None if words in " ".join(text.split()) else f"README.md does not say: {words}"
     names = {name for name, *_ in cases()}
     for path in sorted([*HERE.glob("*.case"), *HERE.glob("*.answer")]):
         yield None if path.stem in names else f"{path.name} is made by nothing"

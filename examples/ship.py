@@ -1,9 +1,10 @@
-"""A ship in metres, and the lines of its case file: hull, zones, side tanks, decks, and a row for each damage."""
+"""A ship in metres, and the lines of its case file: hull, zones, side tanks, decks, persons, and a row for each damage."""
 
 from fractions import Fraction
 from typing import NamedTuple, Optional, Tuple
 
-from flooding import exact, has_lesser_extent, results
+from flooding import exact, has_lesser_extent, intermediate, involves_ro_ro, results
+from heeling import displacement, moment
 
 LONGEST_DAMAGE = Fraction(10, 33)  # of the ship's length
 ABOVE_THE_WATER = 12.5             # metres above the deepest draught that close a layer
@@ -20,6 +21,21 @@ class Zone(NamedTuple):
     permeability: float = 0.95
     hold: Optional[str] = None       # zones along one and the same hold name it alike
     bottom: float = 0                # its inner bottom, in metres above the keel; 0 where it has none
+    garage: float = 0                # the bulkhead deck under the ro-ro space above it, in metres above the keel; 0 where there is none
+    vehicles: bool = False           # whether its hold is a ro-ro space
+    walled: bool = False             # whether walls that are not watertight hold the water on the damaged side for a while
+
+
+class People(NamedTuple):
+    """Whom a passenger ship carries, and what heels it after the damage but the water."""
+
+    in_lifeboats: int                # persons for whom there are lifeboats
+    in_excess: int                   # persons beyond these
+    passengers: int                  # of all persons
+    side: float                      # the wind's: height above the keel of a rectangle of the ship's length with the same area
+    boats: int                       # survival craft that are launched by davits on one side
+    boat: float                      # what one of them weighs with everybody in it, in tonnes
+    davit: float                     # how far from the centre line it hangs
 
 
 class Ship(NamedTuple):
@@ -41,6 +57,9 @@ class Ship(NamedTuple):
     adjacent: int = 20               # groups of more zones than that are left out
     raised: Optional[float] = None   # where it fails for its vents: how much higher they must be, in tenths of a metre
     alone: Optional[str] = None      # where it has a second set of results: the verdict by either set alone
+    people: Optional[People] = None  # of a passenger ship
+    heeled: Optional[str] = None     # of a passenger ship: whose heeling moment is the greatest, that of the passengers, the wind or the boats
+    turned: Tuple[str, ...] = ()     # of a passenger ship: what turns its verdict where it is left out
 
     @property
     def draughts(self):
@@ -89,20 +108,37 @@ def row_line(head, *sets):
     return {1: "02", 2: "05"}[len(sets)] + head + "".join(map(digits, numbers))
 
 
+def passenger_line(ship, head, found, on_the_way, is_ro_ro):
+    """A passenger ship's row: three results, and at each draught displacement, heeling moment, the intermediate stage and the ro-ro mark; zeros where the
+    ship is lost."""
+    numbers = [number for result in found for number in (result or (0, 0, 0, 0))]
+    stages = [digits(displacement(ship, at), 4) + digits(moment(ship, at), 4) + "".join(map(digits, stage or (0, 0, 0))) + digits(is_ro_ro, 1)
+              for at, stage in zip(DRAUGHTS, on_the_way)]
+    return "07" + head + "".join(map(digits, numbers)) + "".join(stages)
+
+
+def damage_line(ship, a, n, b, h):
+    """The row of damage to group (a, n), b deep and h high."""
+    head = digits(a, 1) + digits(n, 1) + digits(whole(b, 100)) + digits(whole(h, 1000))
+    found = [results(ship, a, n, b, h, at) for at in DRAUGHTS]
+    if ship.people:
+        return passenger_line(ship, head, found, [intermediate(ship, a, n, b, h, at) for at in DRAUGHTS], involves_ro_ro(ship, a, n, b, h))
+    if has_lesser_extent(ship, a, n, b, h):
+        return row_line(head, found, [results(ship, a, n, b, h, at, is_lesser=True) for at in DRAUGHTS])
+    return row_line(head, found)
+
+
 def group_rows(ship, a, n):
     """The rows of one group: layer by layer inwards, in each layer height by height upwards."""
     zones = ship.zones[a - 1:a - 1 + n]
-    for b in layers(ship, zones):
-        for h in heights(ship, zones):
-            head = digits(a, 1) + digits(n, 1) + digits(whole(b, 100)) + digits(whole(h, 1000))
-            extents = (False, True) if has_lesser_extent(ship, a, n, b, h) else (False,)
-            yield row_line(head, *([results(ship, a, n, b, h, at, is_lesser) for at in DRAUGHTS] for is_lesser in extents))
+    return [damage_line(ship, a, n, b, h) for b in layers(ship, zones) for h in heights(ship, zones)]
 
 
 def hull_line(ship):
     sizes = whole(ship.length, 100), whole(ship.breadth, 100), whole(ship.deepest, 1000), whole(ship.light, 1000)
     bulkheads = [whole(zone.forward, 100) for zone in ship.zones[:-1]]
-    return "01" + "".join(map(digits, sizes)) + digits(len(ship.zones), 1) + "".join(map(digits, bulkheads))
+    kind, persons = ("06", (ship.people.in_lifeboats, ship.people.in_excess)) if ship.people else ("01", ())
+    return kind + "".join(map(digits, (*sizes, *persons))) + digits(len(ship.zones), 1) + "".join(map(digits, bulkheads))
 
 
 def case_file(ship):

@@ -1,5 +1,8 @@
 /* The damage subdivision index for programs in C, and in every language that calls C: four functions of the library damindex.
  *
+ * What they take is a case file of a cargo ship (a hull of kind 01, rows of kinds 02, 03 and 05) or of a passenger ship (a hull of kind 06, rows of kind 07); the
+ * file itself says which, and what comes back has the same shape for both.
+ *
  *     ./library                                               proves the library and makes its package in target/library (x86-64 Linux)
  *     cc program.c $(pkg-config --cflags --libs damindex)     links with the shared object
  *     cc program.c -I target/library/include target/library/lib/libdamindex.a     or with the archive
@@ -35,14 +38,14 @@ extern "C" {
 
 /* The version of this header. The library tells its own by damindex_version. Major: something that a program relies on has changed. Minor:
  * something was added. Patch: neither. A program runs with a library of its own major version that is not older. */
-#define DAMINDEX_VERSION_MAJOR 4
+#define DAMINDEX_VERSION_MAJOR 5
 #define DAMINDEX_VERSION_MINOR 0
 #define DAMINDEX_VERSION_PATCH 0
 #define DAMINDEX_VERSION (10000 * DAMINDEX_VERSION_MAJOR + 100 * DAMINDEX_VERSION_MINOR + DAMINDEX_VERSION_PATCH)
-#define DAMINDEX_VERSION_STRING "4.0.0"
+#define DAMINDEX_VERSION_STRING "5.0.0"
 
 /* Sizes that serve every input (proved). A longer input than the longest is refused for its length, whatever it holds: to read one byte more
- * than that is enough to tell. */
+ * than that is enough to tell. A passenger ship's file of that length has 428 rows at most, and 427 from six zones on. */
 enum {
     DAMINDEX_LONGEST_INPUT = 65536,  /* bytes */
     DAMINDEX_LONGEST_REPORT = 12569, /* bytes: 500 rows */
@@ -68,9 +71,9 @@ enum {
     DAMINDEX_AL_UPPER
 };
 
-/* Verdicts. A mark here is R or R/2, which an index is held against; those of a survival are below. */
+/* Verdicts. A mark here is R or its part, which an index is held against; those of a survival are below. */
 enum {
-    DAMINDEX_MEETS = 1,    /* every lower end reaches its mark: A the required index R, each partial index half of R */
+    DAMINDEX_MEETS = 1,    /* every lower end reaches its mark: A the required index R, each partial index half of R, of a passenger ship 0.9 of R */
     DAMINDEX_FAILS = 2,    /* some upper end is below its mark */
     DAMINDEX_UNSETTLED = 3 /* neither: some mark lies between the ends */
 };
@@ -78,11 +81,14 @@ enum {
 /* The marks of a survival, added up: what holds it down. A survival that was found from lever, range, heel and opening is 1 just where it has no
  * mark; a given survival never has a mark, whatever it is. Each mark is told of its own number, whatever the others are. Where a row has two
  * results at a draught (kind 05: that of the whole damage, and one of damage of lesser extent), the one that is survived worse counts, survival
- * and marks alike; where both are survived alike, the marks are those of the first. */
+ * and marks alike; where both are survived alike, the marks are those of the first.
+ *
+ * A passenger ship's survival (kind 07) is the lesser of s-intermediate and of s-final times s-mom, and its marks are those of the final stage. It is 1 just where
+ * it has no mark and both s-intermediate and s-mom are 1: a survival below 1 with no mark is held down by the intermediate stage or by the heeling moment. */
 enum {
-    DAMINDEX_LOW_LEVER = 1,       /* the lever is below its cap of 120 mm */
-    DAMINDEX_LOW_RANGE = 2,       /* the range is below its cap of 16 degrees */
-    DAMINDEX_HIGH_HEEL = 4,       /* the heel is above 25 degrees */
+    DAMINDEX_LOW_LEVER = 1,       /* the lever is below its cap: 120 mm, of a passenger ship 200 mm with the ro-ro mark */
+    DAMINDEX_LOW_RANGE = 2,       /* the range is below its cap: 16 degrees, of a passenger ship 20 degrees with the ro-ro mark */
+    DAMINDEX_HIGH_HEEL = 4,       /* the heel is above its limit: 25 degrees, of a passenger ship 7 degrees */
     DAMINDEX_IMMERSED_OPENING = 8 /* the critical opening is below the final waterline: the survival is 0 */
 };
 
@@ -90,11 +96,12 @@ enum {
 enum {
     DAMINDEX_TOO_LONG = 1,        /* more than 65,536 bytes; line 0 */
     DAMINDEX_NOT_HEXADECIMAL = 2, /* an empty line, an odd number of digits, a byte that is no digit, or no closing line feed */
-    DAMINDEX_WRONG_FRAME = 3,     /* a frame of another kind or length than may stand there: rows have 31 bytes (kind 02), 13 (03) or 55 (05) */
-    DAMINDEX_HULL_LIMITS = 4,     /* length, breadth or a draught outside its limits; line 1 */
+    DAMINDEX_WRONG_FRAME = 3,     /* a frame of another kind or length than may stand there: a cargo ship's rows have 31 bytes (kind 02), 13 (03) or 55 (05), a
+                                     passenger ship's 76 (07), and neither may have a row of the other's; a hull has 10 bytes at least (01) or 14 (06) */
+    DAMINDEX_HULL_LIMITS = 4,     /* length, breadth, a draught or the persons outside their limits, which go by the kind of the hull; line 1 */
     DAMINDEX_ZONES = 5,           /* the zone count, the hull frame's length or the bulkheads; line 1 */
     DAMINDEX_ROW_COUNT = 6,       /* a 501st row, or an end frame that counts other rows than there were */
-    DAMINDEX_ROW_LIMITS = 7,      /* a number of a row outside its limits, be it of the first or of the second set of results */
+    DAMINDEX_ROW_LIMITS = 7,      /* a number of a row outside its limits: of the first or the second set of results, or of what a passenger ship's row has besides */
     DAMINDEX_ROW_ORDER = 8,       /* a row that does not come after the row before it */
     DAMINDEX_NOT_CLOSED = 9,      /* a layer or group that ends before its top or before half the breadth */
     DAMINDEX_END_FRAME = 10,      /* a line after the end frame; or no end frame, at the line after the last */
@@ -127,8 +134,9 @@ size_t damindex_figures(const uint8_t *input, size_t input_length, uint64_t *she
  * Takes a case file in `input`, and room for nine numbers a row in `rows`. Where the file is accepted it writes them to the front of `rows`, in
  * the order of the rows: at the deepest draught bottom, top and the marks added up, then the same three at the partial draught, then at the
  * light draught. Bottom and top are ten-thousandths: the exact survival is not below the bottom and not above the top, and a given survival is
- * both. A row of kind 05 has nine numbers too, at each draught those of the result that counts; which of its two that is, is not told. Returns how
- * many numbers that is: DAMINDEX_ROW_NUMBERS times the rows, at most DAMINDEX_LONGEST_ROWS, and 0 for a file with no rows.
+ * both. A row of kind 05 has nine numbers too, at each draught those of the result that counts; which of its two that is, is not told. A bottom of
+ * 10000 says that the survival is 1; a top of 10000 does not say so of a passenger ship's, which may lie between 0.9999 and 1. Returns how many numbers
+ * that is: DAMINDEX_ROW_NUMBERS times the rows, at most DAMINDEX_LONGEST_ROWS, and 0 for a file with no rows.
  *
  * Where the file is refused, or `rows` is too short for all of its numbers, it returns 0 and writes nothing. No sheet is lent, so that refusal 11
  * does not occur here. Which refusal it is, damindex_figures tells. */

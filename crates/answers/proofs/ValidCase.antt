@@ -31,9 +31,9 @@ fits-hulled h e f =
     let s = sizes-are h e in
     let z = zones-are h f in
     record {
-      long = s .long;
+      long = omega (arith, s .long);
       short = s .short;
-      broad = s .broad;
+      broad = omega (arith, s .broad);
       narrow = s .narrow;
       some = z .some;
       few = z .most;

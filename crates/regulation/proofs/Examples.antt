@@ -16,7 +16,7 @@ use Rattle.solas.specs.Index.{dp, attained, R}
 use Rattle.solas.proofs.Values.{printed, short}
 use Rattle.regulation.specs.Regulation.{IsRoot, Jmax, Jkn, pk, lmax, L*, b0, Jm, under√, Jk, b11, b12, b21, b22, J, Jn, p1, p2, p1or2, p, Jb, C, G1, J0, G2, G, r, pr, pi}
 use Rattle.regulation.specs.RegulationIndex as regulation
-use Rattle.regulation.specs.RegulationIndex.{millimetres, centimetres, hundredths, Opening, Numbers, Final, Taken, none, at, uppermost, vOf, held, vm}
+use Rattle.regulation.specs.RegulationIndex.{millimetres, centimetres, hundredths, cargo, Opening, Numbers, Final, Taken, none, at, uppermost, vOf, held, vm}
 
 -- a second layer, from 1.6 m to the half breadth; a first one of two zones; a second one of three zones, of which two are short
 pub rows : (rowShare printed 1 1 160 800 ≈ 45035669 over 585937500) × (pi printed (whole 1) 160 800 1 1 ≈ 45035669 over 585937500)
@@ -81,7 +81,7 @@ fractions = record {
 
 -- three of document 01's proved values, from the regulation's own formula, one for each case of K: 1/2 upright, 1/10 at a heel of 29.95 degrees, and
 -- 0 at 30 degrees
-pub half-survives : Final fractions (millimetres 30) (hundredths 400) (hundredths 0) (1 over 2)
+pub half-survives : Final fractions cargo (millimetres 30) (hundredths 400) (hundredths 0) (1 over 2)
 unfolding lesser _≼?_ _⊝_ _⊛_ _⊘_ _less_over_
 half-survives = record {
   K = whole 1;
@@ -93,7 +93,7 @@ half-survives = record {
   product = record { cross = refl };
 }
 
-pub tenth-survives : Final fractions (millimetres 120) (hundredths 1600) (hundredths 2995) (1 over 10)
+pub tenth-survives : Final fractions cargo (millimetres 120) (hundredths 1600) (hundredths 2995) (1 over 10)
 unfolding lesser _≼?_ _⊝_ _⊛_ _⊘_ _less_over_
 tenth-survives = record {
   K = 1 over 10;
@@ -105,7 +105,7 @@ tenth-survives = record {
   product = record { cross = refl };
 }
 
-pub none-survives : Final fractions (millimetres 30) (hundredths 400) (hundredths 3000) (whole 0)
+pub none-survives : Final fractions cargo (millimetres 30) (hundredths 400) (hundredths 3000) (whole 0)
 unfolding lesser _≼?_ _⊝_ _⊛_ _⊘_ _less_over_
 none-survives = record {
   K = whole 0;

@@ -27,10 +27,10 @@ inOrder = record {
 }
 
 -- both with an air pipe just at the final waterline, which is not immersed yet
-abbrev airPipe : Opening
+abbrev pub airPipe : Opening
 airPipe = record { edge = whole 8; waterline = whole 8 }
 
-pipe-critical : Critical (airPipe ∷ []) (pos 0)
+pub pipe-critical : Critical (airPipe ∷ []) (pos 0)
 unfolding _⊝_ _less_over_
 pipe-critical = record {
   one = airPipe;
@@ -39,7 +39,7 @@ pipe-critical = record {
   lowest = λ x m. rw (List·Memᴰ·eq-of-singleton m) (≼-of-≈ (≈-refl (whole 8 ⊝ whole 8)));
 }
 
-pipe-dry : (x : Opening) → List·Memᴰ x (airPipe ∷ []) → x .edge ≺ x .waterline → ⊥
+pub pipe-dry : (x : Opening) → List·Memᴰ x (airPipe ∷ []) → x .edge ≺ x .waterline → ⊥
 unfolding _less_over_
 pipe-dry x m l = let h = rw (List·Memᴰ·eq-of-singleton m) at l in omega (arith, h .cross)
 
@@ -50,18 +50,18 @@ half = record { openings = airPipe ∷ []; critical = pipe-critical; taken = rec
 pub tenth : FactorOf fractions 120 1600 2995 (pos 0) (1 over 10)
 tenth = record { openings = airPipe ∷ []; critical = pipe-critical; taken = record { immersed = λ x m l. absurd (pipe-dry x m l); dry = λ d. tenth-survives } }
 
--- what holds of both holds of each among them
-of-both : (P : Fraction → Type 0) → P (1 over 2) → P (1 over 10) → (x : Fraction) → List·Memᴰ x ((1 over 2) ∷ (1 over 10) ∷ []) → P x
-of-both P p q x m = ⊎-elim (λ e. rw e p) (λ n. let e : x ≡ (1 over 10) = List·Memᴰ·eq-of-singleton n in rw e q) (List·Memᴰ·cases-cons m)
+-- what holds of two holds of each among them
+pub of-two : (P : Fraction → Type 0) {a b : Fraction} → P a → P b → (x : Fraction) → List·Memᴰ x (a ∷ b ∷ []) → P x
+of-two P {a} {b} p q x m = ⊎-elim (λ e. rw e p) (λ n. let e : x ≡ b = List·Memᴰ·eq-of-singleton n in rw e q) (List·Memᴰ·cases-cons m)
 
 pub tenth-least : Least fractions inOrder ((1 over 2) ∷ (1 over 10) ∷ []) (1 over 10)
 unfolding _less_over_
 tenth-least = record {
-  not-negative = of-both (λ x. whole 0 ≼ x) (record { cross = leb→le _ _ tt }) (record { cross = leb→le _ _ tt });
+  not-negative = of-two (λ x. whole 0 ≼ x) (record { cross = leb→le _ _ tt }) (record { cross = leb→le _ _ tt });
   one = 1 over 10;
   among = List·Memᴰ·tail (List·Memᴰ·head refl);
   that = ≈-refl (1 over 10);
-  least = of-both (λ x. 1 over 10 ≼ x) (record { cross = leb→le _ _ tt }) (record { cross = leb→le _ _ tt });
+  least = of-two (λ x. 1 over 10 ≼ x) (record { cross = leb→le _ _ tt }) (record { cross = leb→le _ _ tt });
 }
 
 -- so the lesser s⁴ is a ten-thousandth, by the theorem and by document 01's figures

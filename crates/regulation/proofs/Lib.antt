@@ -10,6 +10,8 @@ pub mod RegulationSurvival
 pub mod RegulationLeast
 pub mod Examples
 pub mod LeastExamples
+pub mod PassengerExamples
+pub mod RegulationPassengers
 pub mod SumExamples
 pub mod RegulationSums
 pub mod PlainSums

@@ -79,7 +79,7 @@ uppermost-parts H d = record {
 }
 
 -- ---- 2.7.7.1
-is-held : {f : Fraction} {a b d : ℕ} → 0 < d → Is f a b d → Is (held f) (min (a - b) d) 0 d
+pub is-held : {f : Fraction} {a b d : ℕ} → 0 < d → Is f a b d → Is (held f) (min (a - b) d) 0 d
 unfolding held
 is-held {f} {a} {b} {d} p h =
     split a b (λ l. rw (test-passes (below p h (is-nothing p) (omega arith))) (is-shifted _ 0 (omega arith) (is-nothing p)))

@@ -9,7 +9,7 @@ use Rattle.laws.proofs.FractionCompare.{≈-of-both}
 use Rattle.laws.proofs.FractionOrder.{ordered, lesser-first, lesser-second}
 use Rattle.regulation.specs.RegulationIndex.{Numbers, square, fourth, Order, Least}
 use Rattle.regulation.specs.OfSolasIndex.{LeastIs01's}
-use Rattle.regulation.proofs.RegulationSurvival.{square-same, survival-is-01's}
+use Rattle.regulation.proofs.RegulationSurvival.{fourth-same, survival-is-01's}
 
 -- of two fractions the second is the lesser where it is not above the first
 second-lesser : {f g : Fraction} → g ≼ f → g ≈ lesser f g
@@ -37,9 +37,6 @@ module _ (N : Numbers) (O : Order N) where
   pub fourth-below : {a b : Number} → NotNegative a → a ⊑ b → fourth N a ⊑ fourth N b
   fourth-below p l = square-below (product-not-negative p p) (square-below p l)
 
-  pub fourth-same : {a b : Number} → a ≐ b → fourth N a ≐ fourth N b
-  fourth-same p = square-same N (square-same N p)
-
   -- ---- the least of two, by their fourth powers
   module _ {f g : Fraction} {s₁ s₂ s : Number} (p : fourth N s₁ ≐ fraction f) (q : fourth N s₂ ≐ fraction g) (h : Least N O (s₁ ∷ s₂ ∷ []) s) where
     not-negative : NotNegative s
@@ -51,18 +48,18 @@ module _ (N : Numbers) (O : Order N) where
     below-second : fourth N s ⊑ fraction g
     below-second = below-trans (fourth-below not-negative (h .least s₂ (List·Memᴰ·tail (List·Memᴰ·head refl)))) (below-same q)
 
-    least-fourth : fourth N s ≐ fraction (lesser f g)
+    pub least-fourth : fourth N s ≐ fraction (lesser f g)
     least-fourth = ⊎-elim first (λ m. ⊎-elim second (λ n. absurd (List·Memᴰ·not-nil n)) (List·Memᴰ·cases-cons m)) (List·Memᴰ·cases-cons (h .among))
       where
         first : h .one ≡ s₁ → fourth N s ≐ fraction (lesser f g)
         first e =
-            let is : fourth N s ≐ fraction f = same-trans (fourth-same (rw e at (h .that))) p in
+            let is : fourth N s ≐ fraction f = same-trans (fourth-same N (rw e at (h .that))) p in
             let l : f ≼ g = below-fraction .0 (below-trans (below-same (same-sym is)) below-second) in
             rw (lesser-first l) is
 
         second : h .one ≡ s₂ → fourth N s ≐ fraction (lesser f g)
         second e =
-            let is : fourth N s ≐ fraction g = same-trans (fourth-same (rw e at (h .that))) q in
+            let is : fourth N s ≐ fraction g = same-trans (fourth-same N (rw e at (h .that))) q in
             let l : g ≼ f = below-fraction .0 (below-trans (below-same (same-sym is)) below-first) in
             same-trans is (same-fraction (second-lesser l))
 

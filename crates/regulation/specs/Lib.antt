@@ -3,5 +3,7 @@ pub mod Regulation
 pub mod OfSolas
 pub mod RegulationIndex
 pub mod OfSolasIndex
+pub mod RegulationPassengers
+pub mod OfSolasPassengers
 pub mod RegulationSums
 pub mod OfSolasSums

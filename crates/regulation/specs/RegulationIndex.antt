@@ -1,4 +1,4 @@
--- What the regulation itself says of s, s-min, v, A, dp and R, in its own letters, in metres and degrees: document 002, 2.4.1, 2.5, 2.7.3, 2.7.6.2.1 and 2.7.7,
+-- What the regulation itself says of s, s-min, v, A, dp and R, in its own letters, in metres and degrees: document 002, 2.4.1, 2.5, 2.7.3, 2.7.6.2 and 2.7.7,
 -- and document 003, 4.1 and section 10. Assumes nothing.
 use Prim.Native.Nat.{ℕ, suc}
 use mathlib.Core.Bool.{cond}
@@ -67,22 +67,22 @@ held f = cond (f ≼? whole 0) (whole 0) (cond (f ≼? whole 1) f (whole 1))
 unfoldable pub vm : Boundary → Boundary → Fraction → Fraction
 vm before m d = held (vOf m d ⊝ vOf before d)
 
--- ---- 002, 2.7.3, cargo ships with no cross-flooding, whose other two factors are unity (2.7.2, 2.7.4)
-abbrev pub θmin : Fraction
-θmin = whole 25
+-- ---- 002, 2.7.3
 
-abbrev pub θmax : Fraction
-θmax = whole 30
+-- what differs there by the type of ship and by the damage
+pub record Limits : Type 0 where
+  pub θmin : Fraction
+  pub θmax : Fraction
+  pub TGZmax : Fraction
+  pub TRange : Fraction
 
-abbrev pub TGZmax : Fraction
-TGZmax = 12 over 100
+-- cargo ships; with no cross-flooding their other two factors are unity (2.7.2, 2.7.4)
+abbrev pub cargo : Limits
+cargo = record { θmin = whole 25; θmax = whole 30; TGZmax = 12 over 100; TRange = whole 16 }
 
-abbrev pub TRange : Fraction
-TRange = whole 16
-
--- what stands under the fourth root: GZmax not to be taken as more than TGZmax, Range not as more than TRange
-abbrev pub underRoot : Fraction → Fraction → Fraction
-underRoot GZmax Range = (lesser GZmax TGZmax ⊘ TGZmax) ⊛ (lesser Range TRange ⊘ TRange)
+-- what stands under a fourth root: GZmax not to be taken as more than TGZmax, Range not as more than TRange
+abbrev pub underRoot : Fraction → Fraction → Fraction → Fraction → Fraction
+underRoot TGZmax TRange GZmax Range = (lesser GZmax TGZmax ⊘ TGZmax) ⊛ (lesser Range TRange ⊘ TRange)
 
 -- an opening through which progressive flooding may take place that is not accounted for: how high its lower edge is, and the final waterline there
 pub record Opening : Type 0 where
@@ -117,21 +117,26 @@ module _ (N : Numbers) where
   abbrev pub fourth : Number → Number
   fourth a = square (square a)
 
-  -- s is K times the fourth root; a root is known by its power, and its sign is left open
-  pub record Final (GZmax Range θe : Fraction) (s : Number) : Type 0 where
+  -- s-final is K times the fourth root; a root is known by its power, and its sign is left open
+  pub record Final (limits : Limits) (GZmax Range θe : Fraction) (s : Number) : Type 0 where
     pub K : Number
     pub root : Number
-    pub upright : θe ≼ θmin → K ≐ fraction (whole 1)
-    pub lost : θmax ≼ θe → K ≐ fraction (whole 0)
-    pub heeled : θmin ≺ θe → θe ≺ θmax → square K ≐ fraction ((θmax ⊝ θe) ⊘ (θmax ⊝ θmin))
-    pub fourth-root : fourth root ≐ fraction (underRoot GZmax Range)
+    pub upright : θe ≼ limits .θmin → K ≐ fraction (whole 1)
+    pub lost : limits .θmax ≼ θe → K ≐ fraction (whole 0)
+    pub heeled : limits .θmin ≺ θe → θe ≺ limits .θmax → square K ≐ fraction ((limits .θmax ⊝ θe) ⊘ (limits .θmax ⊝ limits .θmin))
+    pub fourth-root : fourth root ≐ fraction (underRoot (limits .TGZmax) (limits .TRange) GZmax Range)
     pub product : s ≐ K · root
 
-  -- 2.7.6.2.1: "The factor s_i is to be taken as zero in those cases where the final waterline, taking into account sinkage, heel and trim, immerses .. for cargo
-  -- ships, the lower edge of openings through which progressive flooding may take place and such flooding is not accounted for in the calculation of factor s_i"
-  pub record Taken (GZmax Range θe : Fraction) (openings : List Opening) (s : Number) : Type 0 where
+  -- 2.7.6.2: "The factor s_i is to be taken as zero in those cases where the final waterline, taking into account sinkage, heel and trim, immerses .. the lower
+  -- edge of openings through which progressive flooding may take place and such flooding is not accounted for in the calculation of factor s_i", of cargo ships (.1)
+  -- and of passenger ships (.3); and where it immerses none, the rest of 2.7 has it
+  pub record UnlessImmersed (openings : List Opening) (Otherwise : Type 0) (s : Number) : Type 0 where
     pub immersed : (x : Opening) → List·Memᴰ x openings → x .edge ≺ x .waterline → s ≐ fraction (whole 0)
-    pub dry : ((x : Opening) → List·Memᴰ x openings → x .waterline ≼ x .edge) → Final GZmax Range θe s
+    pub dry : ((x : Opening) → List·Memᴰ x openings → x .waterline ≼ x .edge) → Otherwise
+
+  -- s_i of a cargo ship
+  abbrev pub Taken : Fraction → Fraction → Fraction → List Opening → Number → Type 0
+  Taken GZmax Range θe openings s = UnlessImmersed openings (Final cargo GZmax Range θe s) s
 
   -- an order among such numbers: what is the same is in it either way, fractions are in it as they are by themselves, and products with numbers that are not
   -- below zero keep it

@@ -12,7 +12,7 @@ use Rattle.solas.proofs.Values.{printed}
 
 pub printed-sound : Sound printed
 printed-sound =
-    abutting-sound 9900 1600 2 (0 ∷ 1500 ∷ 9900 ∷ []) (leb→le 8000 9900 tt) (leb→le 9900 19800 tt) (ltb→lt 0 1600 tt) (leb→le 1 2 tt) refl refl
+    abutting-sound 9900 1600 2 (0 ∷ 1500 ∷ 9900 ∷ []) (leb→le 2000 9900 tt) (leb→le 9900 19800 tt) (ltb→lt 0 1600 tt) (leb→le 1 2 tt) refl refl
     (λ k h. ltb→lt (getD (0 ∷ 1500 ∷ 9900 ∷ []) k 0) (getD (0 ∷ 1500 ∷ 9900 ∷ []) (k + 1) 0) (every-number (λ k. ltb (getD (0 ∷ 1500 ∷ 9900 ∷ []) k 0) (getD (0 ∷ 1500 ∷ 9900 ∷ []) (k + 1) 0)) 2 tt k h))
 
 pub printed-complete : Complete 6000 (18500 ∷ [])

@@ -18,7 +18,7 @@ abutting-zoned L B m places some stern bow rising = record {
   next = λ a p q. le-of-eq (ap (λ k. getD places k 0) (omega arith));
 }
 
-pub abutting-sound : (L B m : ℕ) (places : List ℕ) → 8000 ≤ L → L ≤ 19800 → 0 < B → 1 ≤ m → getD places 0 0 ≡ 0 → getD places m 0 ≡ L →
+pub abutting-sound : (L B m : ℕ) (places : List ℕ) → 2000 ≤ L → L ≤ 19800 → 0 < B → 1 ≤ m → getD places 0 0 ≡ 0 → getD places m 0 ≡ L →
     ((k : ℕ) → k < m → getD places k 0 < getD places (k + 1) 0) → Sound (abutting L B m places)
 abutting-sound L B m places long short broad some stern bow rising =
     record { long = long; short = short; broad = broad; zones = abutting-zoned L B m places some stern bow rising }

@@ -9,7 +9,7 @@ use Rattle.solas.specs.Ship.{Ship, abutting}
 use Rattle.solas.specs.Share.{within, share, rowShare}
 use Rattle.solas.specs.Height.{v, top}
 use Rattle.solas.specs.Survival.{k, s⁴, unlessImmersed}
-use Rattle.solas.specs.Index.{dp, draughts, attained, R}
+use Rattle.solas.specs.Index.{dp, draughts, attained, R, persons, passengerR, passengerMark}
 
 -- the hull of "One file in full": two zones that meet at 1,500
 abbrev pub printed : Ship
@@ -84,6 +84,11 @@ R-8000 = record { cross = refl }
 pub R-10000 : R 10000 ≈ 31 over 63
 unfolding R _less_over_
 R-10000 = record { cross = refl }
+
+-- of a passenger ship of 25 m with 1,500 persons in its lifeboats and 200 beyond them, and its partial mark
+pub passengers-1500-200 : (passengerR 2500 (persons 1500 200) ≈ 3 over 4) × (passengerMark 2500 (persons 1500 200) ≈ 27 over 40)
+unfolding persons passengerR passengerMark _⊛_ _less_over_
+passengers-1500-200 = (record { cross = refl }, record { cross = refl })
 
 -- survival, by its fourth power: of 5,000 ten-thousandths, of 7,071 to 7,072, of 1,000, and at the heel's limit
 pub s⁴-half : s⁴ 30 400 0 ≈ 1 over 16

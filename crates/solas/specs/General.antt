@@ -76,7 +76,7 @@ inSpan l y L aft fwd = twice (touch L aft fwd) l y (fwd - aft)
 abbrev pub common : Law → Layer → ℕ → ℕ
 common l y L = 2 * (y .d * unit l * (l .λx * L))
 
--- ---- document 01's law, for 80 to 198 m, and its layer from b′ to b: all lengths 15B times as fine, so that cuts are whole
+-- ---- document 01's law, for lengths up to 198 m, and its layer from b′ to b: all lengths 15B times as fine, so that cuts are whole
 unfoldable pub law : ℕ → ℕ → Law
 law L B = record { κ = 15 * B * (5 * L); W = 15 * B * (5 * L); λx = 15 * B * 33 }
 

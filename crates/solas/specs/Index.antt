@@ -1,4 +1,5 @@
--- Document 01, "Height and survival": the middle draught, the weights of the three draughts, R and the partial mark. Assumes nothing.
+-- Document 01, "Height and survival": the middle draught, the weights of the three draughts, R and the partial mark; and R and the mark of document 02's
+-- passenger ships. Assumes nothing.
 use Prim.Native.Nat.{ℕ, _+_, _-_, _*_, _/_}
 use mathlib.Core.Bool.{cond}
 use mathlib.Core.List.{List, [], _∷_}
@@ -18,10 +19,22 @@ draughts ds dl = ds ∷ dp ds dl ∷ dl ∷ []
 unfoldable pub attained : Fraction → Fraction → Fraction → Fraction
 attained As Ap Al = (whole 2 ⊛ As ⊹ whole 2 ⊛ Ap ⊹ Al) ⊛ (1 over 5)
 
--- the required index of a ship of L centimetres
+-- the required index of a cargo ship of L centimetres
 unfoldable pub R : ℕ → Fraction
 R L = cond (ltb 10000 L) ((L + 2400) over (L + 15200)) ((L * (L + 2400)) over (L * (L + 2400) + 128000000))
 
--- what each partial index must reach
+-- what each of its partial indices must reach
 unfoldable pub partialMark : ℕ → Fraction
 partialMark L = half (R L)
+
+-- the persons counted, of n1 with a place in a lifeboat and n2 beyond them: document 003, 10.2, "N = N1 + 2N2"
+unfoldable pub persons : ℕ → ℕ → ℕ
+persons n1 n2 = n1 + 2 * n2
+
+-- the required index of a passenger ship of L centimetres with n persons counted: document 003, 10.2
+unfoldable pub passengerR : ℕ → ℕ → Fraction
+passengerR L n = (L + 250 * n + 1022500) over (L + 250 * n + 1522500)
+
+-- document 02, ticket 6: "each partial must reach 0.9 R"
+unfoldable pub passengerMark : ℕ → ℕ → Fraction
+passengerMark L n = (9 over 10) ⊛ passengerR L n

@@ -25,9 +25,9 @@ pub record Zoned (s : Ship) : Type 0 where
   pub zone : (a : ℕ) → 1 ≤ a → a ≤ s .m → s .aft a < s .fwd a
   pub next : (a : ℕ) → 1 ≤ a → a < s .m → s .fwd a ≤ s .aft (a + 1)
 
--- a ship in such zones that is 80 to 198 m long and has a breadth: what document 01 takes on
+-- a ship in such zones that is 20 to 198 m long and has a breadth: what documents 01 and 02 take on, cargo ships from 80 m among them
 pub record Sound (s : Ship) : Type 0 where
-  pub long : 8000 ≤ s .L
+  pub long : 2000 ≤ s .L
   pub short : s .L ≤ 19800
   pub broad : 0 < s .B
   pub zones : Zoned s

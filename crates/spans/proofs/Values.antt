@@ -1,4 +1,4 @@
--- 01's worked spans, computed: p, and P at one end, which is rounded from the exact P and not from p's ends. Assumes nothing.
+-- 01's worked spans, computed: p, and P at one end, which is rounded from the exact P and not from p's ends; and some of a ship of 20 m. Assumes nothing.
 use Prim.Native.Nat.{ℕ}
 use mathlib.Core.Path.{_≡_, refl}
 use Rattle.laws.specs.Fraction.{_less_over_, _⊹_, _⊛_}
@@ -25,3 +25,12 @@ pub chance :
     × (PEnds 9900 0 9900 ≡ ends 1000000000 1000000000)
 unfolding PEnds endsOf billionthsOf ceil touch P p _⊹_ _⊛_ _less_over_
 chance = (refl, refl, refl, refl)
+
+-- at 20 m: 347,543/1,900,800 and 257/594, and at an end 822,743/3,801,600
+shortest :
+    (PEnds 2000 500 1000 ≡ ends 182840382 182840383)
+    × (PEnds 2000 500 1500 ≡ ends 432659932 432659933)
+    × (PEnds 2000 0 500 ≡ ends 216420191 216420192)
+    × (PEnds 2000 0 2000 ≡ ends 1000000000 1000000000)
+unfolding PEnds endsOf billionthsOf ceil touch P p _⊹_ _⊛_ _less_over_
+shortest = (refl, refl, refl, refl)

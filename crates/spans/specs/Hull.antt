@@ -1,4 +1,4 @@
--- The ship of a hull, and what a hull has when its case file is accepted: 01, "The case file", limits. Assumes nothing.
+-- The ship of a hull, and what a hull has when its case file is accepted: 01, "The case file", limits, and 02, ticket 6. Assumes nothing.
 use Prim.Native.Nat.{ℕ, _+_, _≤_, _<_}
 use mathlib.Core.Path.{_≡_}
 use lib.ListN.{getD}
@@ -8,11 +8,11 @@ use Rattle.solas.specs.Ship.{Ship, abutting}
 abbrev pub shipOf : Hull → Ship
 shipOf h = abutting (h .length) (h .breadth) (h .zones) (h .places)
 
--- a length from 80 to 198 m, a breadth from 10 to 60 m, 1 to 20 zones, and places that rise from 0 to the length
+-- a length from 20 to 198 m, a breadth from 4 to 60 m, 1 to 20 zones, and places that rise from 0 to the length
 pub record Hulled (h : Hull) : Type 0 where
-  pub long : 8000 ≤ h .length
+  pub long : 2000 ≤ h .length
   pub short : h .length ≤ 19800
-  pub broad : 1000 ≤ h .breadth
+  pub broad : 400 ≤ h .breadth
   pub narrow : h .breadth ≤ 6000
   pub some : 1 ≤ h .zones
   pub few : h .zones ≤ 20

@@ -1,4 +1,4 @@
--- The required index and the partial mark by numerator and denominator, and what an end that reaches a mark tells. Assumes nothing.
+-- The required index and the partial mark of either ship type by numerator and denominator, and what an end that reaches a mark tells. Assumes nothing.
 use Prim.Native.Nat.{ℕ, _+_, _*_, _^_, _≤_, _<_}
 use mathlib.Core.Bool.{Bool, true, false, cond}
 use mathlib.Core.Path.{_≡_, refl, _∙_}
@@ -7,7 +7,7 @@ use native.Mathlib.Omega.{arith}
 use lib.Dec.{ltb, lit<}
 use borrow.Author.Tests.{lt-ltb, le-ltb, le-leb}
 use Rattle.laws.specs.Fraction.{_over_, whole, _≼_}
-use Rattle.solas.specs.Index.{R, partialMark}
+use Rattle.solas.specs.Index.{R, partialMark, passengerR, passengerMark}
 use Rattle.laws.proofs.Choice.{split}
 use Rattle.laws.proofs.FractionCompare.{plain-not-negative}
 use Rattle.numbers.specs.Ratio.{ratioOf, Proper}
@@ -60,6 +60,40 @@ pub mark-proper : {L : ℕ} → L ≤ 10 ^ 6 → Proper (10 ^ 9) (ratioOf (parti
 mark-proper {L} h =
     let b = required-bounds h in
     rw (mark-half L) (record { positive = omega arith; at-most-one = omega arith; narrow = omega arith })
+
+-- ---- the same of passenger ships, with nine tenths
+pub passenger-required : (L n : ℕ) → ratioOf (passengerR L n) ≡ record { num = L + 250 * n + 1022500; den = L + 250 * n + 1522500 }
+unfolding passengerR
+passenger-required L n = ratio-over (L + 250 * n + 1022500) {d = L + 250 * n + 1522500} (omega arith)
+
+passenger-plain : (L n : ℕ) → passengerR L n .down ≡ 0
+unfolding passengerR
+passenger-plain L n = over-plain (L + 250 * n + 1022500) (L + 250 * n + 1522500)
+
+pub passenger-required-not-negative : (L n : ℕ) → whole 0 ≼ passengerR L n
+passenger-required-not-negative L n = plain-not-negative (passenger-plain L n)
+
+pub passenger-mark-not-negative : (L n : ℕ) → whole 0 ≼ passengerMark L n
+unfolding passengerMark
+passenger-mark-not-negative L n = plain-not-negative (product-plain (9 over 10) (passengerR L n) (over-plain 9 10) (passenger-plain L n))
+
+pub mark-nine-tenths : (L n : ℕ) → ratioOf (passengerMark L n) ≡ record { num = ratioOf (passengerR L n) .num * 9; den = ratioOf (passengerR L n) .den * 10 }
+unfolding passengerMark
+mark-nine-tenths L n =
+    let tenths : ratioOf (9 over 10) ≡ record { num = 9; den = 10 } = ratio-over 9 (lit< tt) in
+    ratio-product (9 over 10) (passengerR L n) (over-plain 9 10) (passenger-plain L n) ∙ rw tenths (same-ratio (omega arith) (omega arith))
+
+pub passenger-bounds : {L n : ℕ} → (L ≤ 10 ^ 6) × (n ≤ 10 ^ 6) →
+    (0 < ratioOf (passengerR L n) .den) × (ratioOf (passengerR L n) .num ≤ ratioOf (passengerR L n) .den) × (ratioOf (passengerR L n) .den ≤ 252522500)
+passenger-bounds {L} {n} h = rw (passenger-required L n) (omega (arith, h .0, h .1))
+
+pub passenger-required-proper : {L n : ℕ} → (L ≤ 10 ^ 6) × (n ≤ 10 ^ 6) → Proper (10 ^ 9) (ratioOf (passengerR L n))
+passenger-required-proper h = let b = passenger-bounds h in record { positive = b .0; at-most-one = b .1; narrow = omega arith }
+
+pub passenger-mark-proper : {L n : ℕ} → (L ≤ 10 ^ 6) × (n ≤ 10 ^ 6) → Proper (10 ^ 9) (ratioOf (passengerMark L n))
+passenger-mark-proper {L} {n} h =
+    let b = passenger-bounds h in
+    rw (mark-nine-tenths L n) (record { positive = omega arith; at-most-one = omega arith; narrow = omega arith })
 
 -- ---- an end of a whole or more reaches every mark
 pub whole-reaches : {end : ℕ} {mark : Ratio} → Proper (10 ^ 9) mark → 10 ^ 9 ≤ end → reaches end mark ≡ true

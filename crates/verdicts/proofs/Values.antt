@@ -1,9 +1,9 @@
--- Document 01, "Proved values" and "One file in full": R as the ratio that an index is held to, and the verdict, computed. Assumes nothing.
+-- Document 01, "Proved values" and "One file in full": R as the ratio that an index is held to, and the verdict, computed; and R of a passenger ship. Assumes nothing.
 use Prim.Native.Nat.{ℕ, _*_}
 use mathlib.Core.Path.{_≡_, refl}
 use Rattle.laws.specs.Fraction.{_less_over_, _⊛_}
 use Rattle.records.specs.declared.Ends.{Ends}
-use Rattle.solas.specs.Index.{R, partialMark}
+use Rattle.solas.specs.Index.{R, partialMark, passengerR, passengerMark}
 use Rattle.numbers.specs.Ratio.{ratioOf}
 use Rattle.indices.specs.Index.{trio}
 use Rattle.verdicts.specs.Verdict.{reaches, allReach, verdictOf}
@@ -14,6 +14,11 @@ pub required :
     × (ratioOf (R 10000) .num * 63 ≡ ratioOf (R 10000) .den * 31)
 unfolding R ratioOf _less_over_
 required = (refl, refl)
+
+-- ---- of a passenger ship of 25 m with 1,900 persons counted, 3/4, and of its partial indices 27/40
+pub passengers : (ratioOf (passengerR 2500 1900) .num * 4 ≡ ratioOf (passengerR 2500 1900) .den * 3) × (ratioOf (passengerMark 2500 1900) .num * 40 ≡ ratioOf (passengerMark 2500 1900) .den * 27)
+unfolding passengerR passengerMark ratioOf _⊛_ _less_over_
+passengers = (refl, refl)
 
 -- ---- the printed file, whose A and partial indices have the same ends
 abbrev printed : Ends

@@ -10,12 +10,12 @@ use borrow.Author.Tests.{leb-true, leb-false}
 use Rattle.laws.specs.Fraction.{Fraction, whole, Is, _≼_, _≺_}
 use Rattle.laws.specs.Rounding.{ceil}
 use Rattle.laws.proofs.Fraction.{is-over, ≈-sym, ≼-of-≈, ≼-trans, below-across, strictly-below-across}
-use Rattle.laws.proofs.FractionCompare.{across-below, across-strictly-below, below-then-strictly}
+use Rattle.laws.proofs.FractionCompare.{≼-of-≺, across-below, across-strictly-below, below-then-strictly}
 use Rattle.numbers.specs.Figures.{billionths}
 use Rattle.records.specs.declared.Ends.{Ends}
 use Rattle.records.specs.declared.Trio.{Trio}
-use Rattle.solas.specs.Index.{R, partialMark}
-use Rattle.solas.proofs.Required.{R-positive}
+use Rattle.solas.specs.Index.{R, partialMark, passengerR, passengerMark}
+use Rattle.solas.proofs.Required.{R-positive, passenger-R-positive}
 use Rattle.numbers.specs.Ratio.{ratioOf}
 use Rattle.numbers.proofs.Ratios.{ratio-positive, is-ratio}
 use Rattle.indices.specs.Index.{partials, attainedOf}
@@ -23,7 +23,7 @@ use Rattle.indices.specs.Exact.{partialsOf}
 use Rattle.indices.proofs.Enclosure.{billionths-none, no-more-than-upper, no-less-than-lower, attained-no-more, attained-no-less}
 use Rattle.verdicts.specs.Verdict.{reaches, allReach, verdictOf}
 use Rattle.verdicts.specs.Promises.{AllFour, OneOfFour, attained, atDeepest, atPartial, atLight, Meets, Fails, ByEnds, VerdictByEnds, MeetsIsRight, OneShort, FailsIsRight}
-use Rattle.verdicts.proofs.Marks.{required-not-negative, mark-not-negative}
+use Rattle.verdicts.proofs.Marks.{mark-not-negative, passenger-mark-not-negative}
 -- checked first, so that a definition that gives another verdict is refused there
 use Rattle.verdicts.proofs.Values.{at-the-mark}
 
@@ -118,11 +118,17 @@ fails-is-right rs h required mark p q e = fixed (verdict-by-ends (attainedOf (pa
     fixed (atLight f) = atLight (λ xs k. below-then-strictly (no-more-than-upper (rs .light) (h .2) xs k) f)
 
 -- ---- with no rows every ship fails
-pub no-rows-fail : (L : ℕ) → 0 < L → verdictOf (attainedOf (partials [])) (partials []) (ratioOf (R L)) (ratioOf (partialMark L)) ≡ 2
+nothing-fails : {required mark : Fraction} → whole 0 ≺ required → whole 0 ≼ mark → verdictOf (attainedOf (partials [])) (partials []) (ratioOf required) (ratioOf mark) ≡ 2
 unfolding attainedOf partials ceil
-no-rows-fail L h =
-    verdict-by-ends (attainedOf (partials [])) (partials []) (R L) (partialMark L) (required-not-negative L) (mark-not-negative L) .two .1
+nothing-fails {required} {mark} p q =
+    verdict-by-ends (attainedOf (partials [])) (partials []) required mark (≼-of-≺ p) q .two .1
     (λ m. let never = below-then-strictly (m .attained) short in omega (arith, never .cross), attained short)
   where
-    short : billionths 0 ≺ R L
-    short = below-then-strictly (≼-of-≈ (≈-sym billionths-none)) (R-positive h)
+    short : billionths 0 ≺ required
+    short = below-then-strictly (≼-of-≈ (≈-sym billionths-none)) p
+
+pub no-rows-fail : (L : ℕ) → 0 < L → verdictOf (attainedOf (partials [])) (partials []) (ratioOf (R L)) (ratioOf (partialMark L)) ≡ 2
+no-rows-fail L h = nothing-fails (R-positive h) (mark-not-negative L)
+
+pub no-rows-fail-passengers : (L n : ℕ) → verdictOf (attainedOf (partials [])) (partials []) (ratioOf (passengerR L n)) (ratioOf (passengerMark L n)) ≡ 2
+no-rows-fail-passengers L n = nothing-fails (passenger-R-positive L n) (passenger-mark-not-negative L n)

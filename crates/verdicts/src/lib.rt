@@ -1,17 +1,17 @@
-// The required index by a ship's length, the mark of each partial index, and the verdict from ends that reach them or do not.
+// The required index of a cargo ship and of a passenger ship, the mark of each partial index, and the verdict from ends that reach them or do not.
 use records::Ends;
 use records::Ratio;
 use records::Trio;
 ghost use mathlib.Core.Path.{_≡_};
 ghost use Prim.Native.Nat.{_^_, _≤_};
-ghost use Rattle.solas.specs.Index.{R, partialMark};
+ghost use Rattle.solas.specs.Index.{R, partialMark, passengerR, passengerMark};
 ghost use Rattle.numbers.specs.Ratio.{Proper, ratioOf};
 ghost use Rattle.verdicts.specs.Verdict.{reaches, allReach, verdictOf};
 
 // What a whole comes to in billionths.
 const WHOLE: u64 = 1_000_000_000;
 
-// R of a ship of so many centimetres.
+// R of a cargo ship of so many centimetres.
 pub fn required(length: u64) -> Ratio
     requires { ⌜ length ≤ 10 ^ 6 ⌝ }
     ensures { λ r. ⌜ r ≡ ratioOf (R length) ⌝ }
@@ -28,7 +28,7 @@ pub fn required(length: u64) -> Ratio
     Ratio { num, den }
 }
 
-// What each partial index must reach: half of R.
+// What each of its partial indices must reach: half of R.
 pub fn partial_mark(length: u64) -> Ratio
     requires { ⌜ length ≤ 10 ^ 6 ⌝ }
     ensures { λ r. ⌜ r ≡ ratioOf (partialMark length) ⌝ }
@@ -37,6 +37,30 @@ pub fn partial_mark(length: u64) -> Ratio
     Ratio {
         num: whole.num,
         den: whole.den * 2,
+    }
+}
+
+// R of a passenger ship of so many centimetres with so many persons counted.
+pub fn passenger_required(length: u64, persons: u64) -> Ratio
+    requires { ⌜ (length ≤ 10 ^ 6) × (persons ≤ 10 ^ 6) ⌝ }
+    ensures { λ r. ⌜ r ≡ ratioOf (passengerR length persons) ⌝ }
+{
+    let size = length + 250 * persons;
+    Ratio {
+        num: size + 1_022_500,
+        den: size + 1_522_500,
+    }
+}
+
+// What each of its partial indices must reach: nine tenths of R.
+pub fn passenger_mark(length: u64, persons: u64) -> Ratio
+    requires { ⌜ (length ≤ 10 ^ 6) × (persons ≤ 10 ^ 6) ⌝ }
+    ensures { λ r. ⌜ r ≡ ratioOf (passengerMark length persons) ⌝ }
+{
+    let whole = passenger_required(length, persons);
+    Ratio {
+        num: whole.num * 9,
+        den: whole.den * 10,
     }
 }
 

@@ -1,7 +1,8 @@
 -- Bottom and top: they are what 01 says, one number each, by the value of s⁴ alone, at most one apart, and they enclose every survival. Assumes nothing.
 use Prim.Native.Nat.{ℕ, _+_, _*_, _/_, _^_, _≤_, _<_}
 use mathlib.Core.List.{[]}
-use mathlib.Core.Path.{_≡_, refl}
+use mathlib.Core.Logic.{_↔_}
+use mathlib.Core.Path.{_≡_, refl, ap, _∙_}
 use native.Mathlib.Nat.{le-refl, le-antisymm, le-trans, le-of-lt, lt-of-not-le, le-of-mul-le-mul-right, mul-le-mul-left}
 use native.Mathlib.Omega.{arith}
 use lib.Dec.{lit<}
@@ -10,7 +11,7 @@ use Rattle.laws.specs.Rounding.{ceil}
 use Rattle.laws.proofs.Polynomial.{_:^_, _:=_, _⊢_, poly1}
 use Rattle.laws.proofs.Fraction.{is-over, is-whole, is-written, ≈-refl, ≈-sym, ⊛-≈, ≼-of-≈, ≼-trans, below-across}
 use Rattle.laws.proofs.Roots.{powers-ordered, root-below, root-above}
-use Rattle.laws.proofs.FractionCompare.{across-below, is-times, is-square}
+use Rattle.laws.proofs.FractionCompare.{across-below, is-times, is-square, ≈-of-both}
 use Rattle.roots.proofs.Root.{down-of-fraction, up-of-fraction}
 use Rattle.roots.proofs.RootValue.{down-root, up-root}
 use Rattle.numbers.specs.Ratio.{ratioOf}
@@ -18,7 +19,7 @@ use Rattle.numbers.proofs.Ratios.{ratio-positive, is-ratio}
 use Rattle.survival.specs.Survival.{fourthPower, Factor, root, given, ends, Sensible, Bottom, Top, BottomAndTop, scaledOf, roundedOf, tenThousandths, NotAbove, NotBelow}
 use Rattle.survival.proofs.Factors.{same-roots, times-down, times-up}
 -- checked first, so that a definition that gives another number is refused there
-use Rattle.survival.proofs.Values.{apart}
+use Rattle.survival.proofs.Values.{apart, one}
 
 -- ---- fourth powers
 is-fourth : {x : Fraction} {n d : ℕ} → Is x n 0 d → Is (fourthPower x) (n ^ 4) 0 (d ^ 4)
@@ -109,6 +110,13 @@ pub ends-same : {f g : Fraction} → f ≈ g → Sensible (root f) → ends (roo
 ends-same {f} {g} e h =
     let k : Sensible (root g) = (≼-trans (h .0) (≼-of-≈ e), ≼-trans (≼-of-≈ (≈-sym e)) (h .1)) in
     same-roots (bottom-unique (bottom-same e (bottom-is h)) (bottom-is k)) (top-unique (top-same e (top-is h)) (top-is k))
+
+-- ---- the bottom is one exactly where s⁴ is
+pub bottom-one : {f : Fraction} → Sensible (root f) → (ends (root f) .bottom ≡ 10 ^ 4) ↔ (f ≈ whole 1)
+bottom-one {f} h = (
+  λ e. ≈-of-both (h .1) (below-across (is-whole 1 {d = 1} (lit< tt)) (is-ratio (h .0)) (lit< tt) (ratio-positive f) (omega (arith, rw e at (bottom-of h .0)))),
+  λ e. ap (λ r. r .bottom) (ends-same e h ∙ one),
+)
 
 -- ---- a survival that is not above is at most the top, one that is not below at least the bottom
 pub not-above-top : (s : Factor) {x : Fraction} → Sensible s → whole 0 ≼ x → NotAbove s x → x ≼ tenThousandths (ends s .top)

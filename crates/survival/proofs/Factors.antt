@@ -61,14 +61,14 @@ pub as-dry : (kind : ℕ) (f : Finding) → (kind ≡ 3 → ⊥) → immersed (f
     survivalOf kind f ≡ marked (roundedOf (ratioOf (s⁴ (f .lever) (f .range) (f .heel)))) (foundMarks (f .lever) (f .range) (f .heel) (f .opening))
 as-dry kind f n i = as-found kind f n ∙ ap (λ r. marked r (foundMarks (f .lever) (f .range) (f .heel) (f .opening))) (dry-roots (f .opening) (s⁴ (f .lever) (f .range) (f .heel)) i)
 
--- what was found is from 0 to 1, and so is what is given
+-- nothing is from 0 to 1, and so is what was found, and what is given
+pub nothing-sensible : Sensible (root (whole 0))
+nothing-sensible = (below {d = 1} (lit< tt) (is-whole 0 (lit< tt)) (is-whole 0 (lit< tt)) (omega arith), below {d = 1} (lit< tt) (is-whole 0 (lit< tt)) (is-whole 1 (lit< tt)) (omega arith))
+
 pub fourth-sensible : (f : Finding) → Sensible (root (fourthOf f))
 fourth-sensible f =
-    either-way (f .opening) (s⁴ (f .lever) (f .range) (f .heel)) (λ x. Sensible (root x)) zero
+    either-way (f .opening) (s⁴ (f .lever) (f .range) (f .heel)) (λ x. Sensible (root x)) nothing-sensible
     (s⁴-not-negative (f .lever) (f .range) (f .heel), s⁴-at-most-one (f .lever) (f .range) (f .heel))
-  where
-    zero : Sensible (root (whole 0))
-    zero = (below {d = 1} (lit< tt) (is-whole 0 (lit< tt)) (is-whole 0 (lit< tt)) (omega arith), below {d = 1} (lit< tt) (is-whole 0 (lit< tt)) (is-whole 1 (lit< tt)) (omega arith))
 
 pub found-sensible : (kind : ℕ) (f : Finding) → f .given ≤ 10 ^ 4 → Sensible (factorOf kind f)
 unfolding factorOf

@@ -5,3 +5,7 @@ pub mod Values
 pub mod Telling
 pub mod Worse
 pub mod OneOfTwo
+pub mod PassengerValues
+pub mod Portions
+pub mod Passengers
+pub mod Rows

@@ -1,0 +1,3 @@
+pub mod Rooted
+pub mod Held
+pub mod Values

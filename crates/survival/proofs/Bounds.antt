@@ -36,7 +36,7 @@ module _ {f : Fraction} (h : Sensible (root f)) where
   abbrev M : ℕ
   M = ratioOf f .den
 
-  proper : N ≤ M
+  pub proper : N ≤ M
   proper = omega (arith, across-below (is-ratio (h .0)) (is-whole 1 {d = 1} (lit< tt)) (h .1))
 
   bottom-of : (ends (root f) .bottom ^ 4 * M ≤ 10 ^ 16 * N) × ((t : ℕ) → t ^ 4 * M ≤ 10 ^ 16 * N → t ≤ ends (root f) .bottom)

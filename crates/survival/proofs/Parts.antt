@@ -4,7 +4,7 @@ use mathlib.Core.Path.{_≡_, refl}
 use native.Mathlib.Nat.{le-antisymm, min-le-right, mul-le-mul}
 use native.Mathlib.Omega.{arith}
 use lib.Dec.{lit<}
-use Rattle.laws.specs.Fraction.{Fraction, whole, _≼_, _≺_, lesser}
+use Rattle.laws.specs.Fraction.{Fraction, whole, Is, _≼_, _≺_, lesser}
 use Rattle.laws.specs.Rounding.{ceil}
 use Rattle.laws.proofs.Equal.{same-floor, same-ceil}
 use Rattle.laws.proofs.Fraction.{is-over, is-nothing, is-widened, is-shifted, is-⊛, is-written, below, strictly-below, ≈-refl, ≼-of-≈}
@@ -69,16 +69,24 @@ pub nothing-rounded : roundedOf (parts 0) ≡ record { bottom = 0; top = 0 }
 unfolding roundedOf scaledOf rootDown rootUp withDigits ceil
 nothing-rounded = refl
 
+pub one-rounded : roundedOf (parts (168 * 10 ^ 16)) ≡ record { bottom = 10 ^ 4; top = 10 ^ 4 }
+unfolding roundedOf scaledOf rootDown rootUp withDigits ceil
+one-rounded = refl
+
+-- ---- a fraction is its ratio, and n/d, however it is written
+pub ratio-crossed : {f : Fraction} {n d : ℕ} → whole 0 ≼ f → Is f n 0 d → ratioOf f .num * d ≡ n * ratioOf f .den
+ratio-crossed {f} p h =
+    let i = is-ratio p in
+    let same = ≼-of-≈ (≈-refl f) in
+    le-antisymm (omega (arith, across-below i h same)) (omega (arith, across-below h i same))
+
 -- ---- a fraction and its parts have one root
 module _ {f : Fraction} {n : ℕ} (h : InParts f n) where
   not-negative : whole 0 ≼ f
   not-negative = below (lit< tt) (is-nothing (lit< tt)) (h .is) (omega arith)
 
   crossed : ratioOf f .num * (168 * 10 ^ 16) ≡ n * ratioOf f .den
-  crossed =
-      let i = is-ratio not-negative in
-      let same = ≼-of-≈ (≈-refl f) in
-      le-antisymm (omega (arith, across-below i (h .is) same)) (omega (arith, across-below (h .is) i same))
+  crossed = ratio-crossed not-negative (h .is)
 
   same-scaled : scaledOf (ratioOf f) ≡ scaledOf (parts n)
   unfolding scaledOf

@@ -10,10 +10,10 @@ use Rattle.laws.proofs.FractionRing.{⊛-comm}
 use Rattle.laws.proofs.FractionTerm.{number, parts, first, _⊛ᵗ_, agree}
 use Rattle.survival.specs.Survival.{root, Sensible, fourthPower}
 
-one-times : (f : Fraction) → whole 1 ⊛ f ≈ f
+pub one-times : (f : Fraction) → whole 1 ⊛ f ≈ f
 one-times f = agree {ρ = parts (f ∷ [])} (number 1 1 tt ⊛ᵗ first) first tt
 
--- ---- a product is at most its second factor
+-- ---- a product is at most either factor
 module _ {f g : Fraction} (h : Sensible (root f)) (k : Sensible (root g)) where
   product-below : f ⊛ g ≼ g
   product-below = ≼-trans (⊛-keeps (k .0) (h .1)) (≼-of-≈ (one-times g))
@@ -24,7 +24,9 @@ module _ {f g : Fraction} (h : Sensible (root f)) (k : Sensible (root g)) where
   second-one : f ⊛ g ≈ whole 1 → g ≈ whole 1
   second-one e = ≈-of-both (k .1) (≼-trans (≼-of-≈ (≈-sym e)) product-below)
 
--- and so at most its first
+pub product-below-first : {f g : Fraction} → Sensible (root f) → Sensible (root g) → f ⊛ g ≼ f
+product-below-first {f} {g} h k = ≼-trans (≼-of-≈ (⊛-comm f g)) (product-below k h)
+
 pub product-one : {f g : Fraction} → Sensible (root f) → Sensible (root g) → (f ⊛ g ≈ whole 1) ↔ ((f ≈ whole 1) × (g ≈ whole 1))
 product-one {f} {g} h k = (
   λ e. (second-one k h (≈-trans (⊛-comm g f) e), second-one h k e),

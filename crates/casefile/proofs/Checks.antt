@@ -15,7 +15,7 @@ use Rattle.casefile.specs.Limits.{mostRows, sizesFit, rowFits}
 use Rattle.casefile.specs.Order.{outOfOrder, leavesOpen, endsOpen}
 use Rattle.casefile.specs.Table.{Check, _when_, firstHolds, wrongHullFrame, wrongFrame, wrongZones, hullChecks, rowChecks, endChecks, lineChecks}
 -- checked first, so that a definition that reads a worked file otherwise is refused there
-use Rattle.casefile.proofs.Examples.{printed-accepted}
+use Rattle.casefile.proofs.PassengerExamples.{ferry-accepted}
 
 -- ---- a list of checks
 

@@ -10,10 +10,10 @@ use Rattle.laws.specs.Bytes.{bytes}
 use Rattle.records.specs.declared.Hull.{Hull}
 use Rattle.lines.specs.Lines.{lines}
 use Rattle.hexadecimal.specs.Hex.{digitOf, pairOf, pairs, digitsOnly, proper, badlyWritten, digit, hex, lineOf}
-use Rattle.fields.specs.Fields.{wordAt, signed, unsigned}
+use Rattle.fields.specs.Fields.{wordAt, longAt, signed, unsigned}
 use Rattle.casefile.specs.Record.{Row, Case}
-use Rattle.casefile.specs.Layout.{frameLength, placeOf, hullOf, headOf, findingOf, setOf, resultsOf, hullBytes, findingBytes, rowBytes, endBytes}
-use Rattle.casefile.specs.Limits.{between, sizesFit, risingTo, zonesFit, headFits, openingFits, findingFits, findingsFit, rowFits}
+use Rattle.casefile.specs.Layout.{takes, frameLength, placeOf, hullOf, headOf, findingOf, setOf, floodingOf, floodingsOf, resultsOf, hullBytes, findingBytes, floodingBytes, rowBytes, endBytes}
+use Rattle.casefile.specs.Limits.{between, sizesFit, risingTo, zonesFit, headFits, openingFits, findingFits, findingsFit, floodingFits, floodingsFit, resultsFit, rowFits}
 use Rattle.casefile.specs.Order.{atTop, closesGroup, sameGroup, sameLayer, earlierGroup, outOfOrder, leavesOpen, endsOpen}
 use Rattle.casefile.specs.Table.{firstHolds, wrongHullFrame, wrongFrame, wrongZones, hullChecks, rowChecks, endChecks, lineChecks}
 use Rattle.casefile.specs.Kept.{keptRow, keptRows}
@@ -25,7 +25,7 @@ use Rattle.casefile.specs.Encode.{rowLines, encode}
 use Rattle.casefile.proofs.LimitExamples.{found, survival, row}
 
 -- 0126ac064017700fa00205dc
-abbrev hullLine : List ℕ
+abbrev pub hullLine : List ℕ
 hullLine = 48 ∷ 49 ∷ 50 ∷ 54 ∷ 97 ∷ 99 ∷ 48 ∷ 54 ∷ 52 ∷ 48 ∷ 49 ∷ 55 ∷ 55 ∷ 48 ∷ 48 ∷ 102 ∷ 97 ∷ 48 ∷ 48 ∷ 50 ∷ 48 ∷ 53 ∷ 100 ∷ 99 ∷ 10 ∷ []
 
 -- 02010103204844001e019000000000001e019000000000001e019000000000
@@ -48,22 +48,25 @@ abbrev printed : List ℕ
 printed = hullLine ++ firstRow ++ secondRow ++ thirdRow ++ endLine
 
 -- the definitions, open to computation
-read : List ℕ → Reading
-unfolding reading readFrom lines firstHolds hullChecks rowChecks endChecks lineChecks wrongHullFrame wrongFrame wrongZones between sizesFit risingTo zonesFit headFits openingFits findingFits findingsFit rowFits atTop closesGroup sameGroup sameLayer earlierGroup outOfOrder leavesOpen endsOpen frameLength placeOf hullOf headOf findingOf setOf resultsOf digitOf pairOf pairs digitsOnly proper badlyWritten wordAt signed unsigned tabulate bytes hullBytes findingBytes rowBytes endBytes digit hex lineOf rowLines encode
+unfoldable pub read : List ℕ → Reading
+unfolding reading readFrom lines firstHolds hullChecks rowChecks endChecks lineChecks wrongHullFrame wrongFrame wrongZones between sizesFit risingTo zonesFit headFits openingFits findingFits findingsFit floodingFits floodingsFit resultsFit rowFits atTop closesGroup sameGroup sameLayer earlierGroup outOfOrder leavesOpen endsOpen takes frameLength placeOf hullOf headOf findingOf setOf floodingOf floodingsOf resultsOf digitOf pairOf pairs digitsOnly proper badlyWritten wordAt longAt signed unsigned tabulate bytes hullBytes findingBytes floodingBytes rowBytes endBytes digit hex lineOf rowLines encode
 read f = reading f
 
 -- 16 m broad, two zones
 abbrev hull : ℕ → ℕ → ℕ → ℕ → Hull
 hull Ls ds dl bulkhead = record {
+  kind = 1;
   length = Ls;
   breadth = 1600;
   deepest = ds;
   light = dl;
+  lifeboats = 0;
+  excess = 0;
   zones = 2;
   places = 0 ∷ bulkhead ∷ Ls ∷ 0 ∷ 0 ∷ 0 ∷ 0 ∷ 0 ∷ 0 ∷ 0 ∷ 0 ∷ 0 ∷ 0 ∷ 0 ∷ 0 ∷ 0 ∷ 0 ∷ 0 ∷ 0 ∷ 0 ∷ 0 ∷ [];
 }
 
-abbrev case : Hull → List Row → Case
+abbrev pub case : Hull → List Row → Case
 case h rs = record { hull = h; rows = rs }
 
 -- 99 m long, zones that meet at 15 m; three groups, each with one layer of one row
@@ -97,11 +100,11 @@ abbrev unlikeRow : List ℕ
 unlikeRow = 48 ∷ 50 ∷ 48 ∷ 49 ∷ 48 ∷ 49 ∷ 48 ∷ 51 ∷ 50 ∷ 48 ∷ 52 ∷ 56 ∷ 52 ∷ 52 ∷ 48 ∷ 48 ∷ 48 ∷ 49 ∷ 48 ∷ 48 ∷ 48 ∷ 50 ∷ 48 ∷ 48 ∷ 48 ∷ 51 ∷ 102 ∷ 102 ∷ 102 ∷ 102 ∷ 48 ∷ 48 ∷ 48 ∷ 52 ∷ 48 ∷ 48 ∷ 48 ∷ 53 ∷ 48 ∷ 48 ∷ 48 ∷ 54 ∷ 55 ∷ 53 ∷ 51 ∷ 48 ∷ 48 ∷ 48 ∷ 48 ∷ 55 ∷ 48 ∷ 48 ∷ 48 ∷ 56 ∷ 48 ∷ 48 ∷ 48 ∷ 57 ∷ 56 ∷ 97 ∷ 100 ∷ 48 ∷ 10 ∷ []
 
 -- 0f0001
-abbrev endOfOne : List ℕ
+abbrev pub endOfOne : List ℕ
 endOfOne = 48 ∷ 102 ∷ 48 ∷ 48 ∷ 48 ∷ 49 ∷ 10 ∷ []
 
 abbrev unlikeResults : Row
-unlikeResults = record { head = record { kind = 2; first = 1; count = 1; depth = 800; height = 18500 }; results = found 1 2 3 (negsuc 0) ∷ found 4 5 6 (pos 30000) ∷ found 7 8 9 (negsuc 29999) ∷ [] }
+unlikeResults = record { head = record { kind = 2; first = 1; count = 1; depth = 800; height = 18500 }; results = record { findings = found 1 2 3 (negsuc 0) ∷ found 4 5 6 (pos 30000) ∷ found 7 8 9 (negsuc 29999) ∷ []; floodings = [] } }
 
 deepest-partial-light : reading (hullLine ++ unlikeRow ++ endOfOne) ≡ accepted (case printedHull (unlikeResults ∷ []))
 unfolding read
@@ -110,21 +113,24 @@ deepest-partial-light = refl
 -- and a second set's after them
 
 -- 05010103204844000100020003ffff00040005000675300007000800098ad0000a000b000cfff3000e000f00100011001200130014ffeb
-abbrev secondSetRow : List ℕ
+abbrev pub secondSetRow : List ℕ
 secondSetRow = 48 ∷ 53 ∷ 48 ∷ 49 ∷ 48 ∷ 49 ∷ 48 ∷ 51 ∷ 50 ∷ 48 ∷ 52 ∷ 56 ∷ 52 ∷ 52 ∷ 48 ∷ 48 ∷ 48 ∷ 49 ∷ 48 ∷ 48 ∷ 48 ∷ 50 ∷ 48 ∷ 48 ∷ 48 ∷ 51 ∷ 102 ∷ 102 ∷ 102 ∷ 102 ∷ 48 ∷ 48 ∷ 48 ∷ 52 ∷ 48 ∷ 48 ∷ 48 ∷ 53 ∷ 48 ∷ 48 ∷ 48 ∷ 54 ∷ 55 ∷ 53 ∷ 51 ∷ 48 ∷ 48 ∷ 48 ∷ 48 ∷ 55 ∷ 48 ∷ 48 ∷ 48 ∷ 56 ∷ 48 ∷ 48 ∷ 48 ∷ 57 ∷ 56 ∷ 97 ∷ 100 ∷ 48 ∷ 48 ∷ 48 ∷ 48 ∷ 97 ∷ 48 ∷ 48 ∷ 48 ∷ 98 ∷ 48 ∷ 48 ∷ 48 ∷ 99 ∷ 102 ∷ 102 ∷ 102 ∷ 51 ∷ 48 ∷ 48 ∷ 48 ∷ 101 ∷ 48 ∷ 48 ∷ 48 ∷ 102 ∷ 48 ∷ 48 ∷ 49 ∷ 48 ∷ 48 ∷ 48 ∷ 49 ∷ 49 ∷ 48 ∷ 48 ∷ 49 ∷ 50 ∷ 48 ∷ 48 ∷ 49 ∷ 51 ∷ 48 ∷ 48 ∷ 49 ∷ 52 ∷ 102 ∷ 102 ∷ 101 ∷ 98 ∷ 10 ∷ []
 
 abbrev unlikeSets : Row
 unlikeSets =
     record {
       head = record { kind = 5; first = 1; count = 1; depth = 800; height = 18500 };
-      results =
-          found 1 2 3 (negsuc 0)
-          ∷ found 4 5 6 (pos 30000)
-          ∷ found 7 8 9 (negsuc 29999)
-          ∷ found 10 11 12 (negsuc 12)
-          ∷ found 14 15 16 (pos 17)
-          ∷ found 18 19 20 (negsuc 20)
-          ∷ [];
+      results = record {
+        findings =
+            found 1 2 3 (negsuc 0)
+            ∷ found 4 5 6 (pos 30000)
+            ∷ found 7 8 9 (negsuc 29999)
+            ∷ found 10 11 12 (negsuc 12)
+            ∷ found 14 15 16 (pos 17)
+            ∷ found 18 19 20 (negsuc 20)
+            ∷ [];
+        floodings = [];
+      };
     }
 
 second-set-after-the-first : reading (hullLine ++ secondSetRow ++ endOfOne) ≡ accepted (case printedHull (unlikeSets ∷ []))
@@ -157,10 +163,10 @@ second-set-too-many : reading (hullLine ++ lineOf (2 ∷ drop 1 (rowBytes unlike
 unfolding read
 second-set-too-many = refl
 
--- ---- rows as they are kept: 55 bytes each, whatever stands after a shorter frame
+-- ---- rows as they are kept: 76 bytes each, whatever stands after a shorter frame
 
 abbrev keptFrames : List ℕ
-keptFrames = rowBytes unlikeSets ++ rowBytes unlikeResults ++ replicate 24 9 ++ rowBytes (row 3 1 2 800 18500 (survival 0)) ++ replicate 42 9
+keptFrames = rowBytes unlikeSets ++ replicate 21 9 ++ rowBytes unlikeResults ++ replicate 45 9 ++ rowBytes (row 3 1 2 800 18500 (survival 0)) ++ replicate 63 9
 
 three-kept : keptRows 3 keptFrames 0 ≡ unlikeSets ∷ unlikeResults ∷ row 3 1 2 800 18500 (survival 0) ∷ []
 unfolding read keptRows keptRow
@@ -268,7 +274,7 @@ opening-too-low : rowsOf (row 2 1 1 800 18500 (found 30 400 0 (negsuc 30000)) �
 unfolding read
 opening-too-low = refl
 
-second-heel-too-great : rowsOf (record { head = unlikeSets .head; results = found 0 0 0 (pos 0) ∷ found 0 0 0 (pos 0) ∷ found 0 0 0 (pos 0) ∷ found 0 0 0 (pos 0) ∷ found 0 0 0 (pos 0) ∷ found 0 0 9001 (pos 0) ∷ [] } ∷ []) ≡ refused 7 2
+second-heel-too-great : rowsOf (record { head = unlikeSets .head; results = record { findings = found 0 0 0 (pos 0) ∷ found 0 0 0 (pos 0) ∷ found 0 0 0 (pos 0) ∷ found 0 0 0 (pos 0) ∷ found 0 0 0 (pos 0) ∷ found 0 0 9001 (pos 0) ∷ []; floodings = [] } } ∷ []) ≡ refused 7 2
 unfolding read
 second-heel-too-great = refl
 

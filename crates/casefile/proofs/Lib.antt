@@ -1,5 +1,6 @@
 pub mod LimitExamples
 pub mod Examples
+pub mod PassengerExamples
 pub mod Checks
 pub mod Steps
 pub mod LineJudging
@@ -8,6 +9,7 @@ pub mod Order
 pub mod Words
 pub mod RowKinds
 pub mod RowNumbers
+pub mod RowRecords
 pub mod RowLayout
 pub mod HullLayout
 pub mod Passing

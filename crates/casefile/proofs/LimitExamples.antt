@@ -1,4 +1,4 @@
--- Document 01, "Limits", with its numbers, and document 02's of an opening: what stands on each limit passes, and what stands past it does not. Assumes nothing.
+-- Document 01, "Limits", with its numbers, and document 02's of an opening and of passenger ships: what stands on each limit passes, and what stands past it does not. Assumes nothing.
 use Prim.Native.Nat.{ℕ, _+_, _-_, _*_}
 use mathlib.Core.Path.{_≡_, refl}
 use mathlib.Core.Bool.{Bool, true, false}
@@ -7,11 +7,12 @@ use lib.IntN.{ℤ, pos, negsuc}
 use lib.ListN.{length}
 use Rattle.laws.specs.Lists.{tabulate}
 use Rattle.records.specs.declared.Finding.{Finding}
+use Rattle.records.specs.declared.Flooding.{Flooding}
 use Rattle.records.specs.declared.Hull.{Hull}
 use Rattle.lines.specs.Lines.{lines}
 use Rattle.casefile.specs.declared.Progress.{Progress}
 use Rattle.casefile.specs.Record.{Row}
-use Rattle.casefile.specs.Limits.{between, sizesFit, risingTo, zonesFit, headFits, openingFits, findingFits, findingsFit, rowFits}
+use Rattle.casefile.specs.Limits.{between, sizesFit, risingTo, zonesFit, headFits, openingFits, findingFits, findingsFit, floodingFits, floodingsFit, resultsFit, rowFits}
 use Rattle.casefile.specs.Order.{outOfOrder, leavesOpen, endsOpen}
 use Rattle.casefile.specs.Table.{firstHolds, rowChecks, endChecks}
 use Rattle.casefile.specs.Reading.{refused, begin, start, readFrom, reading}
@@ -26,10 +27,14 @@ UpTo fits high = (fits 0 ≡ true) × (fits high ≡ true) × (fits (high + 1) �
 -- ---- the hull
 
 abbrev hull : ℕ → ℕ → ℕ → ℕ → ℕ → List ℕ → Hull
-hull Ls B ds dl m places = record { length = Ls; breadth = B; deepest = ds; light = dl; zones = m; places = places }
+hull Ls B ds dl m places = record { kind = 1; length = Ls; breadth = B; deepest = ds; light = dl; lifeboats = 0; excess = 0; zones = m; places = places }
 
 abbrev sized : ℕ → ℕ → ℕ → ℕ → Bool
 sized Ls B ds dl = sizesFit (hull Ls B ds dl 1 (0 ∷ Ls ∷ []))
+
+-- a passenger ship, by its length, its breadth, and the persons for whom there are lifeboats and those in excess
+abbrev ferry : ℕ → ℕ → ℕ → ℕ → Bool
+ferry Ls B n e = sizesFit (record { kind = 6; length = Ls; breadth = B; deepest = 6000; light = 4000; lifeboats = n; excess = e; zones = 1; places = 0 ∷ Ls ∷ [] })
 
 -- so many zones of a metre
 abbrev zoned : ℕ → Bool
@@ -48,6 +53,11 @@ pub record Hulls : Type 0 where
   pub fifths : (sized 9900 1600 6000 3995 ≡ true) × (sized 9900 1600 6000 3996 ≡ false)
   pub zones : Between 1 zoned 1 20
   pub bulkheads : (cut 1 9899 ≡ true) × (cut 0 9899 ≡ false) × (cut 4950 4950 ≡ false) × (cut 1 9900 ≡ false)
+  pub ferry-length : Between 1 (λ Ls. ferry Ls 1600 0 0) 2000 19800
+  pub ferry-breadth : Between 2 (λ B. ferry 9900 B 0 0) 400 6000
+  pub ferry-even : ferry 9900 401 0 0 ≡ false
+  pub lifeboats : UpTo (λ n. ferry 9900 1600 n 0) 10000
+  pub excess : UpTo (λ e. ferry 9900 1600 0 e) 10000
 
 pub hulls : Hulls
 unfolding between sizesFit risingTo zonesFit tabulate
@@ -60,6 +70,11 @@ hulls = record {
   fifths = (refl, refl);
   zones = (refl, refl, refl, refl);
   bulkheads = (refl, refl, refl, refl);
+  ferry-length = (refl, refl, refl, refl);
+  ferry-breadth = (refl, refl, refl, refl);
+  ferry-even = refl;
+  lifeboats = (refl, refl, refl);
+  excess = (refl, refl, refl);
 }
 
 -- ---- a row, of a ship of two zones and 16 m breadth
@@ -71,7 +86,7 @@ abbrev pub survival : ℕ → Finding
 survival s = record { lever = 0; range = 0; heel = 0; opening = pos 0; given = s }
 
 abbrev pub row : ℕ → ℕ → ℕ → ℕ → ℕ → Finding → Row
-row kind a n b H r = record { head = record { kind = kind; first = a; count = n; depth = b; height = H }; results = r ∷ r ∷ r ∷ [] }
+row kind a n b H r = record { head = record { kind = kind; first = a; count = n; depth = b; height = H }; results = record { findings = r ∷ r ∷ r ∷ []; floodings = [] } }
 
 abbrev twoZones : Hull
 twoZones = hull 9900 1600 6000 4000 2 (0 ∷ 1500 ∷ 9900 ∷ [])
@@ -85,7 +100,19 @@ resulting r = rowFits twoZones (row 2 1 1 800 18500 r)
 -- in a second set, after a first one that fits
 abbrev seconding : Finding → Finding → Finding → Bool
 seconding r s t =
-    rowFits twoZones (record { head = record { kind = 5; first = 1; count = 1; depth = 800; height = 18500 }; results = found 0 0 0 (pos 0) ∷ found 0 0 0 (pos 0) ∷ found 0 0 0 (pos 0) ∷ r ∷ s ∷ t ∷ [] })
+    rowFits twoZones (record { head = record { kind = 5; first = 1; count = 1; depth = 800; height = 18500 }; results = record { findings = found 0 0 0 (pos 0) ∷ found 0 0 0 (pos 0) ∷ found 0 0 0 (pos 0) ∷ r ∷ s ∷ t ∷ []; floodings = [] } })
+
+-- what a passenger ship's row tells besides, after findings that fit
+abbrev pub flooded : ℕ → ℕ → ℕ → ℕ → ℕ → ℕ → Flooding
+flooded d m g t e o = record { displacement = d; moment = m; lever = g; range = t; heel = e; roro = o }
+
+abbrev flooding : Flooding → Flooding → Flooding → Bool
+flooding u v w =
+    rowFits twoZones (record { head = record { kind = 7; first = 1; count = 1; depth = 800; height = 18500 }; results = record { findings = found 0 0 0 (pos 0) ∷ found 0 0 0 (pos 0) ∷ found 0 0 0 (pos 0) ∷ []; floodings = u ∷ v ∷ w ∷ [] } })
+
+-- at each of the three draughts
+abbrev thrice : Flooding → Bool
+thrice w = flooding w w w
 
 pub record Rows : Type 0 where
   pub first : Between 1 (λ a. placed a 1 800 18500) 1 2
@@ -103,9 +130,18 @@ pub record Rows : Type 0 where
   pub second-lever : seconding (found 5001 0 0 (pos 0)) (found 0 0 0 (pos 0)) (found 0 0 0 (pos 0)) ≡ false
   pub second-range : seconding (found 0 0 0 (pos 0)) (found 0 9001 0 (pos 0)) (found 0 0 0 (pos 0)) ≡ false
   pub second-opening : seconding (found 0 0 0 (pos 0)) (found 0 0 0 (pos 0)) (found 0 0 0 (negsuc 30000)) ≡ false
+  pub displacement : Between 1 (λ d. thrice (flooded d 1 0 0 0 0)) 1 300000
+  pub moment : Between 1 (λ m. thrice (flooded 1 m 0 0 0 0)) 1 2000000
+  pub stage-lever : UpTo (λ g. thrice (flooded 1 1 g 0 0 0)) 5000
+  pub stage-range : UpTo (λ t. thrice (flooded 1 1 0 t 0 0)) 9000
+  pub stage-heel : UpTo (λ e. thrice (flooded 1 1 0 0 e 0)) 9000
+  pub roro : UpTo (λ o. thrice (flooded 1 1 0 0 0 o)) 1
+  pub flooded-deepest : flooding (flooded 300001 1 0 0 0 0) (flooded 1 1 0 0 0 0) (flooded 1 1 0 0 0 0) ≡ false
+  pub flooded-partial : flooding (flooded 1 1 0 0 0 0) (flooded 1 2000001 0 0 0 0) (flooded 1 1 0 0 0 0) ≡ false
+  pub flooded-light : flooding (flooded 1 1 0 0 0 0) (flooded 1 1 0 0 0 0) (flooded 1 1 0 0 0 2) ≡ false
 
 pub rows : Rows
-unfolding between headFits openingFits findingFits findingsFit rowFits
+unfolding between headFits openingFits findingFits findingsFit floodingFits floodingsFit resultsFit rowFits
 rows = record {
   first = (refl, refl, refl, refl);
   count = (refl, refl, refl, refl);
@@ -122,6 +158,15 @@ rows = record {
   second-lever = refl;
   second-range = refl;
   second-opening = refl;
+  displacement = (refl, refl, refl, refl);
+  moment = (refl, refl, refl, refl);
+  stage-lever = (refl, refl, refl);
+  stage-range = (refl, refl, refl);
+  stage-heel = (refl, refl, refl);
+  roro = (refl, refl, refl);
+  flooded-deepest = refl;
+  flooded-partial = refl;
+  flooded-light = refl;
 }
 
 -- ---- the file: how many bytes, how many rows, and the end's count of them
@@ -142,5 +187,5 @@ pub record Files : Type 0 where
   pub counted : (atEnd 2 ≡ 6) × (atEnd 3 ≡ 0) × (atEnd 4 ≡ 6)
 
 pub files : Files
-unfolding reading firstHolds rowChecks endChecks between headFits openingFits findingFits findingsFit rowFits outOfOrder leavesOpen endsOpen
+unfolding reading firstHolds rowChecks endChecks between headFits openingFits findingFits findingsFit floodingFits floodingsFit resultsFit rowFits outOfOrder leavesOpen endsOpen
 files = record { bytes = λ f e. rw e refl; byte-more = λ f e. rw e refl; rows = (refl, refl); counted = (refl, refl, refl) }

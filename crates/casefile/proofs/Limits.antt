@@ -23,7 +23,7 @@ use Rattle.records.specs.Results.{Results}
 use Rattle.casefile.specs.Record.{Row}
 use Rattle.casefile.specs.Limits.{between, shortestShip, narrowestShip, sizesFit, risingTo, zonesFit, headFits, openingFits, findingFits, findingsFit, floodingFits, floodingsFit, resultsFit, rowFits}
 -- checked first, so that a definition that reads a worked file otherwise is refused there
-use Rattle.casefile.proofs.Examples.{printed-accepted}
+use Rattle.casefile.proofs.PassengerExamples.{ferry-accepted}
 
 pub between-is : (low high x : ℕ) → between low high x ≡ true → (low ≤ x) × (x ≤ high)
 unfolding between

@@ -1,19 +1,16 @@
 -- A row's frame and an end's: from bytes to the record and back, and the other way round. Assumes nothing.
-use Prim.Native.Nat.{ℕ, suc, _+_, _*_, _/_, _%_, _≤_, _<_}
+use Prim.Native.Nat.{ℕ, suc, _+_, _*_, _<_}
 use mathlib.Core.Path.{_≡_, refl, sym, _∙_, ap, ap₂}
 use mathlib.Core.Bool.{Bool, true, false, cond, false≢true}
-use mathlib.Core.List.{List, [], _∷_, _++_, append-nil, append-assoc}
-use mathlib.Core.Logic.{inl, inr}
-use native.Mathlib.Nat.{suc-mul}
+use mathlib.Core.List.{List, [], _∷_, _++_, append-nil}
 use native.Mathlib.Omega.{arith}
 use lib.Dec.{eqb, lit<}
-use lib.IntN.{ℤ, pos}
 use lib.ListN.{length, take, drop, length-append, length-drop}
 use lib.Seq.{take-add, take-all, drop-drop}
 use borrow.Author.Tests.{eqb-true}
 use Rattle.laws.specs.Lists.{Every, tabulate}
 use Rattle.laws.specs.Bytes.{Octets, bytes}
-use Rattle.laws.proofs.Lists.{three-of, three-alone, none-of}
+use Rattle.laws.proofs.Lists.{three-of, three-alone, none-of, three-parts}
 use Rattle.laws.proofs.Bytes.{octets-cons, octets-rest, octets-append, two-bytes, bytes-octets}
 use Rattle.laws.proofs.Tests.{holds}
 use Rattle.records.specs.declared.Finding.{Finding}
@@ -21,17 +18,17 @@ use Rattle.records.specs.declared.Flooding.{Flooding}
 use Rattle.records.specs.declared.RowHead.{RowHead}
 use Rattle.records.specs.declared.Hull.{Hull}
 use Rattle.records.specs.Results.{Results}
-use Rattle.fields.specs.Fields.{wordAt, longAt, signed, unsigned}
+use Rattle.fields.specs.Fields.{wordAt}
 use Rattle.fields.proofs.Fields.{octets-drop, bytes-of-word}
-use Rattle.fields.proofs.Signed.{signed-unsigned, unsigned-below}
 use Rattle.casefile.specs.Record.{Row}
 use Rattle.casefile.specs.Limits.{rowFits}
-use Rattle.casefile.specs.Valid.{Formed, found, given, ValidRow}
+use Rattle.casefile.specs.Valid.{Formed, ValidRow}
 use Rattle.casefile.proofs.Words.{words-octets, split-bytes}
-use Rattle.casefile.proofs.RowKinds.{RowKind, one-set, survivals, two-sets, passenger, of-row-kind, of-taken, is-row, small-kind, row-bytes-count}
+use Rattle.casefile.proofs.RowKinds.{RowKind, one-set, survivals, two-sets, passenger, of-row-kind, valid-kind, is-row, small-kind, row-bytes-count}
 use Rattle.casefile.proofs.RowNumbers.{findingWords, findings-written, floodings-written}
+use Rattle.casefile.proofs.RowRecords.{halves, after-set, set-again, floodings-again, findings-length, floodings-length, findings-octets, floodings-octets}
 use Rattle.casefile.proofs.Limits.{Sizes, Zones, Head, Found, Flooded, row-is}
-use Rattle.casefile.specs.Layout.{kindOf, fieldsOf, isRow, isEnd, takes, frameLength, headOf, findingOf, setOf, floodingOf, floodingsOf, resultsOf, resultLength, resultCount, floodingLength, floodingCount, rowOf, countOf, words, findingNumbers, findingBytes, findingsBytes, floodingBytes, floodingsBytes, resultsBytes, rowBytes, endBytes}
+use Rattle.casefile.specs.Layout.{kindOf, fieldsOf, isRow, isEnd, frameLength, headOf, setOf, floodingsOf, resultsOf, resultLength, resultCount, floodingLength, floodingCount, rowOf, countOf, words, findingBytes, findingsBytes, floodingsBytes, resultsBytes, rowBytes, endBytes}
 
 -- a row's frame by its numbers: those of the findings have two bytes each
 written-count : {kind : ℕ} → RowKind kind → frameLength kind ≡ 7 + 2 * findingWords kind + floodingCount kind * floodingLength
@@ -84,47 +81,7 @@ end-bytes-again (x ∷ f) o k e =
     let l : suc (length f) ≡ 3 = rw q at e in
     end-fields-again f (octets-rest x f o) (omega arith) ∙ ap (_∷ f) (sym q)
 
--- ---- from records
-
-halves : (n : ℕ) → n / 256 * 256 + n % 256 ≡ n
-halves n = omega arith
-
--- a record by its fields
-finding-by : (r : Finding) (g t e : ℕ) (o : ℤ) (s : ℕ) → r .lever ≡ g → r .range ≡ t → r .heel ≡ e → r .opening ≡ o → r .given ≡ s → record { lever = g; range = t; heel = e; opening = o; given = s } ≡ r
-finding-by r g t e o s hg ht he ho hs = rw (← hg, ← ht, ← he, ← ho, ← hs) refl
-
-flooding-by : (w : Flooding) (d m g t e o : ℕ) → d ≡ w .displacement → m ≡ w .moment → g ≡ w .lever → t ≡ w .range → e ≡ w .heel → o ≡ w .roro →
-    record { displacement = d; moment = m; lever = g; range = t; heel = e; roro = o } ≡ w
-flooding-by w d m g t e o hd hm hg ht he ho = rw (hd, hm, hg, ht, he, ho) refl
-
--- one draught's result, from there on
-found-again : (kind : ℕ) (r : Finding) (rest : List ℕ) → Found r → eqb kind 3 ≡ false → r .given ≡ 0 → findingOf kind (findingBytes kind r ++ rest) ≡ r
-unfolding findingOf findingBytes wordAt
-found-again kind r rest f k s =
-    rw (
-      k,
-      two-bytes (r .lever) (omega (arith, f .lever)),
-      two-bytes (r .range) (omega (arith, f .range)),
-      two-bytes (r .heel) (omega (arith, f .heel)),
-      two-bytes (unsigned (r .opening)) (unsigned-below (r .opening) (omega (arith, f .opening))),
-    )
-    (finding-by r _ _ _ _ 0 (sym (halves (r .lever))) (sym (halves (r .range))) (sym (halves (r .heel)))
-    (sym (ap signed (halves (unsigned (r .opening))) ∙ signed-unsigned (r .opening) (omega (arith, f .opening)))) s)
-
-finding-again : (kind : ℕ) (r : Finding) (rest : List ℕ) → Found r → Formed kind r → findingOf kind (findingBytes kind r ++ rest) ≡ r
-unfolding findingOf findingBytes wordAt
-finding-again kind r rest f (found (inl k) s) = found-again kind r rest f (rw k refl) s
-finding-again kind r rest f (found (inr (inl k)) s) = found-again kind r rest f (rw k refl) s
-finding-again kind r rest f (found (inr (inr k)) s) = found-again kind r rest f (rw k refl) s
-finding-again kind r rest f (given k g t e o) =
-    rw (k, two-bytes (r .given) (omega (arith, f .given)))
-    (finding-by r 0 0 0 (pos 0) _ g t e o (sym (halves (r .given))))
-
--- and what a passenger ship's row tells besides
-flooding-again : (w : Flooding) (rest : List ℕ) → Flooded w → floodingOf (floodingBytes w ++ rest) ≡ w
-unfolding floodingOf floodingBytes longAt wordAt bytes
-flooding-again w rest f =
-    flooding-by w _ _ _ _ _ _ (omega (arith, f .displacement)) (omega (arith, f .moment)) (omega (arith, f .lever)) (omega (arith, f .range)) (omega (arith, f .heel)) refl
+-- ---- from a record
 
 head-again : (r : Row) → r .head .depth < 65536 → r .head .height < 65536 → headOf (r .head .kind) (fieldsOf (rowBytes r)) ≡ r .head
 unfolding rowBytes headOf wordAt
@@ -134,96 +91,6 @@ head-again r hb hH = rw (two-bytes (r .head .depth) hb, two-bytes (r .head .heig
 results-part : (r : Row) → drop 6 (fieldsOf (rowBytes r)) ≡ resultsBytes (r .head .kind) (r .results)
 unfolding rowBytes bytes
 results-part r = refl
-
--- after a set of three with openings others stand from the thirty-first byte on
-after-set : (kind : ℕ) (x y z : Finding) (rest : List ℕ) → eqb kind 3 ≡ false → drop 24 (findingBytes kind x ++ (findingBytes kind y ++ (findingBytes kind z ++ rest))) ≡ rest
-unfolding findingBytes bytes
-after-set kind x y z rest k = rw k refl
-
-set-part : {kind : ℕ} (x y z : Finding) (rest : List ℕ) → RowKind kind →
-    setOf kind (findingBytes kind x ++ (findingBytes kind y ++ (findingBytes kind z ++ rest)))
-    ≡ findingOf kind (findingBytes kind x ++ (findingBytes kind y ++ (findingBytes kind z ++ rest)))
-    ∷ findingOf kind (findingBytes kind y ++ (findingBytes kind z ++ rest))
-    ∷ findingOf kind (findingBytes kind z ++ rest)
-    ∷ []
-unfolding setOf findingBytes bytes
-set-part x y z rest (one-set k) = rw k refl
-set-part x y z rest (survivals k) = rw k refl
-set-part x y z rest (two-sets k) = rw k refl
-set-part x y z rest (passenger k) = rw k refl
-
-set-again : {kind : ℕ} (x y z : Finding) (rest : List ℕ) → RowKind kind → Every Found (x ∷ y ∷ z ∷ []) → Every (Formed kind) (x ∷ y ∷ z ∷ []) →
-    setOf kind (findingBytes kind x ++ (findingBytes kind y ++ (findingBytes kind z ++ rest))) ≡ x ∷ y ∷ z ∷ []
-set-again {kind} x y z rest k f g =
-    set-part x y z rest k
-    ∙ rw (
-      finding-again kind x (findingBytes kind y ++ (findingBytes kind z ++ rest)) (f .0) (g .0),
-      finding-again kind y (findingBytes kind z ++ rest) (f .1 .0) (g .1 .0),
-      finding-again kind z rest (f .1 .1 .0) (g .1 .1 .0),
-    ) refl
-
-floodings-part : (u v w : Flooding) → floodingsOf (floodingsBytes (u ∷ v ∷ w ∷ []))
-    ≡ floodingOf (floodingBytes u ++ (floodingBytes v ++ (floodingBytes w ++ [])))
-    ∷ floodingOf (floodingBytes v ++ (floodingBytes w ++ []))
-    ∷ floodingOf (floodingBytes w ++ [])
-    ∷ []
-unfolding floodingsOf floodingBytes bytes
-floodings-part u v w = refl
-
-floodings-again : (u v w : Flooding) → Every Flooded (u ∷ v ∷ w ∷ []) → floodingsOf (floodingsBytes (u ∷ v ∷ w ∷ [])) ≡ u ∷ v ∷ w ∷ []
-floodings-again u v w f =
-    floodings-part u v w
-    ∙ rw (
-      flooding-again u (floodingBytes v ++ (floodingBytes w ++ [])) (f .0),
-      flooding-again v (floodingBytes w ++ []) (f .1 .0),
-      flooding-again w [] (f .1 .1 .0),
-    ) refl
-
-three-parts : (a b c rest : List ℕ) → (a ++ (b ++ (c ++ []))) ++ rest ≡ a ++ (b ++ (c ++ rest))
-three-parts a b c rest = rw (append-assoc a (b ++ (c ++ [])) rest, append-assoc b (c ++ []) rest, append-assoc c [] rest) refl
-
--- as many bytes as that
-finding-length : {kind : ℕ} → RowKind kind → (r : Finding) → length (findingBytes kind r) ≡ resultLength kind
-unfolding findingBytes bytes
-finding-length (one-set k) r = rw k refl
-finding-length (survivals k) r = rw k refl
-finding-length (two-sets k) r = rw k refl
-finding-length (passenger k) r = rw k refl
-
-findings-length : {kind : ℕ} → RowKind kind → (rs : List Finding) → length (findingsBytes kind rs) ≡ length rs * resultLength kind
-findings-length k [] = omega arith
-findings-length {kind} k (r ∷ rs) = rw (length-append, suc-mul (length rs) (resultLength kind)) (omega (arith, finding-length k r, findings-length k rs))
-
-flooding-length : (w : Flooding) → length (floodingBytes w) ≡ floodingLength
-unfolding floodingBytes bytes
-flooding-length w = refl
-
-floodings-length : (ws : List Flooding) → length (floodingsBytes ws) ≡ length ws * floodingLength
-floodings-length [] = refl
-floodings-length (w ∷ ws) = rw length-append (omega (arith, flooding-length w, floodings-length ws))
-
--- ---- every byte is one
-
-finding-octets : (kind : ℕ) (r : Finding) → Octets (findingBytes kind r)
-unfolding findingBytes
-finding-octets kind r = words-octets (findingNumbers kind r)
-
-findings-octets : (kind : ℕ) (rs : List Finding) → Octets (findingsBytes kind rs)
-findings-octets kind [] = λ i. lit< tt
-findings-octets kind (r ∷ rs) = octets-append (findingBytes kind r) (findingsBytes kind rs) (finding-octets kind r) (findings-octets kind rs)
-
-flooding-octets : (w : Flooding) → Flooded w → Octets (floodingBytes w)
-unfolding floodingBytes
-flooding-octets w f =
-    let longs : List ℕ = bytes 4 (w .displacement) ++ bytes 4 (w .moment) in
-    let stage : List ℕ = words (w .lever ∷ w .range ∷ w .heel ∷ []) in
-    octets-append (longs ++ stage) (w .roro ∷ [])
-    (octets-append longs stage (octets-append (bytes 4 (w .displacement)) (bytes 4 (w .moment)) (bytes-octets 4 (w .displacement)) (bytes-octets 4 (w .moment))) (words-octets (w .lever ∷ w .range ∷ w .heel ∷ [])))
-    (octets-cons (w .roro) [] (omega (arith, f .roro)) (λ i. lit< tt))
-
-floodings-octets : (ws : List Flooding) → Every Flooded ws → Octets (floodingsBytes ws)
-floodings-octets [] f = λ i. lit< tt
-floodings-octets (w ∷ ws) f = octets-append (floodingBytes w) (floodingsBytes ws) (flooding-octets w (f .0)) (floodings-octets ws (f .1))
 
 pub end-octets : (count : ℕ) → Octets (endBytes count)
 unfolding endBytes
@@ -247,8 +114,8 @@ module _ (h : Hull) (r : Row) (s : Sizes h) (z : Zones h) (v : ValidRow h r) whe
   fits : Head h (r .head) × Every Found findings × Every Flooded floodings
   fits = row-is h r (holds (rowFits h r) (v .limits))
 
-  pub of-kind : RowKind kind
-  of-kind = of-taken (h .kind) kind (holds (takes (h .kind) kind) (v .taken))
+  of-kind : RowKind kind
+  of-kind = valid-kind h r v
 
   -- a set of three findings, and what stands after it
   set-first : (x y z : Finding) → findings ≡ x ∷ y ∷ z ∷ [] → drop 6 fields ≡ findingBytes kind x ++ (findingBytes kind y ++ (findingBytes kind z ++ floodingsBytes floodings))

@@ -7,18 +7,17 @@ use native.Mathlib.Nat.{add-zero}
 use native.Mathlib.Omega.{arith}
 use lib.Dec.{eqb}
 use lib.IntN.{pos}
-use lib.ListN.{length, getD, take, drop, length-drop}
-use lib.Seq.{take-add, take-all, getD-drop, drop-drop}
-use Rattle.laws.specs.Bytes.{Octets, bytes}
+use lib.ListN.{length, take, drop, length-drop}
+use lib.Seq.{take-add, getD-drop, drop-drop}
+use Rattle.laws.specs.Bytes.{Octets}
 use Rattle.laws.specs.Lists.{tabulate}
 use Rattle.laws.proofs.Lists.{tabulate-same, tabulate-add}
 use Rattle.records.specs.declared.Finding.{Finding}
-use Rattle.records.specs.declared.Flooding.{Flooding}
-use Rattle.fields.specs.Fields.{byteAt, wordAt, longAt, signedAt, unsigned}
+use Rattle.fields.specs.Fields.{wordAt, signedAt, unsigned}
 use Rattle.fields.proofs.Fields.{octets-drop, word-below, word-drop, bytes-of-word}
 use Rattle.fields.proofs.Long.{long-drop, bytes-of-long}
 use Rattle.fields.proofs.Signed.{unsigned-signed}
-use Rattle.casefile.specs.Layout.{resultLength, findingOf, setOf, floodingOf, floodingsOf, resultsOf, findingNumbers, findingsNumbers, floodingNumbers, floodingsNumbers, resultNumbers, words, findingBytes, findingsBytes, floodingBytes, floodingsBytes, resultsBytes}
+use Rattle.casefile.specs.Layout.{resultLength, findingOf, setOf, floodingOf, floodingsOf, resultsOf, findingNumbers, findingsNumbers, floodingNumbers, floodingsNumbers, resultNumbers, words, findingBytes, findingsBytes, floodingBytes, floodingsBytes}
 use Rattle.casefile.specs.Answer.{besides}
 use Rattle.casefile.proofs.Words.{words-append, words-again, front-bytes}
 use Rattle.casefile.proofs.RowKinds.{RowKind, one-set, survivals, two-sets, passenger}

@@ -6,8 +6,8 @@ use native.Mathlib.Nat.{le-of-suc-le-suc}
 use native.Mathlib.Numerals.{add-one}
 use native.Mathlib.Omega.{arith}
 use lib.Dec.{lit<}
-use lib.ListN.{length, getD, take, drop}
-use lib.Seq.{append-snoc, take-suc, take-add, drop-cons, ext-getD}
+use lib.ListN.{length, getD, take, drop, take-append-drop}
+use lib.Seq.{take-suc, take-add, drop-cons, ext-getD}
 use Rattle.laws.specs.Lists.{tabulate}
 use Rattle.laws.specs.Bytes.{Octets, bytes}
 use Rattle.laws.proofs.Lists.{length-tabulate, getD-tabulate, length-part, getD-part}
@@ -50,17 +50,13 @@ words-octets [] = λ i. lit< tt
 words-octets (n ∷ ns) = octets-append (bytes 2 n) (words ns) (bytes-octets 2 n) (words-octets ns)
 
 -- the first n bytes of a list, one by one, and the rest
-pub split-bytes : (bs : List ℕ) (n : ℕ) → n ≤ length bs → bs ≡ tabulate (λ i. getD bs i 0) n ++ drop n bs
-unfolding tabulate
-split-bytes bs zero h = refl
-split-bytes bs (suc n) h =
-    split-bytes bs n (omega arith)
-    ∙ rw (drop-cons bs n 0 h) (sym (append-snoc (tabulate (λ i. getD bs i 0) n) (getD bs n 0) (drop (suc n) bs)))
-
 pub front-bytes : (bs : List ℕ) (n : ℕ) → n ≤ length bs → take n bs ≡ tabulate (λ i. getD bs i 0) n
 unfolding tabulate
 front-bytes bs zero h = refl
 front-bytes bs (suc n) h = take-suc bs n 0 h ∙ ap (_++ getD bs n 0 ∷ []) (front-bytes bs n (omega arith))
+
+pub split-bytes : (bs : List ℕ) (n : ℕ) → n ≤ length bs → bs ≡ tabulate (λ i. getD bs i 0) n ++ drop n bs
+split-bytes bs n h = sym (take-append-drop n bs) ∙ ap (_++ drop n bs) (front-bytes bs n h)
 
 -- a part of a table
 pub part-of-table : {A : Type 0} (d : A) (g : ℕ → A) (a n N : ℕ) → a + n ≤ N → take n (drop a (tabulate g N)) ≡ tabulate (λ i. g (a + i)) n

@@ -52,6 +52,9 @@ module _ {A : Type 0} where
   pub three-alone : (xs : List A) → length xs ≡ 3 → (x : A) × (y : A) × (z : A) × (xs ≡ x ∷ y ∷ z ∷ [])
   three-alone xs e = let (x, y, z, rest, d, n) = three-of xs 0 e in (x, y, z, d ∙ ap (λ t. x ∷ y ∷ z ∷ t) (none-of rest n))
 
+  pub three-parts : (a b c rest : List A) → (a ++ (b ++ (c ++ []))) ++ rest ≡ a ++ (b ++ (c ++ rest))
+  three-parts a b c rest = rw (append-assoc a (b ++ (c ++ [])) rest, append-assoc b (c ++ []) rest, append-assoc c [] rest) refl
+
   pub three-same : {a b c a′ b′ c′ : A} → a ≡ a′ → b ≡ b′ → c ≡ c′ → _≡_ {A = List A} (a ∷ b ∷ c ∷ []) (a′ ∷ b′ ∷ c′ ∷ [])
   three-same p q r = rw (p, q, r) refl
 

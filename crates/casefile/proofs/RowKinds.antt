@@ -2,17 +2,15 @@
 use Prim.Native.Nat.{ℕ, _+_, _*_, _<_}
 use mathlib.Core.Path.{_≡_, refl, sym, _∙_}
 use mathlib.Core.Bool.{Bool, true, false, cond, _||_, true≢false}
-use mathlib.Core.List.{List, [], _∷_}
-use mathlib.Core.Logic.{_⊎_, inl, inr, ⊎-elim}
+use mathlib.Core.Logic.{⊎-elim}
 use native.Mathlib.Omega.{arith}
 use lib.Dec.{eqb}
-use lib.ListN.{length}
 use borrow.Author.Tests.{eqb-true}
-use Rattle.laws.specs.Lists.{Every}
-use Rattle.laws.proofs.Tests.{one-holds}
-use Rattle.records.specs.declared.Finding.{Finding}
+use Rattle.laws.proofs.Tests.{one-holds, holds}
+use Rattle.records.specs.declared.Hull.{Hull}
+use Rattle.casefile.specs.Record.{Row}
 use Rattle.casefile.specs.Layout.{isRow, isEnd, takes, frameLength, resultLength, resultCount, floodingLength, floodingCount}
-use Rattle.casefile.specs.Valid.{Formed, found, given}
+use Rattle.casefile.specs.Valid.{ValidRow}
 -- checked first, so that a definition that reads a worked file otherwise is refused there
 use Rattle.casefile.proofs.PassengerExamples.{ferry-accepted}
 
@@ -79,21 +77,6 @@ row-bytes-count (survivals k) = rw k refl
 row-bytes-count (two-sets k) = rw k refl
 row-bytes-count (passenger k) = rw k refl
 
--- a row with results has the kind that they are formed by
-formed-one : {kind : ℕ} {r : Finding} → Formed kind r → RowKind kind
-formed-one (found (inl k) g) = one-set k
-formed-one (found (inr (inl k)) g) = two-sets k
-formed-one (found (inr (inr k)) g) = passenger k
-formed-one (given k a b c d) = survivals k
-
-pub formed-kind : {kind : ℕ} (rs : List Finding) → 0 < length rs → Every (Formed kind) rs → RowKind kind
-formed-kind [] l f = absurd (omega arith)
-formed-kind (r ∷ rs) l (f, fs) = formed-one f
-
--- there are results
-pub some-results : (kind : ℕ) → 0 < resultCount kind
-some-results kind = by (eqb kind 5)
-  where
-    by : (t : Bool) → 0 < cond t 6 3
-    by true = omega arith
-    by false = omega arith
+-- a valid row's kind
+pub valid-kind : (h : Hull) (r : Row) → ValidRow h r → RowKind (r .head .kind)
+valid-kind h r v = of-taken (h .kind) (r .head .kind) (holds (takes (h .kind) (r .head .kind)) (v .taken))

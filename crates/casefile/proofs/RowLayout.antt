@@ -24,11 +24,11 @@ use Rattle.casefile.specs.Record.{Row}
 use Rattle.casefile.specs.Limits.{rowFits}
 use Rattle.casefile.specs.Valid.{Formed, ValidRow}
 use Rattle.casefile.proofs.Words.{words-octets, split-bytes}
-use Rattle.casefile.proofs.RowKinds.{RowKind, one-set, survivals, two-sets, passenger, of-row-kind, of-taken, is-row, small-kind, row-bytes-count}
+use Rattle.casefile.proofs.RowKinds.{RowKind, one-set, survivals, two-sets, passenger, of-row-kind, valid-kind, is-row, small-kind, row-bytes-count}
 use Rattle.casefile.proofs.RowNumbers.{findingWords, findings-written, floodings-written}
 use Rattle.casefile.proofs.RowRecords.{halves, after-set, set-again, floodings-again, findings-length, floodings-length, findings-octets, floodings-octets}
 use Rattle.casefile.proofs.Limits.{Sizes, Zones, Head, Found, Flooded, row-is}
-use Rattle.casefile.specs.Layout.{kindOf, fieldsOf, isRow, isEnd, takes, frameLength, headOf, setOf, floodingsOf, resultsOf, resultLength, resultCount, floodingLength, floodingCount, rowOf, countOf, words, findingBytes, findingsBytes, floodingsBytes, resultsBytes, rowBytes, endBytes}
+use Rattle.casefile.specs.Layout.{kindOf, fieldsOf, isRow, isEnd, frameLength, headOf, setOf, floodingsOf, resultsOf, resultLength, resultCount, floodingLength, floodingCount, rowOf, countOf, words, findingBytes, findingsBytes, floodingsBytes, resultsBytes, rowBytes, endBytes}
 
 -- a row's frame by its numbers: those of the findings have two bytes each
 written-count : {kind : ℕ} → RowKind kind → frameLength kind ≡ 7 + 2 * findingWords kind + floodingCount kind * floodingLength
@@ -114,8 +114,8 @@ module _ (h : Hull) (r : Row) (s : Sizes h) (z : Zones h) (v : ValidRow h r) whe
   fits : Head h (r .head) × Every Found findings × Every Flooded floodings
   fits = row-is h r (holds (rowFits h r) (v .limits))
 
-  pub of-kind : RowKind kind
-  of-kind = of-taken (h .kind) kind (holds (takes (h .kind) kind) (v .taken))
+  of-kind : RowKind kind
+  of-kind = valid-kind h r v
 
   -- a set of three findings, and what stands after it
   set-first : (x y z : Finding) → findings ≡ x ∷ y ∷ z ∷ [] → drop 6 fields ≡ findingBytes kind x ++ (findingBytes kind y ++ (findingBytes kind z ++ floodingsBytes floodings))

@@ -26,7 +26,7 @@ module _ (kept : List ℕ) (i kind : ℕ) (k : kind ≡ keptRow kept i .head .ki
 
   -- a passenger ship's has three results and no more
   alone : kind ≡ 7 → take 3 (keptRow kept i .results .findings) ≡ keptRow kept i .results .findings
-  unfolding keptRow resultsOf setOf
+  unfolding keptRow headOf resultsOf setOf
   alone seven = rw (← k, seven) refl
 
   pub of-passengers : {floodings : List Flooding} {ss : List Survival} → kind ≡ 7 → floodings ≡ keptRow kept i .results .floodings →

@@ -24,7 +24,8 @@ part-after-requires c κs =
 survivals-at-requires : tie.Need-survivals-at-requires
 survivals-at-requires c κs =
     let read = c .before .before .before .before .before .before in
-    (read .before .before .before .pre .2, ap (λ (h : RowHead). h .kind) (read .head-at .ensures))
+    let r = read .before .before .before in
+    (r .pre .2, ap (λ (h : RowHead). h .kind) (read .head-at .ensures), r .pre .4)
 
 row-requires : tie.Need-row-requires
 row-requires c κs =

@@ -17,7 +17,8 @@ use Rattle.solas.proofs.Passengers.{is-final⁴, is-intermediate⁴, is-sMom, i
 use Rattle.numbers.proofs.Ratios.{ratio-positive}
 use Rattle.moments.specs.Held.{Rooted, Held}
 use Rattle.moments.proofs.Rooted.{rooted-exactly, top-at-most-one}
-use Rattle.moments.proofs.Held.{power-positive, final-rooted, held-rounded}
+use Rattle.moments.proofs.Against.{power-positive}
+use Rattle.moments.proofs.Defined.{final-rooted, held-rounded}
 use Rattle.survival.specs.Parts.{InParts, parts}
 use Rattle.survival.specs.Survival.{root, ends, fourthPower, scaledOf, roundedOf}
 use Rattle.survival.specs.Passengers.{intOf, finalOf, momOf}

@@ -9,7 +9,7 @@ ghost use Rattle.casefile.specs.Reading.{reading};
 ghost use Rattle.printing.specs.Marks.{markByte};
 ghost use Rattle.survival.specs.Survival.{survivalOf};
 
-pub mod passengers; // a passenger ship's survival
+pub mod ferry; // a passenger ship's survival
 pub mod shares; // rows' shares by the one span table
 
 // The bottom of a result's survival.

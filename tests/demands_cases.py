@@ -5,7 +5,7 @@ from fractions import Fraction
 from typing import NamedTuple, Optional, Tuple
 
 from independent.letters import R
-from independent.writing import given_row, hull_line, lever_row, two_sets_row, whole_file
+from independent.writing import given_row, hull_line, lever_row, passenger_hull_line, passenger_row, two_sets_row, whole_file
 
 MOST_ROWS = 500
 ABOVE_DEEPEST = 12_500
@@ -13,12 +13,14 @@ HIGHEST = 60_000
 
 
 class Height(NamedTuple):
-    """One row of a layer: its H, and three results (lever, range, heel, opening), with a second set of three or without, or three given survivals."""
+    """One row of a layer: its H, and three results (lever, range, heel, opening), with a second set of three or without, or three given survivals; in a
+    passenger ship three results and three stages (displacement, moment, lever, range, heel, ro-ro mark)."""
 
     H: int
     results: Optional[Tuple[Tuple[int, int, int, int], ...]] = None
     given: Optional[Tuple[int, int, int]] = None
     second: Optional[Tuple[Tuple[int, int, int, int], ...]] = None
+    stages: Optional[Tuple[Tuple[int, int, int, int, int, int], ...]] = None
 
 
 class Layer(NamedTuple):
@@ -37,7 +39,7 @@ class Group(NamedTuple):
 
 
 class Ship(NamedTuple):
-    """A case as it was drawn, with a name to find it again."""
+    """A case as it was drawn, with a name to find it again; a passenger ship has persons in lifeboats and in excess."""
 
     name: str
     L: int
@@ -46,6 +48,7 @@ class Ship(NamedTuple):
     dl: int
     bulkheads: Tuple[int, ...]
     groups: Tuple[Group, ...]
+    persons: Optional[Tuple[int, int]] = None
 
     @property
     def places(self):
@@ -60,22 +63,28 @@ def line_of(head, height):
     """The line of a row, of whichever kind it is."""
     if height.given:
         return given_row(*head, height.given)
+    if height.stages:
+        return passenger_row(*head, height.results, height.stages)
     return two_sets_row(*head, height.results, height.second) if height.second else lever_row(*head, height.results)
 
 
 def file_of_ship(ship):
     """The case file of a drawn ship."""
     lines = [line_of((group.a, group.n, layer.b, height.H), height) for group in ship.groups for layer in group.layers for height in layer.heights]
-    return whole_file(hull_line(ship.L, ship.B, ship.ds, ship.dl, ship.bulkheads), lines)
+    if ship.persons is None:
+        return whole_file(hull_line(ship.L, ship.B, ship.ds, ship.dl, ship.bulkheads), lines)
+    return whole_file(passenger_hull_line(ship.L, ship.B, ship.ds, ship.dl, ship.persons, ship.bulkheads), lines)
+
+
+def with_heights(ship, changed):
+    """The ship with each row of its layers changed."""
+    groups = (group._replace(layers=tuple(layer._replace(heights=tuple(map(changed, layer.heights))) for layer in group.layers)) for group in ship.groups)
+    return ship._replace(groups=tuple(groups))
 
 
 def with_one_set(ship, of):
     """The ship with the first or the second set alone wherever a row has two."""
-    def one(height):
-        return height._replace(results=(height.results, height.second)[of], second=None) if height.second else height
-
-    groups = (group._replace(layers=tuple(layer._replace(heights=tuple(map(one, layer.heights))) for layer in group.layers)) for group in ship.groups)
-    return ship._replace(groups=tuple(groups))
+    return with_heights(ship, lambda height: height._replace(results=(height.results, height.second)[of], second=None) if height.second else height)
 
 
 # Random ships
@@ -93,7 +102,7 @@ def random_bulkheads(chooser, L, m):
         return tuple(L * i // m + chooser.randint(-20, 20) for i in range(1, m))
     if way == 1:
         return tuple(sorted(chooser.sample(range(1, L), m - 1)))
-    width = chooser.choice((40, 400, 4_000))
+    width = min(chooser.choice((40, 400, 4_000)), L // 2)
     start = chooser.choice((1, L - width, chooser.randint(1, L - width)))
     return tuple(sorted(chooser.sample(range(start, start + width), m - 1)))
 
@@ -185,27 +194,42 @@ def random_height(chooser, L, H, way, two_sets):
     return Height(H, results=tuple(random_result(chooser, L, way) for _ in range(3)))
 
 
-def random_layer(chooser, L, ds, b, count, way, two_sets):
+def random_layer(chooser, ds, b, count, height_at):
     """A layer of so many rows, the last one at the top or above."""
     top = ds + ABOVE_DEEPEST
     below = sorted(chooser.sample(range(1, top), count - 1))
     last = edge_or_any(chooser, (top, top + 1, HIGHEST), top, HIGHEST)
-    return Layer(b, tuple(random_height(chooser, L, H, way, two_sets) for H in (*below, last)))
+    return Layer(b, tuple(height_at(H) for H in (*below, last)))
+
+
+def random_draughts(chooser):
+    """The deepest and the light draught."""
+    ds = edge_or_any(chooser, (1_000, 30_000), 1_000, 30_000)
+    return ds, ds - 5 * edge_or_any(chooser, (0, (ds - 500) // 5), 0, (ds - 500) // 5)
+
+
+def random_zones(chooser, L):
+    """The bulkheads, and the groups to list."""
+    bulkheads = random_bulkheads(chooser, L, chooser.choice((1, 2, 3, 3, 4, 5, 6, 7, 8, 10, 12, 20)))
+    return bulkheads, random_groups(chooser, (0, *bulkheads, L))
 
 
 def random_ship(seed, number):
-    """The random ship of this number under this seed."""
+    """The random cargo ship of this number under this seed."""
     chooser = random.Random(f"{seed}/{number}")
     L = edge_or_any(chooser, (8_000, 9_900, 10_000, 10_001, 10_400, 19_800), 8_000, 19_800)
     B = 2 * edge_or_any(chooser, (500, 3_000), 500, 3_000)
-    ds = edge_or_any(chooser, (1_000, 30_000), 1_000, 30_000)
-    dl = ds - 5 * edge_or_any(chooser, (0, (ds - 500) // 5), 0, (ds - 500) // 5)
-    m = chooser.choice((1, 2, 3, 3, 4, 5, 6, 7, 8, 10, 12, 20))
-    bulkheads = random_bulkheads(chooser, L, m)
-    chosen = random_groups(chooser, (0, *bulkheads, L))
+    ds, dl = random_draughts(chooser)
+    bulkheads, chosen = random_zones(chooser, L)
     way = chooser.choice(("any", "good", "good", "near", "edges", "given"))
     two_sets = chooser.choice((0, 0, 1, 3))
-    spare = MOST_ROWS - len(chosen) if chooser.randrange(7) == 0 else chooser.randint(0, 40)
+    groups = random_rows(chooser, chosen, B, ds, MOST_ROWS, lambda H: random_height(chooser, L, H, way, two_sets))
+    return Ship(f"random {seed}/{number}", L, B, ds, dl, bulkheads, groups)
+
+
+def random_rows(chooser, chosen, B, ds, most_rows, height_at):
+    """The chosen groups with their layers and rows, each row as it is drawn for its height."""
+    spare = most_rows - len(chosen) if chooser.randrange(7) == 0 else chooser.randint(0, 40)
     most_layers, most_heights = chooser.choice(((1, 1), (2, 1), (3, 2), (2, 4), (8, 8)))
     groups = []
     for a, n in chosen:
@@ -215,9 +239,9 @@ def random_ship(seed, number):
         for b in (*depths, B // 2):
             more = min(chooser.randint(1, most_heights) - 1, spare)
             spare -= more
-            layers.append(random_layer(chooser, L, ds, b, more + 1, way, two_sets))
+            layers.append(random_layer(chooser, ds, b, more + 1, height_at))
         groups.append(Group(a, n, tuple(layers)))
-    return Ship(f"random {seed}/{number}", L, B, ds, dl, bulkheads, tuple(groups))
+    return tuple(groups)
 
 
 # Ships built by hand

@@ -11,6 +11,7 @@ ROOT_SCALE = 10**24
 WEIGHTS = (Fraction(2, 5), Fraction(2, 5), Fraction(1, 5))
 BEST = (Fraction(5), Fraction(90), Fraction(0), Fraction(30))        # the best lever, range, heel and opening that a result may have
 CAPS = (Fraction(12, 100), Fraction(16), Fraction(25), Fraction(0))  # those from which on they leave survival as it is
+PASSENGER_CAPS = {0: (Fraction(12, 100), Fraction(16), Fraction(7), Fraction(0)), 1: (Fraction(20, 100), Fraction(20), Fraction(7), Fraction(0))}
 
 
 class Bracket(NamedTuple):
@@ -22,16 +23,24 @@ class Bracket(NamedTuple):
 
 class Held(NamedTuple):
     """Of lever, range, heel and opening, which keep survival below one beside the best others, and which make it one when brought to their cap;
-    and whether it is one."""
+    and whether it is one. In a passenger ship all this is said of s-final; an intermediate stage or a heeling moment may hold survival down beside them."""
 
     by: Tuple[bool, bool, bool, bool]
     mended: Tuple[bool, bool, bool, bool]
     is_one: bool
+    elsewhere: bool = False
+
+
+class Parts(NamedTuple):
+    """Of a passenger ship's survival at a draught, what decides it and where s-mom lies, in words."""
+
+    decided_by: str
+    moment: str
 
 
 class Exact(NamedTuple):
-    """Row shares, chances by draught, A, As, Ap, Al and their marks, each row's survivals, what holds them down and which of two sets is lower, and
-    whether every exposed group is listed."""
+    """Row shares, chances by draught, A, As, Ap, Al and their marks, each row's survivals, what holds them down, which of two sets is lower and what
+    decides a passenger ship's, and whether every exposed group is listed."""
 
     shares: Tuple[Fraction, ...]
     chances: Tuple[Fraction, ...]
@@ -40,6 +49,7 @@ class Exact(NamedTuple):
     survivals: Tuple[Tuple[Bracket, ...], ...]
     held: Tuple[Tuple[Optional[Held], ...], ...]
     lower: Tuple[Tuple[Optional[str], ...], ...]
+    parts: Tuple[Tuple[Optional[Parts], ...], ...]
     all_listed: bool
 
 
@@ -102,6 +112,8 @@ def survival(height, draught):
     if height.given:
         given = Fraction(height.given[draught], 10_000)
         return Bracket(given, given)
+    if height.stages:
+        return passenger_survival(height.results[draught], height.stages[draught])
     roots = [root(results[draught]) for results in (height.results, height.second) if results]
     return Bracket(min(one.low for one in roots), min(one.high for one in roots))
 
@@ -118,6 +130,8 @@ def held(height, draught):
     """What holds a row's survival down at one draught, in its second set where that is lower; None where it is given."""
     if height.given:
         return None
+    if height.stages:
+        return passenger_holding(height.results[draught], height.stages[draught])
     results = height.second if lower(height, draught) == "the second" else height.results
     return holding(results[draught])
 
@@ -125,10 +139,67 @@ def held(height, draught):
 @lru_cache(maxsize=None)
 def holding(result):
     """What holds the survival of a result down."""
-    numbers = in_metres(result)
+    return held_by(in_metres(result), letters.s_fourth, CAPS)
+
+
+def held_by(numbers, fourth, caps):
+    """What holds an s⁴ of four numbers down."""
     alone = [BEST[:at] + numbers[at:at + 1] + BEST[at + 1:] for at in range(4)]
-    brought = [numbers[:at] + CAPS[at:at + 1] + numbers[at + 1:] for at in range(4)]
-    return Held(tuple(letters.s_fourth(*one) < 1 for one in alone), tuple(letters.s_fourth(*one) == 1 for one in brought), s_fourth(result) == 1)
+    brought = [numbers[:at] + caps[at:at + 1] + numbers[at + 1:] for at in range(4)]
+    return Held(tuple(fourth(*one) < 1 for one in alone), tuple(fourth(*one) == 1 for one in brought), fourth(*numbers) == 1)
+
+
+# Passenger ships
+
+
+def dry_final_fourth(lever, reach, heel, opening, roro):
+    """s-final⁴, or nothing where the opening is immersed (002, 2.7.6.2.3)."""
+    return Fraction(0) if opening < 0 else letters.s_final_fourth(lever, reach, heel, roro)
+
+
+def factors(result, stage):
+    """s-intermediate⁴, s-final⁴ and s-mom."""
+    displacement, moment, *between, roro = stage
+    lever, reach, heel, opening = in_metres(result)
+    early = letters.s_intermediate_fourth(*in_metres((*between, 0))[:3])
+    return early, dry_final_fourth(lever, reach, heel, opening, roro), letters.s_mom(lever, displacement, moment)
+
+
+@lru_cache(maxsize=None)
+def passenger_survival(result, stage):
+    """The exact survival: the lesser of one root and of another times s-mom."""
+    early, final, moment = factors(result, stage)
+    early, final = fourth_root(early), fourth_root(final)
+    return Bracket(min(early.low, final.low * moment), min(early.high, final.high * moment)) if result[3] >= 0 else Bracket(Fraction(0), Fraction(0))
+
+
+@lru_cache(maxsize=None)
+def passenger_holding(result, stage):
+    """What holds s-final down, and whether another factor is below one too."""
+    early, _, moment = factors(result, stage)
+    return held_by(in_metres(result), lambda *numbers: dry_final_fourth(*numbers, stage[5]), PASSENGER_CAPS[stage[5]])._replace(elsewhere=early < 1 or moment < 1)
+
+
+def parts(height, draught):
+    """What decides a passenger ship's survival at one draught; None in a cargo ship."""
+    if not height.stages:
+        return None
+    early, final, moment = factors(height.results[draught], height.stages[draught])
+    late = final * moment**4
+    decided_by = "the intermediate stage" if early < late else "the final stage" if late < early else "both alike"
+    return Parts(decided_by, "nothing" if moment == 0 else "one" if moment == 1 else "between")
+
+
+def index_marks(ship):
+    """What A, As, Ap and Al must reach."""
+    if ship.persons is None:
+        required, part = letters.R(Fraction(ship.L, 100)), Fraction(1, 2)
+    else:
+        required, part = letters.passenger_R(Fraction(ship.L, 100), *ship.persons), Fraction(9, 10)
+    return (required, required * part, required * part, required * part)
+
+
+# The whole ship
 
 
 def chance_of_height(H, below, draught):
@@ -149,7 +220,7 @@ def exact_figures(ship):
     spans = Spans(ship)
     ds, dl = Fraction(ship.ds), Fraction(ship.dl)
     draughts = (ds, dl + 3 * (ds - dl) / 5, dl)
-    shares, survivals, helds, lowers = [], [], [], []
+    shares, survivals, helds, lowers, decided = [], [], [], [], []
     chances, lows, highs = [Fraction(0)] * 3, [Fraction(0)] * 3, [Fraction(0)] * 3
     for group in ship.groups:
         b_before = 0
@@ -162,6 +233,7 @@ def exact_figures(ship):
                 survivals.append(tuple(survival(height, draught) for draught in range(3)))
                 helds.append(tuple(held(height, draught) for draught in range(3)))
                 lowers.append(tuple(lower(height, draught) for draught in range(3)))
+                decided.append(tuple(parts(height, draught) for draught in range(3)))
                 for j, (draught, exact) in enumerate(zip(draughts, survivals[-1])):
                     chance = share * chance_of_height(height.H, below, draught)
                     chances[j] += chance
@@ -172,7 +244,6 @@ def exact_figures(ship):
     attained = Bracket(
         sum(weight * partial.low for weight, partial in zip(WEIGHTS, partials)),
         sum(weight * partial.high for weight, partial in zip(WEIGHTS, partials)))
-    required = letters.R(Fraction(ship.L, 100))
     return Exact(
-        tuple(shares), tuple(chances), (attained, *partials), (required, required / 2, required / 2, required / 2),
-        tuple(survivals), tuple(helds), tuple(lowers), every_exposed_group_is_listed(ship, spans))
+        tuple(shares), tuple(chances), (attained, *partials), index_marks(ship),
+        tuple(survivals), tuple(helds), tuple(lowers), tuple(decided), every_exposed_group_is_listed(ship, spans))

@@ -43,7 +43,7 @@ READ = [
     ("a ship with no persons is refused", CROWDED, CROWDED + " and persons != (0, 0)"),
     ("persons are judged after the zones", "    if not within:\n",
      "    if not within and (not passengers or max(persons) <= MOST_PERSONS or 1 <= frame[count_at] <= MOST_ZONES):\n"),
-    ("the zone count stands before the persons", "count_at = 13 if passengers else 9", "count_at = 9"),
+    ("the zone count is read where a cargo ship has it", "m = frame[count_at]", "m = frame[9]"),
     ("persons in lifeboats and in excess change places", PERSONS, "(two_bytes(frame, 11), two_bytes(frame, 9))"),
     ("persons in excess are those in lifeboats", PERSONS, "(two_bytes(frame, 9), two_bytes(frame, 9))"),
     # Limits of a row

@@ -20,7 +20,7 @@ use Rattle.fields.specs.Fields.{byteAt, wordAt}
 use Rattle.frames.proofs.CodeDecoding.{well-written, byte-stored}
 use Rattle.casefile.specs.declared.FirstLine.{FirstLine}
 use Rattle.casefile.specs.declared.Frame.{Frame}
-use Rattle.casefile.specs.Layout.{kindOf, fieldsOf, isHull, personsLength, hullLength, shortestHull, placeOf, hullOf}
+use Rattle.casefile.specs.Layout.{kindOf, fieldsOf, isHull, personsLength, hullLength, shortestHull, placeOf, placesOf, hullOf}
 use Rattle.casefile.specs.Limits.{between, sizesFit, zonesFit}
 use Rattle.casefile.specs.Table.{firstHolds, wrongHullFrame, wrongZones, hullChecks}
 use Rattle.casefile.specs.Answer.{noHull, givenFirst, refusedFirst, firstJudged}
@@ -92,13 +92,14 @@ module _ (f g : List ℕ) (same : (i : ℕ) → i < 53 → getD f i 0 ≡ getD g
   unfolding placeOf
   place-same from m L k l h = rw (word-same (from + 2 * k) (omega arith)) refl
 
+  places-same : (from m L : ℕ) → from ≤ 11 → placesOf (λ i. wordAt f (from + 2 * i)) m L ≡ placesOf (λ i. wordAt g (from + 2 * i)) m L
+  places-same from m L l = tabulate-same (placeOf (λ i. wordAt f (from + 2 * i)) m L) (placeOf (λ i. wordAt g (from + 2 * i)) m L) 21 (λ k. place-same from m L k l)
+
   pub hull-same : (kind : ℕ) → hullOf kind f ≡ hullOf kind g
   unfolding hullOf
   hull-same kind =
-      let p : ℕ = personsLength kind in
-      let zones : byteAt f (8 + p) ≡ byteAt g (8 + p) = same (8 + p) (omega (arith, few-more kind)) in
-      let places = tabulate-same (placeOf (λ i. wordAt f (7 + p + 2 * i)) (byteAt g (8 + p)) (wordAt g 0)) (placeOf (λ i. wordAt g (7 + p + 2 * i)) (byteAt g (8 + p)) (wordAt g 0)) 21
-          (λ k. place-same (7 + p) (byteAt g (8 + p)) (wordAt g 0) k (omega (arith, few-more kind))) in
+      let more : ℕ = personsLength kind in
+      let few : more ≤ 4 = few-more kind in
       rw (
         word-same 0 (omega arith),
         word-same 2 (omega arith),
@@ -106,8 +107,8 @@ module _ (f g : List ℕ) (same : (i : ℕ) → i < 53 → getD f i 0 ≡ getD g
         word-same 6 (omega arith),
         word-same 8 (omega arith),
         word-same 10 (omega arith),
-        zones,
-        places,
+        same (8 + more) (omega arith),
+        places-same (7 + more) (byteAt g (8 + more)) (wordAt g 0) (omega arith),
       )
       refl
 

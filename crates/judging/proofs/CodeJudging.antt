@@ -90,10 +90,13 @@ module _ (kind : ℕ) (f : List ℕ) (x : List Finding) (a : Bool) (e : x ≡ se
   unfolding resultsOf resultsFit floodingsFit
   one-set-fits k l = rw (ne-eqb kind 5 k, ne-eqb kind 7 l, append-nil (setOf kind (drop 6 f)), and-true (findingsFit (setOf kind (drop 6 f)))) first
 
-  pub two-sets-fit : kind ≡ 5 → (y : List Finding) (b : Bool) → y ≡ setOf kind (take (length f - 30) (drop 30 f)) → b ≡ findingsFit y → (a && b) ≡ resultsFit (resultsOf kind f)
+  pub two-sets-fit : kind ≡ 5 → (y : List Finding) (b : Bool) → y ≡ setOf kind (take (length f - 30) (drop 30 f)) → b ≡ findingsFit y
+      → (a && b) ≡ resultsFit (resultsOf kind f)
   unfolding resultsOf resultsFit floodingsFit
   two-sets-fit k y b g q =
-      rw (eq-eqb kind 5 k, ne-eqb kind 7 (λ l. omega arith), and-true (findingsFit (setOf kind (drop 6 f) ++ setOf kind (drop 30 f))), sets-fit (setOf kind (drop 6 f)) (setOf kind (drop 30 f)), first, q, g, rest-of f 30) refl
+      let one : List Finding = setOf kind (drop 6 f) in
+      let two : List Finding = setOf kind (drop 30 f) in
+      rw (eq-eqb kind 5 k, ne-eqb kind 7 (λ l. omega arith), and-true (findingsFit (one ++ two)), sets-fit one two, first, q, g, rest-of f 30) refl
 
   pub set-and-floodings-fit : (kind ≡ 5 → ⊥) → kind ≡ 7 → (ws : List Flooding) (b : Bool) → ws ≡ floodingsOf (take (length f - 30) (drop 30 f)) → b ≡ floodingsFit ws
       → (a && b) ≡ resultsFit (resultsOf kind f)

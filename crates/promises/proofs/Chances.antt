@@ -13,7 +13,7 @@ use Rattle.laws.specs.Sums.{sumOf}
 use Rattle.laws.proofs.Choice.{split}
 use Rattle.laws.proofs.Fraction.{is-over, is-nothing, is-one, is-shifted, is-⊹, is-⊛, same, below, numerators-same}
 use Rattle.laws.proofs.Tests.{holds}
-use Rattle.records.specs.declared.Finding.{Finding}
+use Rattle.records.specs.Results.{Results}
 use Rattle.records.specs.declared.Hull.{Hull}
 use Rattle.solas.specs.Ship.{Ship, Sound}
 use Rattle.solas.specs.Height.{rowV}
@@ -47,7 +47,7 @@ module _ (h : Hull) (sound : Sound (shipOf h)) (i d : ℕ) (afloat : d ≤ h .de
   positive : 0 < D
   positive = mul-pos (over-positive (shipOf h) sound) (lit< tt)
 
-  is-weight : (z : Standing) (fs : List Finding) → Stood h z →
+  is-weight : (z : Standing) (fs : Results) → Stood h z →
       Is (weight (rowAt i (exactRow h z fs))) (gives (shipOf h) (z .head .first) (z .head .count) (z .before) (z .head .depth) * rowV (z .below) (z .head .height) d) 0 D
   is-weight z fs st =
       rw (v-is (z .below) (z .head .height))

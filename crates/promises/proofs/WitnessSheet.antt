@@ -3,6 +3,7 @@ use Prim.Native.Nat.{ℕ}
 use mathlib.Core.Path.{refl}
 use mathlib.Core.List.{[]}
 use Rattle.laws.specs.Fraction.{_less_over_, _⊹_, _⊝_, _⊛_}
+use Rattle.records.specs.Results.{found}
 use Rattle.indices.specs.Exact as exact
 use Rattle.solas.specs.Span.{touch, p, P}
 use Rattle.solas.specs.Penetration.{C, G1, G3, G, Q}
@@ -14,7 +15,7 @@ use Rattle.promises.proofs.WitnessCases.{decked}
 
 -- the row of the layer from one depth to the next
 abbrev layer : ℕ → ℕ → exact.Row
-layer b′ b = exactRow (decked .hull) (record { head = record { kind = 3; first = 1; count = 1; depth = b; height = 18500 }; before = b′; below = 0 }) []
+layer b′ b = exactRow (decked .hull) (record { head = record { kind = 3; first = 1; count = 1; depth = b; height = 18500 }; before = b′; below = 0 }) (found [])
 
 pub outer : Compared (λ (t : Told 710990416 710990417 (layer 0 400)). t .low) × Compared (λ (t : Told 710990416 710990417 (layer 0 400)). t .high)
 unfolding rowShare share within Q G P p C G1 G3 touch _⊹_ _⊝_ _⊛_ _less_over_

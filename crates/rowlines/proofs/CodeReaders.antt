@@ -37,7 +37,10 @@ unfolding setOf
 set-by-parts kind n f x y z e p q r = rw (p, q, r, rest-of f n, rest-of f (2 * n), e) refl
 
 -- and what a passenger ship's row tells besides, at each draught
-pub floodings-by-parts : (f : List ℕ) (x y z : Flooding) → x ≡ floodingOf f → y ≡ floodingOf (take (length f - 15) (drop 15 f)) → z ≡ floodingOf (take (length f - 30) (drop 30 f))
+pub floodings-by-parts : (f : List ℕ) (x y z : Flooding)
+    → x ≡ floodingOf f
+    → y ≡ floodingOf (take (length f - 15) (drop 15 f))
+    → z ≡ floodingOf (take (length f - 30) (drop 30 f))
     → x ∷ y ∷ z ∷ [] ≡ floodingsOf f
 unfolding floodingsOf
 floodings-by-parts f x y z p q r = rw (p, q, r, rest-of f 15, rest-of f 30) refl

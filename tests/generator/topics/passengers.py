@@ -137,8 +137,8 @@ def deciding():
         yield one_row("decided-by-%s" % words, [(early, late)[one] for one in which], "what decides at the three draughts: %s" % words.replace("-", ", "))
     half = stage(5, 10, 50, 700)
     for name, three, shows in (
-            ("equal", [((1040, 9000, 0, 0), stage(1, 2, 25, 350)), ((1040, 1600, 0, 0), stage(1, 2, 25, 350)), ((1040, 400, 0, 0), stage(1, 1, 25, 350))],
-             "s-intermediate is 0.7071 of both, or above"),
+            ("equal", [((1040, 9000, 0, 0), stage(4, 5, 32, 448)), ((1040, 100, 0, 0), stage(2, 5, 1, 56)), ((1040, 400, 0, 0), stage(1, 1, 25, 350))],
+             "both s are 4/5, 1/5, or the root of one half"),
             ("as-good", [((1040, 100, 0, 0), stage(1, 1, 25, 88)), ((60, 800, 0, 0), stage(lever=25, reach=350)), ((1040, 400, 0, 0), stage(lever=50, reach=175))],
              "s-intermediate is a little above s-final, or is the same"),
             ("by-the-moment", [((1040, 9000, 0, 0), half), ((1040, 9000, 0, 0), half[:2] + (50, 44, 0, 0)), ((1040, 9000, 0, 0), half[:2] + (50, 43, 0, 0))],

@@ -23,11 +23,13 @@ hull-length-requires c κs = few-zones _ (sym (c .before .zones-fit .ensures) �
 
 returns-3 : tie.Need-returns-3
 returns-3 c =
-    length-wrong _ _ (sym (c .before .before .before .before .before .sizes-fit .ensures) ∙ not-false _ (c .before .before .before .before .if1 .left)) (sym (c .before .before .before .zones-fit .ensures) ∙ not-false _ (c .before .before .if2 .left)) (λ e. c .if3 .taken (e ∙ sym (c .before .hull-length .ensures)))
+    let k = c .before .before in
+    length-wrong _ _ (sym (k .before .before .before .sizes-fit .ensures) ∙ not-false _ (k .before .before .if1 .left)) (sym (k .before .zones-fit .ensures) ∙ not-false _ (k .if2 .left)) (λ e. c .if3 .taken (e ∙ sym (c .before .hull-length .ensures)))
 
 returns-4 : tie.Need-returns-4
 returns-4 c =
-    hull-right _ _ (sym (c .before .before .before .before .before .sizes-fit .ensures) ∙ not-false _ (c .before .before .before .before .if1 .left)) (sym (c .before .before .before .zones-fit .ensures) ∙ not-false _ (c .before .before .if2 .left)) (c .if3 .left ∙ c .before .hull-length .ensures)
+    let k = c .before .before in
+    hull-right _ _ (sym (k .before .before .before .sizes-fit .ensures) ∙ not-false _ (k .before .before .if1 .left)) (sym (k .before .zones-fit .ensures) ∙ not-false _ (k .if2 .left)) (c .if3 .left ∙ c .before .hull-length .ensures)
 
 pub hull-number-spec : {M : Type 1} → statement M
 hull-number-spec =

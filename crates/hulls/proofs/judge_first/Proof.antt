@@ -33,7 +33,9 @@ refused-requires-2 c κs = search needs
 returns-2 : tie.Need-returns-2
 returns-2 c =
     let d = c .before .before .before .before in
-    c .refused2 .ensures ∙ rw (not-false (d .before .before .before .before .args .closed) (d .before .before .if1 .left)) (first-no-digits _ (badly-written _ (sym (d .decode-text .ensures .0) ∙ c .before .enum-told .given .1)))
+    c .refused2 .ensures
+    ∙ rw (not-false (d .before .before .before .before .args .closed) (d .before .before .if1 .left))
+    (first-no-digits _ (badly-written _ (sym (d .decode-text .ensures .0) ∙ c .before .enum-told .given .1)))
 
 slice-aggregate-byte-at : tie.Need-slice-aggregate-byte-at
 slice-aggregate-byte-at c = search needs
@@ -54,7 +56,9 @@ returns-3 c =
     let w = sym (d .decode-text .ensures .0) ∙ c .before .before .before .before .before .before .n .given .1 in
     let there = stored text _ _ w (d .decode-text .ensures .1) in
     let kind = c .before .before .before .byte-at .ensures .0 ∙ kind-stored (pairs text) _ there in
-    c .refused3 .ensures ∙ rw (not-false (d .before .before .before .before .args .closed) (d .before .before .if1 .left)) (first-short _ _ w _ kind (rw (c .before .before .hull-length .ensures) at (c .before .if2 .taken)))
+    c .refused3 .ensures
+    ∙ rw (not-false (d .before .before .before .before .args .closed) (d .before .before .if1 .left))
+    (first-short _ _ w _ kind (rw (c .before .before .hull-length .ensures) at (c .before .if2 .taken)))
 
 sub-judge-hull : tie.Need-sub-judge-hull
 sub-judge-hull c = search needs
@@ -78,7 +82,8 @@ returns-4 c =
     let w = sym (d .decode-text .ensures .0) ∙ c .before .before .before .before .before .before .before .before .before .n .given .1 in
     let there = stored text _ _ w (d .decode-text .ensures .1) in
     let kind = c .before .before .before .before .before .before .byte-at .ensures .0 ∙ kind-stored (pairs text) _ there in
-    rw (not-false (d .before .before .before .before .args .closed) (d .before .before .if1 .left)) (first-hull _ _ w _ kind _ _ (rw (c .before .before .before .before .before .hull-length .ensures) at (c .before .before .before .before .if2 .left)) (c .before .before .before .match2 .keys1) (hull-stored (pairs text) _ there _) (c .judge-hull .ensures))
+    rw (not-false (d .before .before .before .before .args .closed) (d .before .before .if1 .left))
+    (first-hull _ _ w _ kind _ _ (rw (c .before .before .before .before .before .hull-length .ensures) at (c .before .before .before .before .if2 .left)) (c .before .before .before .match2 .keys1) (hull-stored (pairs text) _ there _) (c .judge-hull .ensures))
 
 returns-5 : tie.Need-returns-5
 returns-5 c =
@@ -87,7 +92,9 @@ returns-5 c =
     let w = sym (d .decode-text .ensures .0) ∙ c .before .before .before .before .before .before .before .n .given .1 in
     let there = stored text _ _ w (d .decode-text .ensures .1) in
     let kind = c .before .before .before .before .byte-at .ensures .0 ∙ kind-stored (pairs text) _ there in
-    c .refused4 .ensures ∙ rw (not-false (d .before .before .before .before .args .closed) (d .before .before .if1 .left)) (first-other _ _ w _ kind (c .before .match2 .rest .1))
+    c .refused4 .ensures
+    ∙ rw (not-false (d .before .before .before .before .args .closed) (d .before .before .if1 .left))
+    (first-other _ _ w _ kind (c .before .match2 .rest .1))
 
 pub judge-first-spec : {M : Type 1} → statement M
 judge-first-spec =

@@ -16,7 +16,9 @@ frame-length-requires : tie.Need-frame-length-requires
 frame-length-requires c κs = search needs
 
 returns : tie.Need-returns
-returns c = frame-wrong _ _ _ (wrong-length _ (now (c .before .before .before .before .args .frame)) _ (c .before .before .byte-at .ensures .0) (λ f. c .if1 .taken (f ∙ sym (c .before .frame-length .ensures))))
+returns c =
+    let k = c .before .before in
+    frame-wrong _ _ _ (wrong-length _ (now (k .before .before .args .frame)) _ (k .byte-at .ensures .0) (λ f. c .if1 .taken (f ∙ sym (c .before .frame-length .ensures))))
 
 sub-judge-end : tie.Need-sub-judge-end
 sub-judge-end c = search needs
@@ -32,14 +34,16 @@ judge-end-requires c κs = search needs
 
 returns-2 : tie.Need-returns-2
 returns-2 c =
-    frame-end (now (c .before .before .before .before .before .before .before .args .frame)) _ (c .before .before .before .before .before .byte-at .ensures .0) (c .before .before .before .if1 .left ∙ c .before .before .before .before .frame-length .ensures) _ _ _ (c .before .before .if2 .taken) (c .judge-end .ensures)
+    let k = c .before .before .before in
+    frame-end (now (k .before .before .before .before .args .frame)) _ (k .before .before .byte-at .ensures .0) (k .if1 .left ∙ k .before .frame-length .ensures) _ _ _ (c .before .before .if2 .taken) (c .judge-end .ensures)
 
 is-taken-requires : tie.Need-is-taken-requires
 is-taken-requires c κs = search needs
 
 returns-3 : tie.Need-returns-3
 returns-3 c =
-    frame-wrong _ _ _ (wrong-kind _ (now (c .before .before .before .before .before .before .before .args .frame)) _ (c .before .before .before .before .before .byte-at .ensures .0) (sym (c .before .is-taken .ensures) ∙ not-true _ (c .if3 .taken)) (c .before .before .if2 .left))
+    let k = c .before .before .before in
+    frame-wrong _ _ _ (wrong-kind _ (now (k .before .before .before .before .args .frame)) _ (k .before .before .byte-at .ensures .0) (sym (c .before .is-taken .ensures) ∙ not-true _ (c .if3 .taken)) (c .before .before .if2 .left))
 
 sub-judge-row : tie.Need-sub-judge-row
 sub-judge-row c = search needs
@@ -52,11 +56,13 @@ part-judge-row-end c = search needs
 
 judge-row-requires : tie.Need-judge-row-requires
 judge-row-requires c κs =
-    results-go-in (now (c .before .before .before .before .before .before .before .before .args .frame)) _ (c .before .before .before .before .if1 .left ∙ c .before .before .before .before .before .frame-length .ensures) (of-taken _ _ (sym (c .before .before .is-taken .ensures) ∙ not-false _ (c .before .if3 .left)))
+    let k = c .before .before .before .before in
+    results-go-in (now (k .before .before .before .before .args .frame)) _ (k .if1 .left ∙ k .before .frame-length .ensures) (of-taken _ _ (sym (c .before .before .is-taken .ensures) ∙ not-false _ (c .before .if3 .left)))
 
 returns-4 : tie.Need-returns-4
 returns-4 c =
-    frame-row (now (c .before .before .before .before .before .before .before .before .before .args .frame)) _ (c .before .before .before .before .before .before .before .byte-at .ensures .0) (c .before .before .before .before .before .if1 .left ∙ c .before .before .before .before .before .before .frame-length .ensures) _ _ _ (sym (c .before .before .before .is-taken .ensures) ∙ not-false _ (c .before .before .if3 .left)) (c .judge-row .ensures)
+    let k = c .before .before .before .before .before in
+    frame-row (now (k .before .before .before .before .args .frame)) _ (k .before .before .byte-at .ensures .0) (k .if1 .left ∙ k .before .frame-length .ensures) _ _ _ (sym (c .before .before .before .is-taken .ensures) ∙ not-false _ (c .before .before .if3 .left)) (c .judge-row .ensures)
 
 pub judge-frame-spec : {M : Type 1} → statement M
 judge-frame-spec =

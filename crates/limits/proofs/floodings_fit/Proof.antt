@@ -23,7 +23,9 @@ flooding-fits-requires-3 : tie.Need-flooding-fits-requires-3
 flooding-fits-requires-3 c κs = search needs
 
 returns : tie.Need-returns
-returns c = floodings-of-three (c .before .before .before .before .before .before .args .t1) _ _ _ _ (c .before .before .before .before .before .before .good .0 .1 .0 .1) (c .before .before .flooding-fits .ensures) (c .before .flooding-fits2 .ensures) (c .flooding-fits3 .ensures)
+returns c =
+    let x = c .before .before .before .before .before .before in
+    floodings-of-three (x .args .t1) _ _ _ _ (x .good .0 .1 .0 .1) (c .before .before .flooding-fits .ensures) (c .before .flooding-fits2 .ensures) (c .flooding-fits3 .ensures)
 
 pub floodings-fit-spec : {M : Type 1} → statement M
 floodings-fit-spec =

@@ -1,5 +1,5 @@
 -- What a row adds and what the partial indices are, draught by draught: bounds, sums. Assumes nothing.
-use Prim.Native.Nat.{ℕ, zero, suc, _+_, _^_, _≤_}
+use Prim.Native.Nat.{ℕ, zero, suc, _≤_}
 use mathlib.Core.List.{List}
 use mathlib.Core.Path.{_≡_, refl}
 use native.Mathlib.Nat.{le-trans}
@@ -23,19 +23,19 @@ pub three : {a b c a′ b′ c′ : Ends} → a ≡ a′ → b ≡ b′ → c �
 three p q r = rw (p, q, r) refl
 
 -- ---- v and survival are at most one
-pub row-weights : (H′ H : ℕ) (ds : List ℕ) (kind : ℕ) {rs : Results} → Given rs → RowWeights (rowVs H′ H ds) (survivalsOf kind rs)
+pub height-at-most : (H′ H : ℕ) (ds : List ℕ) (i : ℕ) → getD (rowVs H′ H ds) i 0 ≤ 916500
 unfolding rowVs
-row-weights H′ H ds kind {rs} h = record { each = λ i. at i (height i) }
-  where
-    height : (i : ℕ) → getD (rowVs H′ H ds) i 0 ≤ 916500
-    height zero = row-at-most H′ H (getD ds 0 0)
-    height (suc zero) = row-at-most H′ H (getD ds 1 0)
-    height (suc (suc zero)) = row-at-most H′ H (getD ds 2 0)
-    height (suc (suc (suc i))) = omega arith
+height-at-most H′ H ds zero = row-at-most H′ H (getD ds 0 0)
+height-at-most H′ H ds (suc zero) = row-at-most H′ H (getD ds 1 0)
+height-at-most H′ H ds (suc (suc zero)) = row-at-most H′ H (getD ds 2 0)
+height-at-most H′ H ds (suc (suc (suc i))) = omega arith
 
-    at : (i : ℕ) → getD (rowVs H′ H ds) i 0 ≤ 916500 → Weights (getD (rowVs H′ H ds) i 0) (getD (survivalsOf kind rs) i noSurvival)
-    at i l =
-        let x = getD (factorsOf kind rs) i (given 0) in
+pub row-weights : (H′ H : ℕ) (ds : List ℕ) (kind : ℕ) {rs : Results} → Given rs → RowWeights (rowVs H′ H ds) (survivalsOf kind rs)
+row-weights H′ H ds kind {rs} h = record { each = each }
+  where
+    each : (i : ℕ) → Weights (getD (rowVs H′ H ds) i 0) (getD (survivalsOf kind rs) i noSurvival)
+    each i =
+        let s = getD (factorsOf kind rs) i (given 0) in
         let p = row-sensible kind rs (h .each) (λ j. h .loads j .some) i in
-        let e = row-rounds kind rs i in
-        record { height = l; bottom = rw (e .bottom) (le-trans (ends-ordered x p) (ends-at-most x p)); top = rw (e .top) (ends-at-most x p) }
+        let r = row-rounds kind rs i in
+        record { height = height-at-most H′ H ds i; bottom = rw (r .bottom) (le-trans (ends-ordered s p) (ends-at-most s p)); top = rw (r .top) (ends-at-most s p) }

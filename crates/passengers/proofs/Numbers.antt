@@ -1,7 +1,7 @@
 -- What the numbers of a passenger ship's survival come to: its factors in parts, and the ends of what they are together. Assumes nothing.
 use Prim.Native.Nat.{ℕ, _-_, _*_, _^_, _≤_, _<_, min}
 use mathlib.Core.Path.{_≡_, refl, ap, sym, _∙_}
-use native.Mathlib.Nat.{le-of-lt, mul-comm, mul-zero, mul-le-mul, mul-le-mul-right, min-le-left, min-le-right, pow-le-pow-left}
+use native.Mathlib.Nat.{le-of-lt, mul-pos, mul-comm, mul-zero, mul-le-mul, mul-le-mul-right, min-le-left, min-le-right, pow-le-pow-left}
 use native.Mathlib.Omega.{arith}
 use lib.Dec.{eqb, lit<}
 use borrow.Author.Tests.{lt-ltb, le-ltb}
@@ -16,8 +16,8 @@ use Rattle.solas.proofs.Survival.{capped-at-most}
 use Rattle.solas.proofs.Passengers.{is-final⁴, is-intermediate⁴, is-sMom, is-fourth, sMom-one}
 use Rattle.numbers.proofs.Ratios.{ratio-positive}
 use Rattle.moments.specs.Held.{Rooted, Held}
-use Rattle.moments.proofs.Rooted.{top-at-most-one}
-use Rattle.moments.proofs.Defined.{final-rooted, held-rounded}
+use Rattle.moments.proofs.Rooted.{rooted-exactly, top-at-most-one}
+use Rattle.moments.proofs.Held.{power-positive, final-rooted, held-rounded}
 use Rattle.survival.specs.Parts.{InParts, parts}
 use Rattle.survival.specs.Survival.{root, ends, fourthPower, scaledOf, roundedOf}
 use Rattle.survival.specs.Passengers.{intOf, finalOf, momOf}
@@ -128,6 +128,10 @@ module _ (f : Finding) (w : Flooding) {c : Caps} (h : Suits (w .roro) c) (some :
         let e = held-rounded fourth (h .some) (ratio-positive held) (proper s) righting some (ratio-crossed (s .0) held-is) r in
         same-roots (e .0) (e .1)
 
+    -- not borne at all
+    pub none-rooted : righting ≡ 0 → Rooted (fourth * righting ^ 4) (c .below * w .moment ^ 4) 0 0
+    none-rooted e = rw e (rooted-exactly 0 (mul-pos (h .some) (power-positive some)) (omega arith) (omega arith))
+
     module _ {bottom top : ℕ} (r : Rooted (fourth * righting ^ 4) (c .below * w .moment ^ 4) bottom top) where
       both : LesserEnds (intOf w) held
       both = lesser-has-lesser-ends (intOf w) held (int-sensible f w) (held-sensible f w some)
@@ -145,6 +149,10 @@ module _ (f : Finding) (w : Flooding) {c : Caps} (h : Suits (w .roro) c) (some :
           let p = held-sensible f w some in
           let q = int-sensible f w in
           same-roots (omega (arith, low, both .bottom, bottom-rises p q below)) (omega (arith, high, both .top, top-rises p q below))
+
+      -- nothing is the lesser of whatever and nothing
+      pub nothing-counts : bottom ≡ 0 → top ≡ 0 → _≡_ {A = Roots} (record { bottom = 0; top = 0 }) (ends (root (lesser (intOf w) held)))
+      nothing-counts p q = same-roots (omega (arith, low, both .bottom, p)) (omega (arith, high, both .top, q))
 
       pub lesser-counts : {n a b : ℕ} {s : Roots} → InParts (intOf w) n → s ≡ roundedOf (parts n) → a ≡ min (s .bottom) bottom → b ≡ min (s .top) top →
           _≡_ {A = Roots} (record { bottom = a; top = b }) (ends (root (lesser (intOf w) held)))

@@ -97,8 +97,9 @@ fn root_of(n: u64) -> Roots
     rounded(n)
 }
 
-// The ends of the survival where no opening is immersed. Where the moments are borne in full, the lesser of two whole numbers is rounded. Where they are
-// not, s-final is rounded and held down, and the intermediate stage, which can only count where its s⁴ is below that of s-final, is rounded there alone.
+// The ends of the survival where no opening is immersed. Where the moments are borne in full, the lesser of two whole numbers is rounded; where they are
+// not borne at all, nothing is left. Else s-final is rounded and held down, and the intermediate stage, which can only count where its s⁴ is below that of
+// s-final, is rounded there alone.
 fn dry(f: Finding, w: Flooding, caps: Caps) -> Roots
     requires { ⌜ Loaded f w × (caps ≡ capsOf (w .roro)) ⌝ }
     ensures { λ r. ⌜ r ≡ ends (root (lesser (intOf w) (finalOf f w ⊛ fourthPower (momOf f w)))) ⌝ }
@@ -109,6 +110,9 @@ fn dry(f: Finding, w: Flooding, caps: Caps) -> Roots
     let righting = above(f.lever, LEVER_LOST) * w.displacement;
     if 1_000 * w.moment <= righting {
         return root_of(lesser(stage, last));
+    }
+    if righting == 0 {
+        return Roots { bottom: 0, top: 0 };
     }
     let whole = root_of(last);
     let held = held_down(

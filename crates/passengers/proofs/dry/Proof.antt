@@ -1,7 +1,7 @@
 -- `passengers::dry` meets its contract: no product wraps, and whichever way the ends are found they are those of the lesser. Assumes nothing.
 use borrow.Author.Needs.{needs}
 use Prim.Native.Nat.{ℕ, _-_, _*_, _^_, _≤_, _<_, min}
-use mathlib.Core.Path.{_≡_, _∙_}
+use mathlib.Core.Path.{_≡_, refl, _∙_}
 use native.Mathlib.Nat.{mul-le-mul}
 use native.Mathlib.Omega.{arith}
 use Rattle.laws.specs.Fraction.{lesser, _⊛_}
@@ -14,7 +14,7 @@ use Rattle.survival.specs.Passengers.{intOf, finalOf, momOf}
 use Rattle.survival.specs.declared.finding.Roots.{Roots}
 use Rattle.passengers.specs.declared.Caps.{Caps}
 use Rattle.passengers.specs.Numbers.{capsOf, fourthIn}
-use Rattle.passengers.proofs.Numbers.{Suits, caps-suit, final-parts, borne-ends, held-asked, final-counts, lesser-counts}
+use Rattle.passengers.proofs.Numbers.{Suits, caps-suit, final-parts, borne-ends, none-rooted, nothing-counts, held-asked, final-counts, lesser-counts}
 use Rattle.passengers.proofs.dry.Statement.{statement}
 use Rattle.passengers.proofs.dry.Tie as tie
 
@@ -44,6 +44,11 @@ module _ (f : Finding) (w : Flooding) {caps : Caps} (asked : Loaded f w × (caps
   module _ (l : lever * w .displacement < 1000 * w .moment) where
     less : (f .lever - 40) * w .displacement < 1000 * w .moment
     less = rw k at l
+
+    nothing : lever * w .displacement ≡ 0 → Answers (record { bottom = 0; top = 0 })
+    nothing z =
+        let some = asked .0 .some in
+        nothing-counts f w fits some less (none-rooted f w fits some less (rw k at z)) refl refl
 
     asks : {r : Roots} → r ≡ roundedOf (parts (fourth * caps .parts)) → Held (r .bottom) (r .top) fourth (caps .below) (lever * w .displacement) (w .moment)
     asks e = rw (j, k) (held-asked f w fits (asked .0 .some) less (asked .0 .moment) (rw j at e))
@@ -91,27 +96,35 @@ returns c =
     let start = stage .before in
     borne (start .args .f) (start .args .w) (start .pre) (stage .intermediate .ensures) (four .fourth .ensures) (above .above .ensures) (c .before .before .if1 .taken) (c .before .lesser .ensures) (c .root-of .ensures)
 
+returns-2 : tie.Need-returns-2
+returns-2 c =
+    let above = c .before .before .before .before in
+    let four = above .before .before in
+    let stage = four .before in
+    let start = stage .before in
+    nothing (start .args .f) (start .args .w) (start .pre) (stage .intermediate .ensures) (four .fourth .ensures) (above .above .ensures) (c .before .if1 .left) (c .if2 .taken)
+
 root-of-requires-2 : tie.Need-root-of-requires-2
 root-of-requires-2 c κs =
-    let four = c .before .before .before .before .before in
+    let four = c .before .before .before .before .before .before in
     let start = four .before .before in
     last-fits (start .args .f) (start .args .w) (start .pre) (four .fourth .ensures)
 
 held-down-requires : tie.Need-held-down-requires
 held-down-requires c κs =
-    let above = c .before .before .before .before in
+    let above = c .before .before .before .before .before in
     let four = above .before .before in
     let stage = four .before in
     let start = stage .before in
-    asks (start .args .f) (start .args .w) (start .pre) (stage .intermediate .ensures) (four .fourth .ensures) (above .above .ensures) (c .before .if1 .left) (c .root-of2 .ensures)
+    asks (start .args .f) (start .args .w) (start .pre) (stage .intermediate .ensures) (four .fourth .ensures) (above .above .ensures) (c .before .before .if1 .left) (c .root-of2 .ensures)
 
-returns-2 : tie.Need-returns-2
-returns-2 c =
-    let above = c .before .before .before .before .before .before in
+returns-3 : tie.Need-returns-3
+returns-3 c =
+    let above = c .before .before .before .before .before .before .before in
     let four = above .before .before in
     let stage = four .before in
     let start = stage .before in
-    final (start .args .f) (start .args .w) (start .pre) (stage .intermediate .ensures) (four .fourth .ensures) (above .above .ensures) (c .before .before .before .if1 .left) (c .before .held-down .ensures) (c .if2 .taken)
+    final (start .args .f) (start .args .w) (start .pre) (stage .intermediate .ensures) (four .fourth .ensures) (above .above .ensures) (c .before .before .before .before .if1 .left) (c .before .held-down .ensures) (c .if3 .taken)
 
 root-of-requires-3 : tie.Need-root-of-requires-3
 root-of-requires-3 c κs = search needs
@@ -122,15 +135,15 @@ lesser-requires-2 c κs = search needs
 lesser-requires-3 : tie.Need-lesser-requires-3
 lesser-requires-3 c κs = search needs
 
-returns-3 : tie.Need-returns-3
-returns-3 c =
+returns-4 : tie.Need-returns-4
+returns-4 c =
     let other = c .before .before in
     let held = other .before .before in
-    let above = held .before .before .before .before .before in
+    let above = held .before .before .before .before .before .before in
     let four = above .before .before in
     let stage = four .before in
     let start = stage .before in
-    either (start .args .f) (start .args .w) (start .pre) (stage .intermediate .ensures) (four .fourth .ensures) (above .above .ensures) (held .before .before .if1 .left) (held .held-down .ensures) (other .root-of3 .ensures) (c .before .lesser2 .ensures) (c .lesser3 .ensures)
+    either (start .args .f) (start .args .w) (start .pre) (stage .intermediate .ensures) (four .fourth .ensures) (above .above .ensures) (held .before .before .before .if1 .left) (held .held-down .ensures) (other .root-of3 .ensures) (c .before .lesser2 .ensures) (c .lesser3 .ensures)
 
 pub dry-spec : {M : Type 1} → statement M
 dry-spec =
@@ -145,10 +158,11 @@ dry-spec =
     lesser-requires
     root-of-requires
     returns
+    returns-2
     root-of-requires-2
     held-down-requires
-    returns-2
+    returns-3
     root-of-requires-3
     lesser-requires-2
     lesser-requires-3
-    returns-3)
+    returns-4)

@@ -40,12 +40,12 @@ fn survival(
     opening: i64,
     displacement: u64,
     moment: u64,
-    stage_lever: u64,
-    stage_range: u64,
-    stage_heel: u64,
+    midlever: u64,
+    midrange: u64,
+    midheel: u64,
     roro: u64,
 ) -> Survival
-    ensures { λ r. ⌜ r ≡ survivalTold (finalOf lever range heel opening) (floodingOf displacement moment stage_lever stage_range stage_heel roro) ⌝ }
+    ensures { λ r. ⌜ r ≡ survivalTold (finalOf lever range heel opening) (floodingOf displacement moment midlever midrange midheel roro) ⌝ }
 {
     let f = Finding {
         lever,
@@ -57,9 +57,9 @@ fn survival(
     let w = Flooding {
         displacement,
         moment,
-        lever: stage_lever,
-        range: stage_range,
-        heel: stage_heel,
+        lever: midlever,
+        range: midrange,
+        heel: midheel,
         roro,
     };
     told(f, w)
@@ -74,12 +74,12 @@ pub extern "C" fn probe_passenger_bottom(
     opening: i64,
     displacement: u64,
     moment: u64,
-    stage_lever: u64,
-    stage_range: u64,
-    stage_heel: u64,
+    midlever: u64,
+    midrange: u64,
+    midheel: u64,
     roro: u64,
 ) -> u64
-    ensures { λ r. ⌜ r ≡ survivalTold (finalOf lever range heel opening) (floodingOf displacement moment stage_lever stage_range stage_heel roro) .bottom ⌝ }
+    ensures { λ r. ⌜ r ≡ survivalTold (finalOf lever range heel opening) (floodingOf displacement moment midlever midrange midheel roro) .bottom ⌝ }
 {
     survival(
         lever,
@@ -88,9 +88,9 @@ pub extern "C" fn probe_passenger_bottom(
         opening,
         displacement,
         moment,
-        stage_lever,
-        stage_range,
-        stage_heel,
+        midlever,
+        midrange,
+        midheel,
         roro,
     )
     .bottom
@@ -105,12 +105,12 @@ pub extern "C" fn probe_passenger_top(
     opening: i64,
     displacement: u64,
     moment: u64,
-    stage_lever: u64,
-    stage_range: u64,
-    stage_heel: u64,
+    midlever: u64,
+    midrange: u64,
+    midheel: u64,
     roro: u64,
 ) -> u64
-    ensures { λ r. ⌜ r ≡ survivalTold (finalOf lever range heel opening) (floodingOf displacement moment stage_lever stage_range stage_heel roro) .top ⌝ }
+    ensures { λ r. ⌜ r ≡ survivalTold (finalOf lever range heel opening) (floodingOf displacement moment midlever midrange midheel roro) .top ⌝ }
 {
     survival(
         lever,
@@ -119,9 +119,9 @@ pub extern "C" fn probe_passenger_top(
         opening,
         displacement,
         moment,
-        stage_lever,
-        stage_range,
-        stage_heel,
+        midlever,
+        midrange,
+        midheel,
         roro,
     )
     .top
@@ -136,12 +136,12 @@ pub extern "C" fn probe_passenger_marks(
     opening: i64,
     displacement: u64,
     moment: u64,
-    stage_lever: u64,
-    stage_range: u64,
-    stage_heel: u64,
+    midlever: u64,
+    midrange: u64,
+    midheel: u64,
     roro: u64,
 ) -> u64
-    ensures { λ r. ⌜ r ≡ markByte (survivalTold (finalOf lever range heel opening) (floodingOf displacement moment stage_lever stage_range stage_heel roro) .marks) ⌝ }
+    ensures { λ r. ⌜ r ≡ markByte (survivalTold (finalOf lever range heel opening) (floodingOf displacement moment midlever midrange midheel roro) .marks) ⌝ }
 {
     let s = survival(
         lever,
@@ -150,9 +150,9 @@ pub extern "C" fn probe_passenger_marks(
         opening,
         displacement,
         moment,
-        stage_lever,
-        stage_range,
-        stage_heel,
+        midlever,
+        midrange,
+        midheel,
         roro,
     );
     printing::mark_byte(s.marks)

@@ -9,7 +9,7 @@ use Rattle.probes.proofs.shares.places_in.Statement.{statement}
 use Rattle.probes.proofs.shares.places_in.Tie as tie
 
 abbrev Inv-loop : tie.InvT-loop
-Inv-loop ns at₀ k₀ at k = Filled (λ i. number ns (5 + i)) 21 at k
+Inv-loop ns at₀ k₀ at k = Filled (λ i. number ns (6 + i)) 21 at k
 
 abbrev μ-loop : tie.MeasureT-loop
 μ-loop ns at₀ k₀ at k = 21 - k

@@ -11,7 +11,7 @@ from independent.regulation import (
     final_caps, marks, passenger_R, passenger_marks, passenger_s_fourth, row_s_fourth, s_final_fourth, s_intermediate_fourth, s_mom,
 )
 from independent.rounding import Ends, survival_ends
-from independent.test_printing import program
+from independent.test_printing import PRINTED_ANSWER, program
 from independent.writing import hull_line, lever_row, passenger_hull_line, passenger_row, whole_file
 
 HULL = passenger_hull_line(9_900, 1_600, 6_000, 4_000, (400, 600), [1_500, 5_000])
@@ -21,6 +21,22 @@ SAFE, LOST = Result(5_000, 9_000, 700, 0), Result(0, 0, 9_000, -1)
 CALM = Stage(300_000, 1, 50, 700, 1_500, 0)  # leaves survival to the final stage
 ROW = passenger_row(1, 1, 800, TOP, (SAFE,) * 3, (CALM,) * 3)
 CARGO_HULL = hull_line(9_900, 1_600, 6_000, 4_000, [1_500, 5_000])
+
+# Document 01's printed ship with passengers: zone 1 is survived by a half, by its range at ds, by its heeling moment at dp and by ro-ro caps at dl; the
+# pair is lost in its intermediate stage. The ends are those that document 01 prints.
+FILE_IN_FULL = b"""\
+0626ac064017700fa0019002580205dc
+0701010320484400780064000000000410064002bc000000c8007d02bc0000000493e000000001003202bc05dc00000186a000030d40003202bc05dc00000493e000000001003202bc05dc01
+070102032048441388232802bc00001388232802bc00001388232802bc0000000493e000000001003202bc05dd00000493e000000001003202bc05dd00000493e000000001003202bc05dd00
+070201032048441388232802bc00001388232802bc00001388232802bc0000000493e000000001003202bc05dc00000493e000000001003202bc05dc00000493e000000001003202bc05dc00
+0f0003
+"""
+ANSWER_IN_FULL = b"""\
+810134243ab934243abb34243ab934243abb34243ab934243abb34243ab934243abb
+82072648b6072648b7020002
+8203e36aea03e36aec000000
+823091165e3091165f000000
+"""
 
 
 def with_rows(*rows, hull=HULL):
@@ -215,6 +231,12 @@ class Verdicts(unittest.TestCase):
 
 class Answers(unittest.TestCase):
     """Whole files of passenger ships."""
+
+    def test_file_in_full(self):
+        self.assertEqual(run(FILE_IN_FULL), ANSWER_IN_FULL)
+        self.assertEqual(ANSWER_IN_FULL.replace(b"020002", b"030303"), PRINTED_ANSWER)
+        self.assertEqual(row_numbers(answer(FILE_IN_FULL)), [5_000, 5_000, 2, 5_000, 5_000, 0, 5_000, 5_000, 2] + 3 * [0, 0, 0] + 3 * [10_000, 10_000, 0])
+        self.assertIn(b"R 3581/4831\npartial mark 32229/48310\n", program("--exact", data=FILE_IN_FULL))
 
     def test_draughts_have_their_own(self):
         data = one_zone(moved_by(1_000), (SAFE, CALM._replace(lever=25, reach=350)), (SAFE._replace(heel=1_100), CALM._replace(roro=1)))

@@ -10,7 +10,7 @@ from ..found import NEAR_MOMENTS, NEAR_PRODUCTS, PASSENGER_MARKS
 from ..frames import Hull, Row, case_file, joined, lines_of
 from ..fresh import damaged
 from ..judging import Judging
-from ..shapes import ABOARD, AFLOAT, CALM, FERRY, SAFE, dry, every_group, group, seeded_case
+from ..shapes import ABOARD, AFLOAT, CALM, FERRY, PRINTED, SAFE, every_group, group, seeded_case
 from . import passengers_refused
 from .openings import DRAUGHTS
 from .verdicts import FIGURES, WORDS
@@ -259,7 +259,12 @@ def in_turn():
 
 
 def hulls():
-    """Ships of many shapes: as short and narrow as can be, with thin zones, of twenty zones, with spans at the edges of the bands."""
+    """Ships of many shapes: the one that document 01 prints, as short and narrow as can be, with thin zones, of twenty zones, with spans at the edges of
+    the bands."""
+    half = [((120, 100, 0, 0), CALM), ((1040, 1600, 700, 0), stage(100000, 200000)), ((200, 125, 700, 0), stage(roro=1))]
+    rows = [Row(*group_of, 800, 18500, aboard(*three)) for group_of, three in (((1, 1), half), ((1, 2), [(AFLOAT, stage(heel=1501))] * 3), ((2, 1), [FINE] * 3))]
+    yield accepted("printed-in-the-paper", case_file(PRINTED._replace(persons=(400, 600)), rows), "document 01's printed ship with passengers: the same ends",
+                   verdict=1, marks=[(2, 0, 2), (0, 0, 0), (0, 0, 0)])
     short = Hull(2000, 400, 1000, 500, (), (0, 0))
     for name, hull in (("one-zone", short), ("four-zones", FERRY), ("twenty-zones", Hull(19800, 6000, 30000, 500, tuple(990 * i for i in range(1, 20)), (10000, 10000)))):
         yield accepted("%s-no-rows" % name, case_file(hull, []), "no rows: all ends 0, verdict 2", verdict=2)

@@ -2,6 +2,7 @@
 use Prim.Native.Nat.{ℕ, _+_, _-_, _*_, _≤_, _<_}
 use mathlib.Core.Path.{_≡_, refl, sym, _∙_}
 use mathlib.Core.Bool.{Bool, true, false, cond, not, _&&_, or-true, and-true, and-assoc}
+use mathlib.Core.Logic.{_⊎_, inl, inr, ⊎-elim}
 use mathlib.Core.List.{List, [], _∷_, _++_, append-nil}
 use native.Mathlib.Omega.{arith}
 use lib.Dec.{eqb}
@@ -30,8 +31,8 @@ use Rattle.casefile.specs.Table.{_when_, firstHolds, wrongFrame, rowChecks, end
 use Rattle.casefile.specs.Answer.{unlessWrong, frameOf, judged}
 use Rattle.casefile.specs.Judging.{rowNumber, rowJudged, endJudged, frameJudged}
 use Rattle.casefile.proofs.Checks.{first-passed}
-use Rattle.casefile.proofs.RowKinds.{is-row, of-taken}
-use Rattle.rowlines.proofs.CodeFrames.{right-row, right-end, part, frame-too-long}
+use Rattle.casefile.proofs.RowKinds.{is-row, of-taken, not-taken}
+use Rattle.rowlines.proofs.CodeFrames.{wrong-kind, right-row, right-end, part, frame-too-long}
 
 -- ---- the number of a row
 
@@ -156,6 +157,18 @@ module _ (bs : List ℕ) (k : ℕ) (e : k ≡ kindOf bs) (n : length bs ≡ fram
 pub frame-wrong : (h : Hull) (p : Progress) (bs : List ℕ) → wrongFrame (h .kind) bs ≡ true → Frame.Wrong 3 ≡ frameJudged h p bs
 unfolding frameJudged
 frame-wrong h p bs e = rw e refl
+
+module _ (h : Hull) (p : Progress) (bs : List ℕ) (k : ℕ) (e : k ≡ kindOf bs) where
+  -- a row that the hull does not take, its kind as the code's `match` tells it: 05 or 07, or, below 4, 02 or 03
+  pub frame-not-taken : takes (h .kind) k ≡ false → ((k ≡ 5) ⊎ (k ≡ 7)) ⊎ (k < 4) → Frame.Wrong 3 ≡ frameJudged h p bs
+  frame-not-taken t m = frame-wrong h p bs (wrong-kind (h .kind) bs k e t (λ f. ⊎-elim (⊎-elim (λ g. omega arith) (λ g. omega arith)) (λ l. omega arith) m))
+
+  -- neither a row nor the end
+  pub frame-other : (k ≡ 2 → ⊥) → (k ≡ 3 → ⊥) → ((k ≡ 5) ⊎ (k ≡ 7) → ⊥) → (k ≡ 15 → ⊥) → Frame.Wrong 3 ≡ frameJudged h p bs
+  frame-other two three others end = frame-wrong h p bs (wrong-kind (h .kind) bs k e (not-taken (h .kind) k no-row) end)
+    where
+      no-row : isRow k ≡ false
+      no-row = rw (ne-eqb k 2 two, ne-eqb k 3 three, ne-eqb k 5 (λ f. others (inl f)), ne-eqb k 7 (λ f. others (inr f))) refl
 
 -- ---- a line
 

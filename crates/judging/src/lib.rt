@@ -28,7 +28,7 @@ fn is_taken(hull: u64, kind: u64) -> bool
     (kind == 2) | (kind == 3) | (kind == 5)
 }
 
-// A frame after the hull: a row that it takes, or 0f, the end.
+// A frame after the hull: 02, 03, 05 and 07 are rows, refused where the hull does not take them, and 0f is the end.
 fn judge_frame(frame: &[u8], h: Hull, p: Progress) -> Frame
     requires { ⌜ 0 < length (now frame) ⌝ }
     ensures { λ r. ⌜ r ≡ frameJudged h p (now (frame .entry)) ⌝ }
@@ -37,13 +37,16 @@ fn judge_frame(frame: &[u8], h: Hull, p: Progress) -> Frame
     if frame.len() != frame_length(kind) {
         return Frame::Wrong(3);
     }
-    if kind == 15 {
-        return ends::judge_end(&frame[1..], h, p);
+    match kind {
+        2 | 3 | 5 | 7 => {
+            if !is_taken(h.kind, kind) {
+                return Frame::Wrong(3);
+            }
+            row::judge_row(kind, &frame[1..], h, p)
+        }
+        15 => ends::judge_end(&frame[1..], h, p),
+        _ => Frame::Wrong(3),
     }
-    if !is_taken(h.kind, kind) {
-        return Frame::Wrong(3);
-    }
-    row::judge_row(kind, &frame[1..], h, p)
 }
 
 // A line after the hull h and what the lines before it left. What it writes goes to the front of the place that is lent, as many bytes as go in.

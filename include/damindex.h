@@ -13,7 +13,7 @@
  * What all functions promise, of any bytes whatever (proved of the library's own text): they return; they read `input` and never write it;
  * they write what is said below and leave every other element as it was; the same input with the same lengths gives the same answer.
  *
- * Run, not proved, because no contract speaks of it: 64 kilobytes of stack are enough, in whatever thread, and a call takes 36,800 bytes of them
+ * Run, not proved, because no contract speaks of it: 64 kilobytes of stack are enough, in whatever thread, and a call takes 47,500 bytes of them
  * at most; the first call also has what the system's loader takes to find memcpy and memset, which alone are called of the C library; nothing is
  * taken from the heap and nothing is kept between calls; loading the shared object runs nothing.
  *

@@ -22,6 +22,9 @@ number-at-requires-4 c κs = search needs
 number-at-requires-5 : tie.Need-number-at-requires-5
 number-at-requires-5 c κs = search needs
 
+number-at-requires-6 : tie.Need-number-at-requires-6
+number-at-requires-6 c κs = search needs
+
 returns : tie.Need-returns
 unfolding hullIn
 returns c = cc
@@ -36,4 +39,5 @@ hull-in-spec =
     number-at-requires-3
     number-at-requires-4
     number-at-requires-5
+    number-at-requires-6
     returns)

@@ -83,20 +83,6 @@ fn intermediate(lever: u64, range: u64, heel: u64) -> u64
     lesser(lever, STAGE_LEVER) * lesser(range, STAGE_RANGE) * (PARTS / (STAGE_LEVER * STAGE_RANGE))
 }
 
-// The fourth root of so many 168ths of 10⁻¹⁶ in ten-thousandths, down and up: one, which it mostly is, needs no root.
-fn root_of(n: u64) -> Roots
-    requires { ⌜ n ≤ 168 * 10 ^ 16 ⌝ }
-    ensures { λ r. ⌜ r ≡ roundedOf (parts n) ⌝ }
-{
-    if n == PARTS {
-        return Roots {
-            bottom: 10_000,
-            top: 10_000,
-        };
-    }
-    rounded(n)
-}
-
 // The ends of the survival where no opening is immersed. Where the moments are borne in full, the lesser of two whole numbers is rounded; where they are
 // not borne at all, nothing is left. Else s-final is rounded and held down, and the intermediate stage, which can only count where its s⁴ is below that of
 // s-final, is rounded there alone.
@@ -109,12 +95,12 @@ fn dry(f: Finding, w: Flooding, caps: Caps) -> Roots
     let last = fourth * caps.parts;
     let righting = above(f.lever, LEVER_LOST) * w.displacement;
     if 1_000 * w.moment <= righting {
-        return root_of(lesser(stage, last));
+        return rounded(lesser(stage, last));
     }
     if righting == 0 {
         return Roots { bottom: 0, top: 0 };
     }
-    let whole = root_of(last);
+    let whole = rounded(last);
     let held = held_down(
         whole.bottom,
         whole.top,
@@ -129,7 +115,7 @@ fn dry(f: Finding, w: Flooding, caps: Caps) -> Roots
             top: held.top,
         };
     }
-    let other = root_of(stage);
+    let other = rounded(stage);
     Roots {
         bottom: lesser(other.bottom, held.bottom),
         top: lesser(other.top, held.top),

@@ -95,13 +95,20 @@ fn scaled(n: u64) -> Multiple
     }
 }
 
-// The fourth root of so many 168ths of 10⁻¹⁶ in ten-thousandths: the greatest not above it, the least not below.
+// The fourth root of so many 168ths of 10⁻¹⁶ in ten-thousandths: the greatest not above it, the least not below. Nothing and one, which it often is, need
+// no root.
 pub fn rounded(n: u64) -> Roots
     requires { ⌜ n ≤ 168 * 10 ^ 16 ⌝ }
     ensures { λ r. ⌜ r ≡ roundedOf (parts n) ⌝ }
 {
     if n == 0 {
         return Roots { bottom: 0, top: 0 };
+    }
+    if n == PARTS {
+        return Roots {
+            bottom: 10_000,
+            top: 10_000,
+        };
     }
     let s = scaled(n);
     let bottom = root_down(s.down);

@@ -85,8 +85,8 @@ mul-if1 c = search needs
 lesser-requires : tie.Need-lesser-requires
 lesser-requires c κs = search needs
 
-root-of-requires : tie.Need-root-of-requires
-root-of-requires c κs = search needs
+rounded-requires : tie.Need-rounded-requires
+rounded-requires c κs = search needs
 
 returns : tie.Need-returns
 returns c =
@@ -94,7 +94,7 @@ returns c =
     let four = above .before .before in
     let stage = four .before in
     let start = stage .before in
-    borne (start .args .f) (start .args .w) (start .pre) (stage .intermediate .ensures) (four .fourth .ensures) (above .above .ensures) (c .before .before .if1 .taken) (c .before .lesser .ensures) (c .root-of .ensures)
+    borne (start .args .f) (start .args .w) (start .pre) (stage .intermediate .ensures) (four .fourth .ensures) (above .above .ensures) (c .before .before .if1 .taken) (c .before .lesser .ensures) (c .rounded .ensures)
 
 returns-2 : tie.Need-returns-2
 returns-2 c =
@@ -104,8 +104,8 @@ returns-2 c =
     let start = stage .before in
     nothing (start .args .f) (start .args .w) (start .pre) (stage .intermediate .ensures) (four .fourth .ensures) (above .above .ensures) (c .before .if1 .left) (c .if2 .taken)
 
-root-of-requires-2 : tie.Need-root-of-requires-2
-root-of-requires-2 c κs =
+rounded-requires-2 : tie.Need-rounded-requires-2
+rounded-requires-2 c κs =
     let four = c .before .before .before .before .before .before in
     let start = four .before .before in
     last-fits (start .args .f) (start .args .w) (start .pre) (four .fourth .ensures)
@@ -116,7 +116,7 @@ held-down-requires c κs =
     let four = above .before .before in
     let stage = four .before in
     let start = stage .before in
-    asks (start .args .f) (start .args .w) (start .pre) (stage .intermediate .ensures) (four .fourth .ensures) (above .above .ensures) (c .before .before .if1 .left) (c .root-of2 .ensures)
+    asks (start .args .f) (start .args .w) (start .pre) (stage .intermediate .ensures) (four .fourth .ensures) (above .above .ensures) (c .before .before .if1 .left) (c .rounded2 .ensures)
 
 returns-3 : tie.Need-returns-3
 returns-3 c =
@@ -126,8 +126,8 @@ returns-3 c =
     let start = stage .before in
     final (start .args .f) (start .args .w) (start .pre) (stage .intermediate .ensures) (four .fourth .ensures) (above .above .ensures) (c .before .before .before .before .if1 .left) (c .before .held-down .ensures) (c .if3 .taken)
 
-root-of-requires-3 : tie.Need-root-of-requires-3
-root-of-requires-3 c κs = search needs
+rounded-requires-3 : tie.Need-rounded-requires-3
+rounded-requires-3 c κs = search needs
 
 lesser-requires-2 : tie.Need-lesser-requires-2
 lesser-requires-2 c κs = search needs
@@ -143,7 +143,7 @@ returns-4 c =
     let four = above .before .before in
     let stage = four .before in
     let start = stage .before in
-    either (start .args .f) (start .args .w) (start .pre) (stage .intermediate .ensures) (four .fourth .ensures) (above .above .ensures) (held .before .before .before .if1 .left) (held .held-down .ensures) (other .root-of3 .ensures) (c .before .lesser2 .ensures) (c .lesser3 .ensures)
+    either (start .args .f) (start .args .w) (start .pre) (stage .intermediate .ensures) (four .fourth .ensures) (above .above .ensures) (held .before .before .before .if1 .left) (held .held-down .ensures) (other .rounded3 .ensures) (c .before .lesser2 .ensures) (c .lesser3 .ensures)
 
 pub dry-spec : {M : Type 1} → statement M
 dry-spec =
@@ -156,13 +156,13 @@ dry-spec =
     mul-righting
     mul-if1
     lesser-requires
-    root-of-requires
+    rounded-requires
     returns
     returns-2
-    root-of-requires-2
+    rounded-requires-2
     held-down-requires
     returns-3
-    root-of-requires-3
+    rounded-requires-3
     lesser-requires-2
     lesser-requires-3
     returns-4)

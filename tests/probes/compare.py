@@ -5,7 +5,7 @@ import random
 import struct
 import subprocess
 import sys
-from itertools import product
+from itertools import chain, product
 from pathlib import Path
 
 HERE = Path(__file__).resolve().parent
@@ -14,7 +14,7 @@ sys.path.insert(0, str(HERE.parent))
 
 from generator.dice import Dice  # noqa: E402
 from generator.fresh import seeded_file  # noqa: E402
-from generator.shapes import seeded_hull, seeded_layers  # noqa: E402
+from generator.shapes import seeded_ferry, seeded_hull, seeded_layers  # noqa: E402
 from independent import Result, Row, judge, reading  # noqa: E402
 from independent.answering import row_survival  # noqa: E402
 from independent.casefile import hull_of, row_is_within  # noqa: E402
@@ -22,6 +22,7 @@ from independent.printing import mark_byte  # noqa: E402
 from independent.regulation import v  # noqa: E402
 from independent.rounding import share_ends  # noqa: E402
 from linking import linked  # noqa: E402
+from passengers import WORDS, at_limits, passenger_expected, seeded  # noqa: E402
 
 PLACES = 21  # of a hull record: 0, the inner bulkheads, Ls, and zeros after it
 MOST = 2**64 - 1
@@ -99,26 +100,30 @@ def group(dice, zones):
 
 
 def rows(dice, count):
-    """Rows in hulls of many shapes; now and then one that the hull does not have, or a hull that is none."""
+    """Rows in hulls of many shapes and of both ship types; now and then one that the hull does not have, or a hull that is none."""
     for _ in range(count):
-        hull = seeded_hull(dice, 20 if dice.one_in(4) else None)
+        kind = dice.pick((1, 6))
+        hull = (seeded_ferry if kind == 6 else seeded_hull)(dice, 20 if dice.one_in(4) else None)
         (a, n), (before, b) = group(dice, hull.zones), layer(dice, hull)
         places = (0,) + hull.bulkheads + (hull.ls,)
-        numbers = [hull.ls, hull.breadth, hull.ds, hull.dl, hull.zones, *places] + [0] * (PLACES - len(places))
+        numbers = [kind, hull.ls, hull.breadth, hull.ds, hull.dl, hull.zones, *places] + [0] * (PLACES - len(places))
         asked = [a, n, before, b]
         if dice.one_in(20):
             asked[dice.below(4)] = dice.pick((0, hull.zones + 1, hull.half + 1, 2**63, 2**64 - 1, 2**64 - hull.zones))
         if dice.one_in(50):
-            numbers[dice.below(5 + len(places))] = dice.pick((0, 1, 7999, 19801, 6001, 2**64 - 1))
+            numbers[dice.below(6 + len(places))] = dice.pick((0, 1, 398, 400, 998, 1999, 7999, 19801, 6001, 2**64 - 1))
+        if dice.one_in(10):
+            numbers[0] = dice.pick((0, 1, 5, 6, 7, 262, 2**64 - 1))
         yield tuple(numbers), tuple(asked)
 
 
-def hull_read(ls, breadth, ds, dl, zones, *places):
-    """The hull that the independent program reads from a frame of these numbers, or None where it refuses it or no frame has them."""
+def hull_read(kind, ls, breadth, ds, dl, zones, *places):
+    """The hull that the independent program reads from a frame of these numbers, or None where it refuses it or no frame has them. A passenger ship has
+    nobody aboard, and whatever is not kind 6 is a cargo ship."""
     if max(ls, breadth, ds, dl, *places) > 65_535 or not 1 <= zones <= 20 or places[0] != 0 or places[zones] != ls:
         return None
-    words = [number.to_bytes(2, "big") for number in (ls, breadth, ds, dl) + places[1:zones]]
-    read = hull_of(b"\x01" + b"".join(words[:4]) + bytes([zones]) + b"".join(words[4:]))
+    sizes, inner = (b"".join(number.to_bytes(2, "big") for number in part) for part in ((ls, breadth, ds, dl), places[1:zones]))
+    read = hull_of((b"\x06" + sizes + bytes(4) if kind == 6 else b"\x01" + sizes) + bytes([zones]) + inner)
     return None if isinstance(read, int) else read
 
 
@@ -155,6 +160,8 @@ def questions(dice, wanted):
     """Each question in words, as the host reads it, and the numbers that it must answer."""
     for asked in survivals(dice, wanted.survivals):
         yield "survival of kind %d, lever %d, range %d, heel %d, opening %d, given %d" % asked, b"s" + numbers(asked), survival_expected(*asked)
+    for asked in chain(at_limits(OPENINGS + FAR), seeded(Dice(wanted.seed), wanted.passengers, OPENINGS + FAR)):
+        yield "survival of " + WORDS % asked, b"p" + numbers(asked), passenger_expected(*asked)
     for asked in heights(dice, wanted.heights):
         yield "v of a row from %d to %d at draught %d" % asked, b"v" + numbers(asked), height_expected(*asked)
     for hull, row in rows(Dice(wanted.seed), wanted.rows):
@@ -167,6 +174,7 @@ def main():
     parser = argparse.ArgumentParser(description=__doc__)
     parser.add_argument("--seed", type=int, default=1)
     parser.add_argument("--survivals", type=int, default=10_000)
+    parser.add_argument("--passengers", type=int, default=20_000)
     parser.add_argument("--heights", type=int, default=10_000)
     parser.add_argument("--rows", type=int, default=10_000)
     parser.add_argument("--files", type=int, default=20_000)

@@ -2,15 +2,22 @@
  *
  * A question is a letter and what `asking.h` says of its numbers and files; an opening comes in two's complement:
  *   s kind lever range heel opening given   -> bottom top marks
+ *   p lever range heel opening displacement moment, an intermediate stage's lever range heel, ro-ro mark -> bottom top marks
  *   v below height draught                  -> v
  *   j file                                  -> number line rows
- *   q hull (26 numbers) a n b' b            -> rows lower upper */
+ *   q hull (27 numbers) a n b' b            -> rows lower upper */
 #include "asking.h"
 #include <string.h>
 
 uint64_t probe_bottom(uint64_t kind, uint64_t lever, uint64_t range, uint64_t heel, int64_t opening, uint64_t given);
 uint64_t probe_top(uint64_t kind, uint64_t lever, uint64_t range, uint64_t heel, int64_t opening, uint64_t given);
 uint64_t probe_marks(uint64_t kind, uint64_t lever, uint64_t range, uint64_t heel, int64_t opening, uint64_t given);
+uint64_t probe_passenger_bottom(uint64_t lever, uint64_t range, uint64_t heel, int64_t opening, uint64_t displacement, uint64_t moment,
+                                uint64_t midlever, uint64_t midrange, uint64_t midheel, uint64_t roro);
+uint64_t probe_passenger_top(uint64_t lever, uint64_t range, uint64_t heel, int64_t opening, uint64_t displacement, uint64_t moment,
+                             uint64_t midlever, uint64_t midrange, uint64_t midheel, uint64_t roro);
+uint64_t probe_passenger_marks(uint64_t lever, uint64_t range, uint64_t heel, int64_t opening, uint64_t displacement, uint64_t moment,
+                               uint64_t midlever, uint64_t midrange, uint64_t midheel, uint64_t roro);
 uint64_t probe_height(uint64_t below, uint64_t height, uint64_t draught);
 uint64_t probe_number(const uint8_t *input, size_t length);
 uint64_t probe_line(const uint8_t *input, size_t length);
@@ -34,6 +41,15 @@ static void survival(void) {
     tell(probe_marks(kind, lever, range, heel, opening, given));
 }
 
+static void passenger_survival(void) {
+    uint64_t lever = ask(), range = ask(), heel = ask();
+    int64_t opening = ask_signed();
+    uint64_t displacement = ask(), moment = ask(), midlever = ask(), midrange = ask(), midheel = ask(), roro = ask();
+    tell(probe_passenger_bottom(lever, range, heel, opening, displacement, moment, midlever, midrange, midheel, roro));
+    tell(probe_passenger_top(lever, range, heel, opening, displacement, moment, midlever, midrange, midheel, roro));
+    tell(probe_passenger_marks(lever, range, heel, opening, displacement, moment, midlever, midrange, midheel, roro));
+}
+
 static void height(void) {
     uint64_t below = ask(), above = ask(), draught = ask();
     tell(probe_height(below, above, draught));
@@ -49,10 +65,10 @@ static void judgement(void) {
 }
 
 static void share(void) {
-    uint64_t hull[26], row[4], out[2] = {0, 0};
-    for (int i = 0; i < 26; i++) hull[i] = ask();
+    uint64_t hull[27], row[4], out[2] = {0, 0};
+    for (int i = 0; i < 27; i++) hull[i] = ask();
     for (int i = 0; i < 4; i++) row[i] = ask();
-    tell(probe_shares(hull, 26, row, 4, out, 2));
+    tell(probe_shares(hull, 27, row, 4, out, 2));
     tell(out[0]);
     tell(out[1]);
 }
@@ -60,6 +76,7 @@ static void share(void) {
 int main(void) {
     for (int question; (question = getchar()) != EOF;) {
         if (question == 's') survival();
+        else if (question == 'p') passenger_survival();
         else if (question == 'v') height();
         else if (question == 'j') judgement();
         else if (question == 'q') share();

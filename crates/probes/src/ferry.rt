@@ -92,8 +92,7 @@ pub extern "C" fn probe_passenger_bottom(
         midrange,
         midheel,
         roro,
-    )
-    .bottom
+    ).bottom
 }
 
 // The top.
@@ -123,8 +122,7 @@ pub extern "C" fn probe_passenger_top(
         midrange,
         midheel,
         roro,
-    )
-    .top
+    ).top
 }
 
 // The byte of the marks.

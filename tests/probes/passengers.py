@@ -25,7 +25,7 @@ WORDS = "lever %d, range %d, heel %d, opening %d, displacement %d, moment %d, at
 
 def passenger_expected(lever, reach, heel, opening, displacement, moment, *stage):
     """Bottom, top and byte of the marks by the independent program: zeros where a file could not have such loads; only 1 is a ro-ro mark."""
-    if lever > MOST_LEVER or displacement > MOST_DISPLACEMENT or not 1 <= moment <= MOST_MOMENT:
+    if lever > MOST_LEVER or not 1 <= displacement <= MOST_DISPLACEMENT or not 1 <= moment <= MOST_MOMENT:
         return 0, 0, 0
     *stage, roro = stage
     ends, marks = passenger_survival(Result(lever, reach, heel, opening), Stage(displacement, moment, *stage, int(roro == 1)))

@@ -7,6 +7,7 @@ use Rattle.records.specs.declared.Finding.{Finding}
 use Rattle.records.specs.declared.Flooding.{Flooding}
 use Rattle.records.specs.declared.Survival.{Survival}
 use Rattle.survival.specs.Survival.{noSurvival, passengerSurvival}
+use Rattle.casefile.specs.Limits.{between}
 
 abbrev pub finalOf : ℕ → ℕ → ℕ → ℤ → Finding
 finalOf lever range heel opening = record { lever = lever; range = range; heel = heel; opening = opening; given = 0 }
@@ -17,7 +18,7 @@ floodingOf displacement moment lever range heel roro =
 
 -- lever, displacement and moment keep the limits of a case file
 unfoldable pub loads : ℕ → ℕ → ℕ → Bool
-loads lever displacement moment = leb lever 5000 && leb displacement 300000 && (leb 1 moment && leb moment 2000000)
+loads lever displacement moment = leb lever 5000 && between 1 300000 displacement && between 1 2000000 moment
 
 -- nothing is told of others
 unfoldable pub survivalTold : Finding → Flooding → Survival

@@ -11,7 +11,9 @@ use records::Survival;
 fn are_loads(lever: u64, displacement: u64, moment: u64) -> bool
     ensures { λ r. ⌜ r ≡ loads lever displacement moment ⌝ }
 {
-    (lever <= 5000) & (displacement <= 300000) & ((1 <= moment) & (moment <= 2000000))
+    (lever <= 5000)
+        & ((1 <= displacement) & (displacement <= 300000))
+        & ((1 <= moment) & (moment <= 2000000))
 }
 
 fn told(f: Finding, w: Flooding) -> Survival

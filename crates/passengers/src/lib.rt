@@ -11,11 +11,11 @@ use survival::finding::is_immersed;
 use survival::finding::lesser;
 use survival::finding::rounded;
 ghost use mathlib.Core.Path.{_≡_};
-ghost use Prim.Native.Nat.{_*_, _^_, _≤_};
+ghost use Prim.Native.Nat.{_≤_};
 ghost use Rattle.laws.specs.Fraction.{lesser, _⊛_};
 ghost use Rattle.solas.specs.Passengers.{intermediate⁴};
-ghost use Rattle.survival.specs.Parts.{InParts, parts};
-ghost use Rattle.survival.specs.Survival.{root, ends, fourthPower, roundedOf, passengerSurvival, survivalsOf, Loaded};
+ghost use Rattle.survival.specs.Parts.{InParts};
+ghost use Rattle.survival.specs.Survival.{root, ends, fourthPower, passengerSurvival, survivalsOf, Loaded};
 ghost use Rattle.survival.specs.Passengers.{intOf, finalOf, momOf};
 ghost use Rattle.passengers.specs.Numbers.{capsOf, fourthIn, Loads};
 

@@ -59,7 +59,7 @@ static int is_of_passengers(const uint8_t *input, size_t length) {
 /* What holds a survival down. Of a given survival, and of one that is one already, there is nothing to tell. A passenger ship's marks are those of the final
  * stage; what is below one without a mark is so by the intermediate stage or the heeling moment, and which of the two it is the answer does not say. */
 static void tell_marks(uint64_t bottom, uint64_t added_up, int of_passengers) {
-    const char *before = of_passengers ? ", held down in the final stage by " : ", held down by ";
+    const char *before = of_passengers ? ", marks of the final stage: " : ", held down by ";
     if (of_passengers && added_up == 0 && bottom < 10000) printf(", held down by the intermediate stage or the heeling moment");
     for (size_t i = 0; i < sizeof marks / sizeof *marks; i++) {
         if (!(added_up & marks[i].mark)) continue;

@@ -101,7 +101,7 @@ def held_down(bottom, marks, of_passengers):
     the final stage; what is below one without a mark is so by the intermediate stage or the heeling moment, and which of the two it is the answer does not say."""
     names = [name for mark, name in MARKS.items() if marks & mark]
     if names:
-        return ", held down %sby %s" % ("in the final stage " if of_passengers else "", " and ".join(names))
+        return ", %s %s" % ("marks of the final stage:" if of_passengers else "held down by", " and ".join(names))
     return ", held down by the intermediate stage or the heeling moment" if of_passengers and bottom < 10000 else ""
 
 

@@ -31,7 +31,7 @@ hullIn ns =
       places = tabulate (λ k. number ns (6 + k)) 21;
     }
 
--- a hull that no case file would be refused for
+-- a hull of kind 6 that no case file would be refused for; any other kind is taken for a cargo ship's
 abbrev pub hullFits : Hull → Bool
 hullFits h = sizesFit h && zonesFit h
 

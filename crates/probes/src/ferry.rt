@@ -1,4 +1,4 @@
-// A passenger ship's survival at a draught, from numbers that a host gives: nothing is told of those that no case file may have.
+// A passenger ship's survival at a draught, from numbers that a host gives: nothing is told where lever, displacement or moment is outside the limits of a case file.
 ghost use mathlib.Core.Path.{_≡_};
 ghost use Rattle.printing.specs.Marks.{markByte};
 ghost use Rattle.probes.specs.Passengers.{loads, survivalTold, finalOf, floodingOf};

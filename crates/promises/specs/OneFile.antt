@@ -74,7 +74,7 @@ abbrev pub TwoSetsInFull : Type 0
 TwoSetsInFull = report (reading twoSets) ≡ textOfTwoSets
 
 -- ---- a passenger ship's file: 24 m long, 6 m broad, 90 persons with a place in a lifeboat and 30 without, one zone. At the deepest draught lever, range and heel
--- hold the final stage down, and the moment halves what is left; at the partial one, a ro-ro case with a lever of 160, the intermediate stage is the worse; at the
+-- hold the final stage down, and the moment leaves some half of that; at the partial one, a ro-ro case with a lever of 160, the intermediate stage is the worse; at the
 -- light one nothing is marked, and the moment leaves nine tenths
 abbrev pub passengerFile : List ℕ
 passengerFile =

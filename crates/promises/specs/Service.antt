@@ -14,7 +14,7 @@ use Rattle.casefile.specs.Acceptance.{valuesFrom, caseValues}
 use Rattle.casefile.specs.Refusal.{Refusal}
 use Rattle.answers.specs.Answer.{refusal, answered, sheetAfter}
 
--- the bytes are the file of the case c, which keeps 01's limits, 02's of an opening, and 01's order, and are not too many
+-- the bytes are the file of the case c, which keeps 01's limits, 02's of an opening and of passenger ships, and 01's order, and are not too many
 pub record FileOf (f : List ℕ) (c : Case) : Type 0 where
   pub short : length f ≤ longestInput
   pub valid : Valid c

@@ -12,13 +12,13 @@ use Rattle.survival.proofs.Telling.{one-exactly-when-unmarked}
 use Rattle.survival.proofs.Worse.{lower-survival-counts}
 
 five-found : Found 5
-five-found e = omega arith
+five-found = (λ e. omega arith, λ e. omega arith)
 
 at-most-one : (f : Finding) → (survivalOf 5 f .bottom ≤ 10 ^ 4) × (survivalOf 5 f .top ≤ 10 ^ 4)
 at-most-one f =
     let p = fourth-sensible f in
     let s = root (fourthOf f) in
-    rw (as-found 5 f five-found) (omega (arith, ends-ordered s p, ends-at-most s p), ends-at-most s p)
+    rw (as-found 5 f (five-found .0)) (omega (arith, ends-ordered s p, ends-at-most s p), ends-at-most s p)
 
 pub one-of-two : OneOfTwo
 one-of-two f g =

@@ -89,20 +89,20 @@ module _ (kind : ℕ) (f : Finding) (n : Found kind) where
 
   lever-kept : (survivalOf kind f .marks .lever ≡ false) ↔ (120 ≤ f .lever)
   unfolding foundMarks
-  lever-kept = rw (as-found kind f n) (ltb-false (f .lever) 120, le-ltb (f .lever) 120)
+  lever-kept = rw (as-found kind f (n .0)) (ltb-false (f .lever) 120, le-ltb (f .lever) 120)
 
   range-kept : (survivalOf kind f .marks .range ≡ false) ↔ (1600 ≤ f .range)
   unfolding foundMarks
-  range-kept = rw (as-found kind f n) (ltb-false (f .range) 1600, le-ltb (f .range) 1600)
+  range-kept = rw (as-found kind f (n .0)) (ltb-false (f .range) 1600, le-ltb (f .range) 1600)
 
   heel-kept : (survivalOf kind f .marks .heel ≡ false) ↔ (f .heel ≤ 2500)
   unfolding foundMarks
-  heel-kept = rw (as-found kind f n) (ltb-false 2500 (f .heel), le-ltb 2500 (f .heel))
+  heel-kept = rw (as-found kind f (n .0)) (ltb-false 2500 (f .heel), le-ltb 2500 (f .heel))
 
   -- the opening's mark is whether it is immersed
   opening-marked : survivalOf kind f .marks .opening ≡ immersed (f .opening)
   unfolding foundMarks
-  opening-marked = ap (λ s. s .marks .opening) (as-found kind f n)
+  opening-marked = ap (λ s. s .marks .opening) (as-found kind f (n .0))
 
   unmarked-kept : (survivalOf kind f .marks ≡ unmarked) ↔ KeptDry
   unmarked-kept = (
@@ -117,7 +117,7 @@ module _ (kind : ℕ) (f : Finding) (n : Found kind) where
       none p q r s = cc
 
   kept-one : KeptDry → IsOne (survivalOf kind f)
-  kept-one h = rw (as-dry kind f n (h .dry)) (exact-ends (f .lever) (f .range) (f .heel) (kept-exact (f .lever) (f .range) (f .heel) (h .caps)))
+  kept-one h = rw (as-dry kind f (n .0) (h .dry)) (exact-ends (f .lever) (f .range) (f .heel) (kept-exact (f .lever) (f .range) (f .heel) (h .caps)))
 
   -- where something is not zero that an immersed opening makes zero, the opening is dry
   dry-by : {A : Type 0} → (immersed (f .opening) ≡ true → ⊥) → (immersed (f .opening) ≡ false → A) → A
@@ -125,13 +125,13 @@ module _ (kind : ℕ) (f : Finding) (n : Found kind) where
 
   one-kept : survivalOf kind f .top ≡ 10 ^ 4 → KeptDry
   one-kept h =
-      dry-by (λ i. omega (arith, rw (as-lost kind f n i) at h))
-      (λ d. record { caps = top-kept (f .lever) (f .range) (f .heel) (rw (as-dry kind f n d) at h); dry = d })
+      dry-by (λ i. omega (arith, rw (as-lost kind f (n .0) i) at h))
+      (λ d. record { caps = top-kept (f .lever) (f .range) (f .heel) (rw (as-dry kind f (n .0) d) at h); dry = d })
 
   one-both : survivalOf kind f .bottom ≡ 10 ^ 4 → survivalOf kind f .top ≡ 10 ^ 4
   one-both h =
-      dry-by (λ i. omega (arith, rw (as-lost kind f n i) at h))
-      (λ d. rw (as-dry kind f n d) (bottom-top (f .lever) (f .range) (f .heel) (rw (as-dry kind f n d) at h)))
+      dry-by (λ i. omega (arith, rw (as-lost kind f (n .0) i) at h))
+      (λ d. rw (as-dry kind f (n .0) d) (bottom-top (f .lever) (f .range) (f .heel) (rw (as-dry kind f (n .0) d) at h)))
 
   exact-kept : (fourthOf f ≈ whole 1) ↔ KeptDry
   exact-kept = (
@@ -153,10 +153,10 @@ pub each-mark-its-own : EachMarkItsOwn
 unfolding foundMarks
 each-mark-its-own =
     record {
-      lever = λ kind f n. rw (as-found kind f n) (ltb-true (f .lever) 120, lt-ltb (f .lever) 120);
-      range = λ kind f n. rw (as-found kind f n) (ltb-true (f .range) 1600, lt-ltb (f .range) 1600);
-      heel = λ kind f n. rw (as-found kind f n) (ltb-true 2500 (f .heel), lt-ltb 2500 (f .heel));
-      opening = λ kind f n. rw (as-found kind f n) (immersed-below (f .opening));
+      lever = λ kind f n. rw (as-found kind f (n .0)) (ltb-true (f .lever) 120, lt-ltb (f .lever) 120);
+      range = λ kind f n. rw (as-found kind f (n .0)) (ltb-true (f .range) 1600, lt-ltb (f .range) 1600);
+      heel = λ kind f n. rw (as-found kind f (n .0)) (ltb-true 2500 (f .heel), lt-ltb 2500 (f .heel));
+      opening = λ kind f n. rw (as-found kind f (n .0)) (immersed-below (f .opening));
     }
 
 -- ---- with another lever, range, heel or opening
@@ -199,13 +199,13 @@ opening-decides =
     record {
       lost = λ kind f n l.
           let i = immersed-below (f .opening) .1 l in
-          let s = as-lost kind f n i in
+          let s = as-lost kind f (n .0) i in
           (ap (λ s. s .bottom) s, ap (λ s. s .top) s, rw (lost-if-immersed (f .opening) (s⁴ (f .lever) (f .range) (f .heel)) i) (≈-refl (whole 0)));
       dry = λ kind f o n p q.
           let here = dry-not-below (f .opening) .1 p in
           let there = dry-not-below o .1 q in
           let s = s⁴ (f .lever) (f .range) (f .heel) in
-          (as-dry kind (withOpening o f) n there ∙ rw (same-marks f o here there) (sym (as-dry kind f n here)), rw (kept-if-dry (f .opening) s here) (≈-refl s));
+          (as-dry kind (withOpening o f) (n .0) there ∙ rw (same-marks f o here there) (sym (as-dry kind f (n .0) here)), rw (kept-if-dry (f .opening) s here) (≈-refl s));
     }
 
 pub given-is-unmarked : GivenIsUnmarked

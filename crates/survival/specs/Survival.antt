@@ -31,7 +31,7 @@ pub data Factor : Type 0 where
 abbrev pub fourthOf : Finding → Fraction
 fourthOf f = unlessImmersed (f .opening) (s⁴ (f .lever) (f .range) (f .heel))
 
--- a row of kind 3 has given survival, any other that of its finding
+-- a cargo ship's row: of kind 3 it has given survival, of another that of its finding
 unfoldable pub factorOf : ℕ → Finding → Factor
 factorOf kind f = cond (eqb kind 3) (given (f .given)) (root (fourthOf f))
 

@@ -14,9 +14,9 @@ use Rattle.solas.specs.Survival.{s⁴}
 use Rattle.survival.specs.Marks.{unmarked}
 use Rattle.survival.specs.Survival.{root, ends, fourthOf, survivalOf}
 
--- a row of any kind but 3 has its survival from what was found
+-- a cargo ship's row of any kind but 3 has its survival from what was found; a passenger ship's are of kind 7
 abbrev pub Found : ℕ → Type 0
-Found kind = kind ≡ 3 → ⊥
+Found kind = (kind ≡ 3 → ⊥) × (kind ≡ 7 → ⊥)
 
 -- one by bottom and by top
 abbrev pub IsOne : Survival → Type 0

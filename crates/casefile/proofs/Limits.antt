@@ -85,13 +85,6 @@ sizes-are h e =
       excess = leb-true (h .excess) 10000 p2;
     }
 
--- a cargo ship is from 80 m long and from 10 m broad
-pub cargo-long : (h : Hull) → Sizes h → h .kind ≡ 1 → 8000 ≤ h .length
-cargo-long h s k = rw k at (s .long-of-kind)
-
-pub cargo-broad : (h : Hull) → Sizes h → h .kind ≡ 1 → 1000 ≤ h .breadth
-cargo-broad h s k = rw k at (s .broad-of-kind)
-
 pub record Zones (h : Hull) : Type 0 where
   pub some : 1 ≤ h .zones
   pub most : h .zones ≤ 20

@@ -1,16 +1,12 @@
--- Fields of four bytes: how great they are, in a part of a line, and written back. Assumes nothing.
+-- Fields of four bytes: in a part of a line, and written back. Assumes nothing.
 use Prim.Native.Nat.{ℕ, _+_, _/_, _%_, _<_}
 use mathlib.Core.Path.{_≡_, refl, _∙_, ap, ap₂}
-use mathlib.Core.List.{List, [], _∷_, _++_}
+use mathlib.Core.List.{List, [], _∷_}
 use native.Mathlib.Omega.{arith}
 use lib.ListN.{drop}
 use Rattle.laws.specs.Bytes.{Octets, bytes}
 use Rattle.fields.specs.Fields.{byteAt, wordAt, longAt}
-use Rattle.fields.proofs.Fields.{word-below, word-drop}
-
-pub long-below : (f : List ℕ) (at : ℕ) → Octets f → longAt f at < 4294967296
-unfolding longAt
-long-below f at o = omega (arith, word-below f at o, word-below f (at + 2) o)
+use Rattle.fields.proofs.Fields.{word-drop}
 
 pub long-drop : (k at : ℕ) (f : List ℕ) → longAt (drop k f) at ≡ longAt f (k + at)
 unfolding longAt
@@ -25,7 +21,7 @@ pub four-bytes : (n : ℕ) → n < 4294967296 → bytes 4 n ≡ n / 16777216 ∷
 unfolding bytes
 four-bytes n h = four (omega arith) (omega arith) (omega arith) (omega arith)
 
--- the four bytes of a field write it, and are written by it
+-- a field written back is its four bytes
 pub bytes-of-long : (f : List ℕ) (at : ℕ) → Octets f → bytes 4 (longAt f at) ≡ byteAt f at ∷ byteAt f (at + 1) ∷ byteAt f (at + 2) ∷ byteAt f (at + 3) ∷ []
 unfolding longAt wordAt
 bytes-of-long f at o =
@@ -35,7 +31,3 @@ bytes-of-long f at o =
     let l : byteAt f (at + 3) < 256 = o (at + 3) in
     let e : at + 2 + 1 ≡ at + 3 = omega arith in
     rw e (four-bytes _ (omega arith) ∙ four (omega arith) (omega arith) (omega arith) (omega arith))
-
-pub long-of-bytes : (n : ℕ) (rest : List ℕ) → n < 4294967296 → longAt (bytes 4 n ++ rest) 0 ≡ n
-unfolding longAt wordAt
-long-of-bytes n rest h = rw (four-bytes n h) (omega arith)

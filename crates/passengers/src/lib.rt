@@ -6,6 +6,7 @@ use records::Finding;
 use records::Flooding;
 use records::Marks;
 use records::Survival;
+use survival::finding::PARTS;
 use survival::finding::Roots;
 use survival::finding::is_immersed;
 use survival::finding::lesser;
@@ -31,9 +32,6 @@ const STAGE_RANGE: u64 = 700;
 
 // The lever (mm) up to which no heeling moment is borne.
 const LEVER_LOST: u64 = 40;
-
-// 168·10¹⁶, the 168ths of 10⁻¹⁶ that make one.
-const PARTS: u64 = 1_680_000_000_000_000_000;
 
 // What the ro-ro mark decides of the final stage: the caps of lever and range; what its s⁴ is divided by, in ten-thousands; and the 168ths of 10⁻¹⁶ of
 // one part of that.

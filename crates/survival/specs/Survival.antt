@@ -119,7 +119,7 @@ passengerSurvival f w = marked (ends (root (passengerFourth f w))) (passengerMar
 abbrev pub still : Flooding
 still = record { displacement = 1; moment = 1; lever = 0; range = 0; heel = 0; roro = 0 }
 
--- "displacement (t, 1 to 300,000) and heeling moment (tm, 1 to 2,000,000)", and the lever's limit: what the moments need
+-- what the moments need: lever, displacement and heeling moment within the case file's limits
 pub record Loaded (f : Finding) (w : Flooding) : Type 0 where
   pub lever : f .lever ≤ 5000
   pub displacement : w .displacement ≤ 300000

@@ -30,7 +30,7 @@ const CAPS: u64 = LEVER * RANGE;
 const FALL: u64 = (LOST - UPRIGHT) * (LOST - UPRIGHT);
 
 // 168·10¹⁶, the 168ths of 10⁻¹⁶ that make one: whatever s⁴ is divided by, of either ship type, goes into it without a rest.
-const PARTS: u64 = 1_680_000_000_000_000_000;
+pub const PARTS: u64 = 1_680_000_000_000_000_000;
 
 // 10¹⁶ times a fraction, rounded down and up.
 struct Multiple {

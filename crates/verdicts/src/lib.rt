@@ -14,7 +14,7 @@ ghost use Rattle.verdicts.specs.Verdict.{reaches, allReach, verdictOf};
 const WHOLE: u64 = 1_000_000_000;
 
 // R of a cargo ship of so many centimetres.
-pub fn required(length: u64) -> Ratio
+fn required(length: u64) -> Ratio
     requires { ⌜ length ≤ 10 ^ 6 ⌝ }
     ensures { λ r. ⌜ r ≡ ratioOf (R length) ⌝ }
 {
@@ -31,7 +31,7 @@ pub fn required(length: u64) -> Ratio
 }
 
 // What each of its partial indices must reach: half of R.
-pub fn partial_mark(length: u64) -> Ratio
+fn partial_mark(length: u64) -> Ratio
     requires { ⌜ length ≤ 10 ^ 6 ⌝ }
     ensures { λ r. ⌜ r ≡ ratioOf (partialMark length) ⌝ }
 {
@@ -43,7 +43,7 @@ pub fn partial_mark(length: u64) -> Ratio
 }
 
 // R of a passenger ship of so many centimetres with so many persons counted.
-pub fn passenger_required(length: u64, persons: u64) -> Ratio
+fn passenger_required(length: u64, persons: u64) -> Ratio
     requires { ⌜ (length ≤ 10 ^ 6) × (persons ≤ 10 ^ 6) ⌝ }
     ensures { λ r. ⌜ r ≡ ratioOf (passengerR length persons) ⌝ }
 {
@@ -55,7 +55,7 @@ pub fn passenger_required(length: u64, persons: u64) -> Ratio
 }
 
 // What each of its partial indices must reach: nine tenths of R.
-pub fn passenger_mark(length: u64, persons: u64) -> Ratio
+fn passenger_mark(length: u64, persons: u64) -> Ratio
     requires { ⌜ (length ≤ 10 ^ 6) × (persons ≤ 10 ^ 6) ⌝ }
     ensures { λ r. ⌜ r ≡ ratioOf (passengerMark length persons) ⌝ }
 {

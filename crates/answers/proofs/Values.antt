@@ -26,7 +26,7 @@ abbrev ends : ℕ → ℕ → Ends
 ends lower upper = record { lower = lower; upper = upper }
 
 abbrev metres100 : Hull
-metres100 = record { kind = 1; length = 10000; breadth = 0; deepest = 0; light = 0; lifeboats = 0; excess = 0; zones = 0; places = [] }
+metres100 = record { kind = 1; length = 10000; breadth = 0; deepest = 0; light = 0; lifeboats = 0; excess = 0; rule = 0; zones = 0; places = [] }
 
 -- with one row, and As, Ap, Al
 abbrev Figured : Ends → Ends → Ends → Ends → ℕ → Type 0

@@ -24,9 +24,9 @@ longestFile = 55604
 abbrev pub EveryCargoCaseIsRead : Type 0
 EveryCargoCaseIsRead = (c : Case) → Valid c → c .hull .kind ≡ 1 → (length (encode c) ≤ longestFile) × (reading (encode c) ≡ accepted c)
 
--- a passenger ship's is read where it has at most 427 rows, or 428 in at most 5 zones; any other is too long
+-- a passenger ship's is read where it has at most 427 rows, or 428 in at most 4 zones; any other is too long
 abbrev pub FewEnough : Case → Type 0
-FewEnough c = (length (c .rows) ≤ 427) ⊎ ((length (c .rows) ≡ 428) × (c .hull .zones ≤ 5))
+FewEnough c = (length (c .rows) ≤ 427) ⊎ ((length (c .rows) ≡ 428) × (c .hull .zones ≤ 4))
 
 abbrev pub PassengerCasesRead : Type 0
 PassengerCasesRead = (c : Case) → Valid c → c .hull .kind ≡ 6 → (reading (encode c) ≡ accepted c) ↔ FewEnough c

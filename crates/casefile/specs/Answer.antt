@@ -39,7 +39,7 @@ valuesOf h rs (Frame.Wrong k) = []
 -- ---- line 1, judged
 
 abbrev pub noHull : Hull
-noHull = record { kind = 0; length = 0; breadth = 0; deepest = 0; light = 0; lifeboats = 0; excess = 0; zones = 0; places = replicate 21 0 }
+noHull = record { kind = 0; length = 0; breadth = 0; deepest = 0; light = 0; lifeboats = 0; excess = 0; rule = 0; zones = 0; places = replicate 21 0 }
 
 abbrev pub givenFirst : Hull → FirstLine
 givenFirst h = record { frame = Frame.Hull; hull = h }

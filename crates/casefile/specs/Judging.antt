@@ -12,7 +12,7 @@ use Rattle.casefile.specs.declared.Judgement.{Judgement}
 use Rattle.casefile.specs.declared.Step.{Step}
 use Rattle.casefile.specs.Record.{Row}
 use Rattle.casefile.specs.Layout.{kindOf, isRow, hullLength, rowOf, countOf}
-use Rattle.casefile.specs.Limits.{sizesFit, zonesFit, headFits}
+use Rattle.casefile.specs.Limits.{sizesFit, personsFit, zonesFit, headFits}
 use Rattle.casefile.specs.Table.{_when_, firstHolds, wrongFrame, checksOfRow, rowChecks, endChecks}
 use Rattle.casefile.specs.Reading.{refused, withEnd}
 use Rattle.casefile.specs.Answer.{unlessRefused, unlessWrong, judgementOf}
@@ -36,9 +36,9 @@ frameJudged h p bs =
 
 -- ---- line 1
 
--- refusals 4 and 5, of a hull whose frame has n bytes
+-- refusals 4, 13 and 5, of a hull whose frame has n bytes
 unfoldable pub hullNumber : Hull → ℕ → ℕ
-hullNumber h n = firstHolds ((4 when not (sizesFit h)) ∷ (5 when (not (zonesFit h) || not (eqb n (hullLength (h .kind) (h .zones))))) ∷ [])
+hullNumber h n = firstHolds ((4 when not (sizesFit h)) ∷ (13 when not (personsFit h)) ∷ (5 when (not (zonesFit h) || not (eqb n (hullLength (h .kind) (h .zones))))) ∷ [])
 
 unfoldable pub hullJudged : Hull → ℕ → FirstLine
 hullJudged h n = unlessRefused (hullNumber h n) h

@@ -43,11 +43,11 @@ isEnd kind = eqb kind 15
 unfoldable pub frameLength : ℕ → ℕ
 frameLength kind = cond (eqb kind 2) 31 (cond (eqb kind 3) 13 (cond (eqb kind 5) 55 (cond (eqb kind 7) 76 3)))
 
--- the bytes of a passenger ship's persons, two for each of the two counts
+-- the bytes of a passenger ship's persons, two for each of the two counts, and of the rule by which they count, one
 abbrev pub personsLength : ℕ → ℕ
-personsLength kind = cond (eqb kind 6) 4 0
+personsLength kind = cond (eqb kind 6) 5 0
 
--- the bytes of a hull of m zones: 8 + 2m, of a passenger ship 12 + 2m
+-- the bytes of a hull of m zones: 8 + 2m, of a passenger ship 13 + 2m
 abbrev pub hullLength : ℕ → ℕ → ℕ
 hullLength kind m = 8 + personsLength kind + 2 * m
 
@@ -84,7 +84,7 @@ abbrev pub zonesAt : ℕ → ℕ
 zonesAt kind = 8 + personsLength kind
 
 -- 01: Ls, B, ds, dl (two bytes each), zone count m (one), m-1 inner bulkheads (two each); 06 "adds after dl the persons for whom there are lifeboats and those
--- in excess, two bytes each"
+-- in excess, two bytes each"; and "in a byte after the persons which rule it is under"
 unfoldable pub hullOf : ℕ → List ℕ → Hull
 hullOf kind f = record {
   kind = kind;
@@ -94,6 +94,7 @@ hullOf kind f = record {
   light = wordAt f 6;
   lifeboats = cond (eqb kind 6) (wordAt f 8) 0;
   excess = cond (eqb kind 6) (wordAt f 10) 0;
+  rule = cond (eqb kind 6) (byteAt f 12) 0;
   zones = byteAt f (zonesAt kind);
   places = placesOf (λ k. wordAt f (7 + personsLength kind + 2 * k)) (byteAt f (zonesAt kind)) (wordAt f 0);
 }
@@ -168,12 +169,16 @@ innerOf h = take (h .zones - 1) (drop 1 (h .places))
 abbrev pub personsOf : Hull → List ℕ
 personsOf h = cond (eqb (h .kind) 6) (h .lifeboats ∷ h .excess ∷ []) []
 
+-- and its rule
+abbrev pub ruleOf : Hull → List ℕ
+ruleOf h = cond (eqb (h .kind) 6) (h .rule ∷ []) []
+
 -- its values, the kind first
 abbrev pub hullValues : Hull → List ℕ
-hullValues h = h .kind ∷ h .length ∷ h .breadth ∷ h .deepest ∷ h .light ∷ personsOf h ++ h .zones ∷ innerOf h
+hullValues h = h .kind ∷ h .length ∷ h .breadth ∷ h .deepest ∷ h .light ∷ personsOf h ++ ruleOf h ++ h .zones ∷ innerOf h
 
 unfoldable pub hullBytes : Hull → List ℕ
-hullBytes h = h .kind ∷ words (h .length ∷ h .breadth ∷ h .deepest ∷ h .light ∷ personsOf h) ++ h .zones ∷ words (innerOf h)
+hullBytes h = h .kind ∷ words (h .length ∷ h .breadth ∷ h .deepest ∷ h .light ∷ personsOf h) ++ ruleOf h ++ h .zones ∷ words (innerOf h)
 
 unfoldable pub findingBytes : ℕ → Finding → List ℕ
 findingBytes kind r = words (findingNumbers kind r)

@@ -1,7 +1,7 @@
--- Document 01, "The case file", "Limits", and document 02's of an opening and of passenger ships, each once: of the input, of a hull (refusals 4 and 5) and of a row (refusal 7).
+-- Document 01, "The case file", "Limits", and document 02's of an opening and of passenger ships, each once: of the input, of a hull (refusals 4, 13 and 5) and of a row (refusal 7).
 -- Assumes nothing.
 use Prim.Native.Nat.{ℕ, zero, suc, _+_, _-_, _/_, _%_}
-use mathlib.Core.Bool.{Bool, true, cond, _&&_}
+use mathlib.Core.Bool.{Bool, true, cond, not, _&&_}
 use mathlib.Core.List.{List, [], _∷_}
 use lib.ListN.{getD}
 use lib.Dec.{leb, ltb, eqb}
@@ -32,14 +32,23 @@ shortestShip kind = cond (eqb kind 6) 2000 8000
 abbrev pub narrowestShip : ℕ → ℕ
 narrowestShip kind = cond (eqb kind 6) 400 1000
 
--- Ls to 19,800; B even, to 6,000; ds 1,000 to 30,000; dl 500 to ds with ds - dl a multiple of 5; persons "at most 10,000 each"
+-- Ls to 19,800; B even, to 6,000; ds 1,000 to 30,000; dl 500 to ds with ds - dl a multiple of 5; persons "at most 10,000 each"; the rule's mark 0
+-- or 1
 unfoldable pub sizesFit : Hull → Bool
 sizesFit h =
     between (shortestShip (h .kind)) 19800 (h .length)
     && (eqb (h .breadth % 2) 0 && between (narrowestShip (h .kind)) 6000 (h .breadth))
     && between 1000 30000 (h .deepest)
     && (between 500 (h .deepest) (h .light) && eqb ((h .deepest - h .light) % 5) 0)
-    && (leb (h .lifeboats) 10000 && leb (h .excess) 10000)
+    && (leb (h .lifeboats) 10000 && leb (h .excess) 10000 && leb (h .rule) 1)
+
+-- all persons, "the sum of both person counts"
+abbrev pub aboard : Hull → ℕ
+aboard h = h .lifeboats + h .excess
+
+-- of the rule of 2020 not 1,351 to 6,000 persons: "The band between has a logarithm and is not taken yet"
+unfoldable pub personsFit : Hull → Bool
+personsFit h = not (eqb (h .rule) 1 && between 1351 6000 (aboard h))
 
 -- each of the places up to place k is above the one before
 unfoldable pub risingTo : List ℕ → ℕ → Bool

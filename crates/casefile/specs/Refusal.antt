@@ -7,12 +7,12 @@ use mathlib.Core.Logic.{_↔_, _⊎_}
 use lib.ListN.{length, getD, take}
 use Rattle.records.specs.declared.Hull.{Hull}
 use Rattle.lines.specs.Lines.{Line, lines}
-use Rattle.hexadecimal.specs.Hex.{pairs}
+use Rattle.hexadecimal.specs.Hex.{pairs, badlyWritten}
 use Rattle.casefile.specs.declared.Progress.{Progress}
 use Rattle.casefile.specs.Record.{Case}
-use Rattle.casefile.specs.Layout.{kindOf, isRow, isEnd}
-use Rattle.casefile.specs.Limits.{longestInput}
-use Rattle.casefile.specs.Table.{Check, hullChecks, lineChecks}
+use Rattle.casefile.specs.Layout.{kindOf, fieldsOf, isRow, isEnd, hullOf}
+use Rattle.casefile.specs.Limits.{longestInput, sizesFit, aboard}
+use Rattle.casefile.specs.Table.{Check, wrongHullFrame, hullChecks, lineChecks}
 use Rattle.casefile.specs.Reading.{refused, accepted, Stage, begin, next, reading}
 use Rattle.casefile.specs.Answer.{numberOf, frameAt}
 
@@ -66,6 +66,31 @@ Refusal f k l = TooLong f k l ⊎ (AtLine f k l ⊎ NoEnd f k l)
 abbrev pub Refusals : Type 0
 Refusals = (f : List ℕ) (k l : ℕ) → (reading f ≡ refused k l) ↔ Refusal f k l
 
+-- ---- 13: "a 2020 ship of 1,351 to 6,000 persons, line 1, right after 4"
+
+abbrev pub firstBytes : List ℕ → List ℕ
+firstBytes f = pairs (lineAt (lines f) 1 .text)
+
+abbrev pub firstHull : List ℕ → Hull
+firstHull f = hullOf (kindOf (firstBytes f)) (fieldsOf (firstBytes f))
+
+-- line 1 is a hull frame within the limits of 4, of such a ship
+pub record OfTheBand (f : List ℕ) : Type 0 where
+  pub short : length f ≤ longestInput
+  pub some : 1 ≤ length (lines f)
+  pub written : badlyWritten (lineAt (lines f) 1) ≡ false
+  pub frame : wrongHullFrame (firstBytes f) ≡ false
+  pub sizes : sizesFit (firstHull f) ≡ true
+  pub rule : firstHull f .rule ≡ 1
+  pub from : 1351 ≤ aboard (firstHull f)
+  pub to : aboard (firstHull f) ≤ 6000
+
+abbrev pub ThirteenExactly : Type 0
+ThirteenExactly = (f : List ℕ) (l : ℕ) → (reading f ≡ refused 13 l) ↔ ((l ≡ 1) × OfTheBand f)
+
+abbrev pub BandIsNotTaken : Type 0
+BandIsNotTaken = (f : List ℕ) (c : Case) → reading f ≡ accepted c → c .hull .rule ≡ 1 → (aboard (c .hull) ≤ 1350) ⊎ (6001 ≤ aboard (c .hull))
+
 -- ---- one answer
 
 abbrev pub Answered : Type 0
@@ -81,7 +106,7 @@ NotBoth = (f : List ℕ) (c : Case) (k l : ℕ) → reading f ≡ accepted c →
 
 -- the numbers of the table, in its order; 11 is of the sheet
 abbrev pub numbers : List ℕ
-numbers = 1 ∷ 10 ∷ 2 ∷ 3 ∷ 4 ∷ 5 ∷ 6 ∷ 7 ∷ 8 ∷ 9 ∷ []
+numbers = 1 ∷ 10 ∷ 2 ∷ 3 ∷ 4 ∷ 13 ∷ 5 ∷ 6 ∷ 7 ∷ 8 ∷ 9 ∷ []
 
 abbrev pub OfTheTable : Type 0
 OfTheTable = (f : List ℕ) (k l : ℕ) → reading f ≡ refused k l → List·Memᴰ k numbers
@@ -91,6 +116,6 @@ numbersOf cs = map (λ c. c .number) cs
 
 -- each kind of line is judged by the table's order
 pub record InTurn : Type 0 where
-  pub hull : (l : Line) → numbersOf (hullChecks l) ≡ 2 ∷ 3 ∷ 4 ∷ 5 ∷ []
+  pub hull : (l : Line) → numbersOf (hullChecks l) ≡ 2 ∷ 3 ∷ 4 ∷ 13 ∷ 5 ∷ []
   pub row : (h : Hull) (p : Progress) (l : Line) → isRow (kindOf (pairs (l .text))) ≡ true → numbersOf (lineChecks h p l) ≡ 10 ∷ 2 ∷ 3 ∷ 6 ∷ 7 ∷ 8 ∷ 9 ∷ []
   pub end : (h : Hull) (p : Progress) (l : Line) → isRow (kindOf (pairs (l .text))) ≡ false → numbersOf (lineChecks h p l) ≡ 10 ∷ 2 ∷ 3 ∷ 6 ∷ 9 ∷ []

@@ -11,7 +11,7 @@ use Rattle.hexadecimal.specs.Hex.{pairs, badlyWritten}
 use Rattle.casefile.specs.declared.Progress.{Progress}
 use Rattle.casefile.specs.Record.{Row}
 use Rattle.casefile.specs.Layout.{kindOf, fieldsOf, isHull, isRow, isEnd, takes, frameLength, hullLength, shortestHull, hullOf, rowOf, countOf}
-use Rattle.casefile.specs.Limits.{mostRows, sizesFit, zonesFit, rowFits}
+use Rattle.casefile.specs.Limits.{mostRows, sizesFit, personsFit, zonesFit, rowFits}
 use Rattle.casefile.specs.Order.{outOfOrder, leavesOpen, endsOpen}
 
 -- a refusal's number, and whether it is to be given
@@ -28,7 +28,7 @@ unfoldable pub firstHolds : List Check → ℕ
 firstHolds [] = 0
 firstHolds (c ∷ cs) = cond (c .holds) (c .number) (firstHolds cs)
 
--- line 1, by its bytes: not kind 01 or 06, or under 10 bytes, of kind 06 under 14: "a hull frame too short for one zone"
+-- line 1, by its bytes: not kind 01 or 06, or under 10 bytes, of kind 06 under 15: "a hull frame too short for one zone"
 unfoldable pub wrongHullFrame : List ℕ → Bool
 wrongHullFrame bs = not (isHull (kindOf bs)) || ltb (length bs) (shortestHull (kindOf bs))
 
@@ -45,7 +45,7 @@ unfoldable pub hullChecks : Line → List Check
 hullChecks l =
     let bs = pairs (l .text) in
     let h = hullOf (kindOf bs) (fieldsOf bs) in
-    (2 when badlyWritten l) ∷ (3 when wrongHullFrame bs) ∷ (4 when not (sizesFit h)) ∷ (5 when wrongZones bs h) ∷ []
+    (2 when badlyWritten l) ∷ (3 when wrongHullFrame bs) ∷ (4 when not (sizesFit h)) ∷ (13 when not (personsFit h)) ∷ (5 when wrongZones bs h) ∷ []
 
 -- a row after the hull h and the rows before it, by its head and by whether it keeps its limits
 abbrev pub checksOfRow : Hull → Progress → RowHead → Bool → List Check

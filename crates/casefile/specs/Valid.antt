@@ -12,7 +12,7 @@ use Rattle.records.specs.declared.Finding.{Finding}
 use Rattle.records.specs.declared.RowHead.{RowHead}
 use Rattle.casefile.specs.Record.{Row, Case}
 use Rattle.casefile.specs.Layout.{takes, placesOf, resultCount, floodingCount}
-use Rattle.casefile.specs.Limits.{mostRows, sizesFit, zonesFit, rowFits}
+use Rattle.casefile.specs.Limits.{mostRows, sizesFit, personsFit, zonesFit, rowFits}
 use Rattle.casefile.specs.Order.{top}
 
 -- ---- the hull
@@ -21,14 +21,15 @@ use Rattle.casefile.specs.Order.{top}
 abbrev pub Placed : Hull → Type 0
 Placed h = h .places ≡ placesOf (λ k. getD (h .places) k 0) (h .zones) (h .length)
 
--- a cargo ship, with no persons counted, or a passenger ship
+-- a cargo ship, with no persons counted and no rule to choose, or a passenger ship
 pub data ShipType (h : Hull) : Type 0 where
-  cargo : h .kind ≡ 1 → h .lifeboats ≡ 0 → h .excess ≡ 0 → ShipType h
+  cargo : h .kind ≡ 1 → h .lifeboats ≡ 0 → h .excess ≡ 0 → h .rule ≡ 0 → ShipType h
   passenger : h .kind ≡ 6 → ShipType h
 
 pub record ValidHull (h : Hull) : Type 0 where
   pub type : ShipType h
   pub sizes : T (sizesFit h)
+  pub persons : T (personsFit h)
   pub zones : T (zonesFit h)
   pub places : Placed h
 

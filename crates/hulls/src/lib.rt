@@ -22,6 +22,7 @@ pub fn no_hull() -> Hull
         light: 0,
         lifeboats: 0,
         excess: 0,
+        rule: 0,
         zones: 0,
         places: [0; 21],
     }
@@ -45,6 +46,9 @@ fn hull_number(h: Hull, n: usize) -> u64
     let m = h.zones;
     if !limits::sizes_fit(h) {
         return 4;
+    }
+    if !limits::persons_fit(h) {
+        return 13;
     }
     if !limits::zones_fit(h) {
         return 5;
@@ -70,14 +74,14 @@ fn judge_hull(kind: u64, f: &[u8], n: usize) -> FirstLine
     }
 }
 
-// Line 1: its frame, with the hull beside it. However long the line is, 54 bytes hold all that a hull record has.
+// Line 1: its frame, with the hull beside it. However long the line is, 55 bytes hold all that a hull record has.
 pub fn judge_first(text: &[u8], closed: bool) -> FirstLine
     ensures { λ r. ⌜ r ≡ firstJudged (record { text = now (text .entry); closed = closed }) ⌝ }
 {
     if !closed {
         return refused(2);
     }
-    let mut bytes = [0u8; 54];
+    let mut bytes = [0u8; 55];
     let Written::Bytes(n) = frames::decode_text(text, &mut bytes) else {
         return refused(2);
     };

@@ -3,17 +3,17 @@ ghost use mathlib.Core.Path.{_≡_};
 ghost use mathlib.Core.Bool.{cond};
 ghost use lib.Dec.{eqb};
 ghost use Prim.Native.Nat.{_+_, _*_, _≤_, _<_};
-ghost use Rattle.fields.specs.Fields.{wordAt};
+ghost use Rattle.fields.specs.Fields.{byteAt, wordAt};
 ghost use Rattle.casefile.specs.Layout.{personsLength, hullLength, placeOf, placesOf, hullOf};
 use records::Hull;
 
-// The bytes of a passenger ship's persons.
+// The bytes of a passenger ship's persons and of the rule by which they count.
 fn persons_length(kind: u64) -> usize
     ensures value { λ r. ⌜ r ≡ personsLength kind ⌝ }
-    ensures few { λ r. ⌜ r ≤ 4 ⌝ }
+    ensures few { λ r. ⌜ r ≤ 5 ⌝ }
 {
     if kind == 6 {
-        return 4;
+        return 5;
     }
     0
 }
@@ -28,7 +28,7 @@ pub fn hull_length(kind: u64, m: usize) -> usize
 
 // One of the 21 places, where the first inner bulkhead stands two after a place of the fields: 0, an inner bulkhead, Ls at the zone count, or 0 after it.
 fn place(f: &[u8], from: usize, m: usize, ls: u64, k: usize) -> u64
-    requires { ⌜ (k < 21) × (from ≤ 11) ⌝ }
+    requires { ⌜ (k < 21) × (from ≤ 12) ⌝ }
     ensures { λ r. ⌜ r ≡ placeOf (λ i. wordAt (now (f .entry)) (from + 2 * i)) m ls k ⌝ }
 {
     if k == 0 {
@@ -44,7 +44,7 @@ fn place(f: &[u8], from: usize, m: usize, ls: u64, k: usize) -> u64
 }
 
 fn places(f: &[u8], from: usize, m: usize, ls: u64) -> [u64; 21]
-    requires { ⌜ from ≤ 11 ⌝ }
+    requires { ⌜ from ≤ 12 ⌝ }
     ensures { λ r. ⌜ r ≡ placesOf (λ i. wordAt (now (f .entry)) (from + 2 * i)) m ls ⌝ }
 {
     let mut at = [0u64; 21];
@@ -67,6 +67,16 @@ fn persons(kind: u64, f: &[u8], at: usize) -> u64
     0
 }
 
+// The rule that a passenger ship is under; a cargo ship has no choice of one.
+fn rule(kind: u64, f: &[u8]) -> u64
+    ensures { λ r. ⌜ r ≡ cond (eqb kind 6) (byteAt (now (f .entry)) 12) 0 ⌝ }
+{
+    if kind == 6 {
+        return fields::byte_at(f, 12);
+    }
+    0
+}
+
 // The hull of a kind, whatever its numbers are: limits are judged on the record.
 pub fn hull(kind: u64, f: &[u8]) -> Hull
     ensures { λ r. ⌜ r ≡ hullOf kind (now (f .entry)) ⌝ }
@@ -78,6 +88,7 @@ pub fn hull(kind: u64, f: &[u8]) -> Hull
     let light = fields::word_at(f, 6);
     let lifeboats = persons(kind, f, 8);
     let excess = persons(kind, f, 10);
+    let rule = rule(kind, f);
     let zones = fields::byte_at(f, 8 + more) as usize;
     let bulkheads = places(f, 7 + more, zones, ls);
     Hull {
@@ -88,6 +99,7 @@ pub fn hull(kind: u64, f: &[u8]) -> Hull
         light,
         lifeboats,
         excess,
+        rule,
         zones,
         places: bulkheads,
     }

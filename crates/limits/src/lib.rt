@@ -3,7 +3,7 @@ ghost use mathlib.Core.Path.{_≡_};
 ghost use mathlib.Core.Bool.{_&&_};
 ghost use Prim.Native.Nat.{_+_, _-_, _%_, _≤_};
 ghost use lib.Dec.{leb, eqb};
-ghost use Rattle.casefile.specs.Limits.{between, shortestShip, narrowestShip, sizesFit, risingTo, zonesFit, headFits, openingFits, findingFits, findingsFit, floodingFits, floodingsFit};
+ghost use Rattle.casefile.specs.Limits.{between, shortestShip, narrowestShip, sizesFit, personsFit, risingTo, zonesFit, headFits, openingFits, findingFits, findingsFit, floodingFits, floodingsFit};
 use records::Finding;
 use records::Flooding;
 use records::Hull;
@@ -53,7 +53,20 @@ pub fn sizes_fit(h: Hull) -> bool
         & ((h.breadth % 2 == 0) & is_between(narrowest(h.kind), 6000, h.breadth))
         & is_between(1000, 30000, h.deepest)
         & (is_between(500, h.deepest, h.light) & differ_by_fifths(h.deepest, h.light))
-        & ((h.lifeboats <= 10000) & (h.excess <= 10000))
+        & ((h.lifeboats <= 10000) & (h.excess <= 10000) & (h.rule <= 1))
+}
+
+// Refusal 13 is given where this does not hold.
+pub fn persons_fit(h: Hull) -> bool
+    ensures { λ r. ⌜ r ≡ personsFit h ⌝ }
+{
+    if h.rule != 1 {
+        return true;
+    }
+    if (6000 < h.lifeboats) | (6000 < h.excess) {
+        return true;
+    }
+    !is_between(1351, 6000, h.lifeboats + h.excess)
 }
 
 fn is_rising(places: [u64; 21], m: usize) -> bool

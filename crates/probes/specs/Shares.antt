@@ -27,6 +27,7 @@ hullIn ns =
       light = number ns 4;
       lifeboats = 0;
       excess = 0;
+      rule = 0;
       zones = number ns 5;
       places = tabulate (λ k. number ns (6 + k)) 21;
     }

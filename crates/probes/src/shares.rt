@@ -48,6 +48,7 @@ fn hull_in(ns: &[u64]) -> Hull
         light: number_at(ns, 4),
         lifeboats: 0,
         excess: 0,
+        rule: 0,
         zones: number_at(ns, 5) as usize,
         places,
     }

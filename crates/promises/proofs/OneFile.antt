@@ -72,7 +72,7 @@ found lever range heel opening = record { lever = lever; range = range; heel = h
 abbrev caseOfTwoSets : Case
 caseOfTwoSets =
     record {
-      hull = record { kind = 1; length = 8000; breadth = 1300; deepest = 5000; light = 3000; lifeboats = 0; excess = 0; zones = 1; places = 0 ∷ 8000 ∷ 0 ∷ 0 ∷ 0 ∷ 0 ∷ 0 ∷ 0 ∷ 0 ∷ 0 ∷ 0 ∷ 0 ∷ 0 ∷ 0 ∷ 0 ∷ 0 ∷ 0 ∷ 0 ∷ 0 ∷ 0 ∷ 0 ∷ [] };
+      hull = record { kind = 1; length = 8000; breadth = 1300; deepest = 5000; light = 3000; lifeboats = 0; excess = 0; rule = 0; zones = 1; places = 0 ∷ 8000 ∷ 0 ∷ 0 ∷ 0 ∷ 0 ∷ 0 ∷ 0 ∷ 0 ∷ 0 ∷ 0 ∷ 0 ∷ 0 ∷ 0 ∷ 0 ∷ 0 ∷ 0 ∷ 0 ∷ 0 ∷ 0 ∷ 0 ∷ [] };
       rows =
           record {
             head = record { kind = 5; first = 1; count = 1; depth = 650; height = 17500 };
@@ -109,7 +109,7 @@ two-sets-in-full = ap report two-sets-read ∙ two-sets-printed
 abbrev caseOfPassengers : Case
 caseOfPassengers =
     record {
-      hull = record { kind = 6; length = 2400; breadth = 600; deepest = 1500; light = 1000; lifeboats = 90; excess = 30; zones = 1; places = 0 ∷ 2400 ∷ 0 ∷ 0 ∷ 0 ∷ 0 ∷ 0 ∷ 0 ∷ 0 ∷ 0 ∷ 0 ∷ 0 ∷ 0 ∷ 0 ∷ 0 ∷ 0 ∷ 0 ∷ 0 ∷ 0 ∷ 0 ∷ 0 ∷ [] };
+      hull = record { kind = 6; length = 2400; breadth = 600; deepest = 1500; light = 1000; lifeboats = 90; excess = 30; rule = 0; zones = 1; places = 0 ∷ 2400 ∷ 0 ∷ 0 ∷ 0 ∷ 0 ∷ 0 ∷ 0 ∷ 0 ∷ 0 ∷ 0 ∷ 0 ∷ 0 ∷ 0 ∷ 0 ∷ 0 ∷ 0 ∷ 0 ∷ 0 ∷ 0 ∷ 0 ∷ [] };
       rows =
           record {
             head = record { kind = 7; first = 1; count = 1; depth = 300; height = 14000 };

@@ -47,6 +47,7 @@ hull light zones x y z =
       light = light;
       lifeboats = 0;
       excess = 0;
+      rule = 0;
       zones = zones;
       places = 0 ∷ x ∷ y ∷ z ∷ 0 ∷ 0 ∷ 0 ∷ 0 ∷ 0 ∷ 0 ∷ 0 ∷ 0 ∷ 0 ∷ 0 ∷ 0 ∷ 0 ∷ 0 ∷ 0 ∷ 0 ∷ 0 ∷ 0 ∷ [];
     }

@@ -45,7 +45,7 @@ row kind a n r = record { head = record { kind = kind; first = a; count = n; dep
 abbrev pub printedCase : Case
 printedCase =
     record {
-      hull = record { kind = 1; length = 9900; breadth = 1600; deepest = 6000; light = 4000; lifeboats = 0; excess = 0; zones = 2; places = 0 ∷ 1500 ∷ 9900 ∷ 0 ∷ 0 ∷ 0 ∷ 0 ∷ 0 ∷ 0 ∷ 0 ∷ 0 ∷ 0 ∷ 0 ∷ 0 ∷ 0 ∷ 0 ∷ 0 ∷ 0 ∷ 0 ∷ 0 ∷ 0 ∷ [] };
+      hull = record { kind = 1; length = 9900; breadth = 1600; deepest = 6000; light = 4000; lifeboats = 0; excess = 0; rule = 0; zones = 2; places = 0 ∷ 1500 ∷ 9900 ∷ 0 ∷ 0 ∷ 0 ∷ 0 ∷ 0 ∷ 0 ∷ 0 ∷ 0 ∷ 0 ∷ 0 ∷ 0 ∷ 0 ∷ 0 ∷ 0 ∷ 0 ∷ 0 ∷ 0 ∷ 0 ∷ [] };
       rows =
           row 2 1 1 (record { lever = 30; range = 400; heel = 0; opening = pos 0; given = 0 })
           ∷ row 3 1 2 (record { lever = 0; range = 0; heel = 0; opening = pos 0; given = 0 })
@@ -78,7 +78,7 @@ TwoSetsInFull = report (reading twoSets) ≡ textOfTwoSets
 -- light one nothing is marked, and the moment leaves nine tenths
 abbrev pub passengerFile : List ℕ
 passengerFile =
-    line "060960025805dc03e8005a001e01"
+    line "060960025805dc03e8005a001e0001"
     ++ line "070101012c36b0006405dc0384000000a007d0000000c80082064000000000000000780000000e003c0320012c000000006e0000000c001e02bc05dc010000005a00000009003202bc000000"
     ++ line "0f0001"
 

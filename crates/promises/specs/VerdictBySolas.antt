@@ -1,5 +1,6 @@
 -- What a ship's verdict says by the regulation's own sums: document 002's A held to R, and each partial index to half of it, or to nine tenths of a
 -- passenger ship's. Assumes nothing.
+use Prim.Native.Nat.{_+_}
 use mathlib.Core.Bool.{cond}
 use mathlib.Core.Path.{_≡_}
 use mathlib.Core.List.{List}
@@ -21,11 +22,15 @@ use Rattle.promises.specs.Sums.{layersOf, EachLayer, LowButTops, metres,
 abbrev pub personsIn : Case → Fraction
 personsIn c = passengers.persons (c .hull .lifeboats) (c .hull .excess)
 
+-- a passenger ship's by its own rule
+abbrev pub passengersIn : Case → Fraction
+passengersIn c = cond (eqb (c .hull .rule) 1) (passengers.R2020 (c .hull .lifeboats + c .hull .excess)) (passengers.R (centimetres (c .hull .length)) (personsIn c))
+
 abbrev pub requiredIn : Case → Fraction
-requiredIn c = cond (eqb (c .hull .kind) 6) (passengers.R (centimetres (c .hull .length)) (personsIn c)) (regulation.R (centimetres (c .hull .length)))
+requiredIn c = cond (eqb (c .hull .kind) 6) (passengersIn c) (regulation.R (centimetres (c .hull .length)))
 
 abbrev pub markIn : Case → Fraction
-markIn c = cond (eqb (c .hull .kind) 6) (passengers.partialMark (centimetres (c .hull .length)) (personsIn c)) (regulation.partialMark (centimetres (c .hull .length)))
+markIn c = cond (eqb (c .hull .kind) 6) (passengers.partialMark (passengersIn c)) (regulation.partialMark (centimetres (c .hull .length)))
 
 module _ (difference : Boundary → Boundary → Fraction → Fraction) (c : Case) (√ : Fraction) (q : Grouped (c .hull) (c .rows)) where
   -- A reaches R, and each partial index its mark

@@ -1,9 +1,9 @@
 // The structs that travel between the crates. Plain values: no function, and nothing that is checked here.
 
 // The hull as its frame gives it: its kind (1 a cargo ship, 6 a passenger ship), Ls and B in centimetres, the deepest and the
-// light draught in millimetres, the persons of a passenger ship for whom there are lifeboats and those in excess of them (0 of
-// a cargo ship), the zone count m, and the places of the zones' ends along the ship: 0, the m - 1 inner bulkheads, Ls at place
-// m, 0 after that.
+// light draught in millimetres, the persons of a passenger ship for whom there are lifeboats, those in excess of them and the
+// rule that it is under (0 the earlier one, 1 that of 2020; all three are 0 of a cargo ship), the zone count m, and the places of
+// the zones' ends along the ship: 0, the m - 1 inner bulkheads, Ls at place m, 0 after that.
 pub struct Hull {
     pub kind: u64,
     pub length: u64,
@@ -12,6 +12,7 @@ pub struct Hull {
     pub light: u64,
     pub lifeboats: u64,
     pub excess: u64,
+    pub rule: u64,
     pub zones: usize,
     pub places: [u64; 21],
 }

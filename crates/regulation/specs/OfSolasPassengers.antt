@@ -3,10 +3,11 @@ use Prim.Native.Nat.{ℕ, _<_}
 use mathlib.Core.List.{List}
 use lib.Dec.{eqb}
 use lib.IntN.{ℤ}
-use Rattle.laws.specs.Fraction.{whole, _≈_}
+use Rattle.laws.specs.Fraction.{Fraction, whole, _≈_}
 use Rattle.solas.specs.Survival.{unlessImmersed}
 use Rattle.solas.specs.Passengers.{final⁴, intermediate⁴, sMom, together⁴}
-use Rattle.solas.specs.Index.{persons, passengerR, passengerMark}
+use Rattle.solas.specs.Index.{persons, passengerR, R2020, passengerMark}
+use Rattle.solas.specs.Rules.{Compared}
 use Rattle.regulation.specs.RegulationIndex.{millimetres, centimetres, hundredths, Opening, Numbers, fourth, Order}
 use Rattle.regulation.specs.RegulationPassengers as regulation
 use Rattle.regulation.specs.RegulationPassengers.{Stage, Damage, TakenOfPassengers}
@@ -17,7 +18,14 @@ abbrev pub PassengerRequiredIs02's : Type 0
 PassengerRequiredIs02's = (L n1 n2 : ℕ) → regulation.R (centimetres L) (regulation.persons n1 n2) ≈ passengerR L (persons n1 n2)
 
 abbrev pub PassengerMarkIs02's : Type 0
-PassengerMarkIs02's = (L n1 n2 : ℕ) → regulation.partialMark (centimetres L) (regulation.persons n1 n2) ≈ passengerMark L (persons n1 n2)
+PassengerMarkIs02's = (r r′ : Fraction) → r ≈ r′ → regulation.partialMark r ≈ passengerMark r′
+
+abbrev pub RuleOf2020Is02's : Type 0
+RuleOf2020Is02's = (n : ℕ) → regulation.R2020 n ≈ R2020 n
+
+-- ---- and the two rules beside each other, in their own letters
+abbrev pub RulesComparedInLetters : Type 0
+RulesComparedInLetters = Compared (λ L n1 n2. regulation.R (centimetres L) (regulation.persons n1 n2)) regulation.R2020
 
 -- ---- survival
 

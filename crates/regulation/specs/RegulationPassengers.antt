@@ -1,8 +1,9 @@
 -- What the regulation itself says of a passenger ship's s and R, in its own letters, in metres, degrees, tonnes and tonne-metres: document 002, 2.7.1.1, 2.7.2,
--- 2.7.3, 2.7.4 and 2.7.6.2.3, and document 003, 10.2. Assumes nothing.
+-- 2.7.3, 2.7.4 and 2.7.6.2.3, document 003, 10.2, and R of resolution MSC.421(98) as document 02 prints it. Assumes nothing.
 use Prim.Native.Nat.{ℕ}
 use mathlib.Core.Bool.{Bool, cond}
 use mathlib.Core.List.{List, [], _∷_}
+use lib.Dec.{leb, ltb}
 use Rattle.laws.specs.Fraction.{Fraction, _over_, whole, _≼_, _≺_, _⊹_, _⊝_, _⊛_, _⊘_}
 use Rattle.regulation.specs.RegulationIndex.{Limits, underRoot, Opening, held, Numbers, fourth, Final, UnlessImmersed, Order, Least}
 
@@ -14,9 +15,16 @@ persons N1 N2 = whole N1 ⊹ whole 2 ⊛ whole N2
 unfoldable pub R : Fraction → Fraction → Fraction
 R Ls N = whole 1 ⊝ whole 5000 ⊘ (Ls ⊹ (25 over 10) ⊛ N ⊹ whole 15225)
 
--- "the partial indices .. are not less than 0.9 R"
-unfoldable pub partialMark : Fraction → Fraction → Fraction
-partialMark Ls N = (9 over 10) ⊛ R Ls N
+-- ---- resolution MSC.421(98): "with N persons on board, 0.722 below 400; N/7580 + 0.66923 from 400 to 1,350; above 6,000, 1 - (852.5 + 0.03875N)/(N + 5000)".
+-- Between 1,350 and 6,000, where it has a logarithm, the last is not its R, and nothing is said of it: no such ship is taken
+unfoldable pub R2020 : ℕ → Fraction
+R2020 N =
+    cond (ltb N 400) (722 over 1000)
+    (cond (leb N 1350) (whole N ⊘ whole 7580 ⊹ (66923 over 100000)) (whole 1 ⊝ ((8525 over 10) ⊹ (3875 over 100000) ⊛ whole N) ⊘ (whole N ⊹ whole 5000)))
+
+-- ---- "the partial indices .. are not less than 0.9 R", whichever of the two R is
+unfoldable pub partialMark : Fraction → Fraction
+partialMark R = (9 over 10) ⊛ R
 
 -- ---- 002, 2.7.3, passenger ships, by whether the damage case involves a ro-ro space
 abbrev pub passenger : Bool → Limits

@@ -3,7 +3,7 @@
 use Prim.Native.Nat.{ℕ, _+_, _-_, _*_, _/_}
 use mathlib.Core.Bool.{cond}
 use mathlib.Core.List.{List, [], _∷_}
-use lib.Dec.{ltb}
+use lib.Dec.{leb, ltb}
 use Rattle.laws.specs.Fraction.{Fraction, _over_, whole, _⊹_, _⊛_}
 use Rattle.solas.specs.Span.{half}
 
@@ -31,10 +31,14 @@ partialMark L = half (R L)
 unfoldable pub persons : ℕ → ℕ → ℕ
 persons n1 n2 = n1 + 2 * n2
 
--- the required index of a passenger ship of L centimetres with n persons counted: document 003, 10.2
+-- the required index of a passenger ship of L centimetres with n persons counted, by the earlier rule: document 003, 10.2
 unfoldable pub passengerR : ℕ → ℕ → Fraction
 passengerR L n = (L + 250 * n + 1022500) over (L + 250 * n + 1522500)
 
--- document 02, ticket 6: "each partial must reach 0.9 R"
-unfoldable pub passengerMark : ℕ → ℕ → Fraction
-passengerMark L n = (9 over 10) ⊛ passengerR L n
+-- by the rule of 2020, of n persons, each counted once: document 02, ticket 7; of 1,351 to 6,000, where the rule has a logarithm, no ship is taken
+unfoldable pub R2020 : ℕ → Fraction
+R2020 n = cond (ltb n 400) (722 over 1000) (cond (leb n 1350) ((5000 * n + 25363817) over 37900000) ((769 * n + 3318000) over (800 * (n + 5000))))
+
+-- what each partial index of a passenger ship must reach, of whichever R: document 02, ticket 6, "each partial must reach 0.9 R"
+unfoldable pub passengerMark : Fraction → Fraction
+passengerMark r = (9 over 10) ⊛ r

@@ -9,6 +9,7 @@ pub mod Survival
 pub mod Index
 -- document 02: passenger ships
 pub mod Passengers
+pub mod Rules
 -- what is promised of them
 pub mod Count
 pub mod Total

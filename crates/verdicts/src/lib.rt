@@ -5,7 +5,7 @@ use records::Ratio;
 use records::Trio;
 ghost use mathlib.Core.Path.{_≡_};
 ghost use Prim.Native.Nat.{_^_, _≤_};
-ghost use Rattle.solas.specs.Index.{R, partialMark, passengerR, passengerMark};
+ghost use Rattle.solas.specs.Index.{R, passengerR, R2020};
 ghost use Rattle.numbers.specs.Ratio.{Proper, ratioOf};
 ghost use Rattle.verdicts.specs.Required.{Sized, requiredOf, markOf};
 ghost use Rattle.verdicts.specs.Verdict.{reaches, allReach, verdictOf};
@@ -30,19 +30,7 @@ fn required(length: u64) -> Ratio
     Ratio { num, den }
 }
 
-// What each of its partial indices must reach: half of R.
-fn partial_mark(length: u64) -> Ratio
-    requires { ⌜ length ≤ 10 ^ 6 ⌝ }
-    ensures { λ r. ⌜ r ≡ ratioOf (partialMark length) ⌝ }
-{
-    let whole = required(length);
-    Ratio {
-        num: whole.num,
-        den: whole.den * 2,
-    }
-}
-
-// R of a passenger ship of so many centimetres with so many persons counted.
+// R of a passenger ship of so many centimetres with so many persons counted, by the earlier rule.
 fn passenger_required(length: u64, persons: u64) -> Ratio
     requires { ⌜ (length ≤ 10 ^ 6) × (persons ≤ 10 ^ 6) ⌝ }
     ensures { λ r. ⌜ r ≡ ratioOf (passengerR length persons) ⌝ }
@@ -54,38 +42,59 @@ fn passenger_required(length: u64, persons: u64) -> Ratio
     }
 }
 
-// What each of its partial indices must reach: nine tenths of R.
-fn passenger_mark(length: u64, persons: u64) -> Ratio
-    requires { ⌜ (length ≤ 10 ^ 6) × (persons ≤ 10 ^ 6) ⌝ }
-    ensures { λ r. ⌜ r ≡ ratioOf (passengerMark length persons) ⌝ }
+// R of a passenger ship with so many persons, by the rule of 2020.
+fn required_of_2020(persons: u64) -> Ratio
+    requires { ⌜ persons ≤ 10 ^ 6 ⌝ }
+    ensures { λ r. ⌜ r ≡ ratioOf (R2020 persons) ⌝ }
 {
-    let whole = passenger_required(length, persons);
+    if persons < 400 {
+        return Ratio {
+            num: 722,
+            den: 1000,
+        };
+    }
+    if persons <= 1350 {
+        return Ratio {
+            num: 5000 * persons + 25_363_817,
+            den: 37_900_000,
+        };
+    }
     Ratio {
-        num: whole.num * 9,
-        den: whole.den * 10,
+        num: 769 * persons + 3_318_000,
+        den: 800 * (persons + 5000),
     }
 }
 
-// What A of a ship must reach, by its hull.
+// What A of a ship must reach, by its hull: each passenger ship by its own rule.
 pub fn required_of(h: Hull) -> Ratio
     requires { ⌜ Sized h ⌝ }
     ensures { λ r. ⌜ r ≡ ratioOf (requiredOf h) ⌝ }
 {
-    if h.kind == 6 {
-        return passenger_required(h.length, h.lifeboats + 2 * h.excess);
+    if h.kind != 6 {
+        return required(h.length);
     }
-    required(h.length)
+    if h.rule == 1 {
+        return required_of_2020(h.lifeboats + h.excess);
+    }
+    passenger_required(h.length, h.lifeboats + 2 * h.excess)
 }
 
-// What each of its partial indices must reach.
+// What each of its partial indices must reach: half of R, of a passenger ship nine tenths.
 pub fn mark_of(h: Hull) -> Ratio
     requires { ⌜ Sized h ⌝ }
     ensures { λ r. ⌜ r ≡ ratioOf (markOf h) ⌝ }
 {
-    if h.kind == 6 {
-        return passenger_mark(h.length, h.lifeboats + 2 * h.excess);
+    let whole = required_of(h);
+    if h.kind != 6 {
+        return Ratio {
+            num: whole.num,
+            den: whole.den * 2,
+        };
     }
-    partial_mark(h.length)
+    Ratio {
+        num: whole.num * 9,
+        den: whole.den * 10,
+    }
 }
 
 // An end in billionths is not below the mark. No product of an end from 10⁹ on is made: it reaches every mark.

@@ -21,7 +21,7 @@ use Rattle.frames.proofs.CodeDecoding.{well-written, byte-stored}
 use Rattle.casefile.specs.declared.FirstLine.{FirstLine}
 use Rattle.casefile.specs.declared.Frame.{Frame}
 use Rattle.casefile.specs.Layout.{kindOf, fieldsOf, isHull, personsLength, hullLength, shortestHull, placeOf, placesOf, hullOf}
-use Rattle.casefile.specs.Limits.{between, sizesFit, zonesFit}
+use Rattle.casefile.specs.Limits.{between, sizesFit, personsFit, zonesFit}
 use Rattle.casefile.specs.Table.{firstHolds, wrongHullFrame, wrongZones, hullChecks}
 use Rattle.casefile.specs.Answer.{noHull, givenFirst, refusedFirst, firstJudged}
 use Rattle.casefile.specs.Judging.{hullNumber, hullJudged}
@@ -35,18 +35,23 @@ module _ (h : Hull) (n : ℕ) where
   sizes-wrong e = rw e refl
 
   module _ (sizes : sizesFit h ≡ true) where
-    pub zones-wrong : zonesFit h ≡ false → 5 ≡ hullNumber h n
+    pub persons-wrong : personsFit h ≡ false → 13 ≡ hullNumber h n
     unfolding hullNumber firstHolds
-    zones-wrong e = rw (sizes, e) refl
+    persons-wrong e = rw (sizes, e) refl
 
-    module _ (zones : zonesFit h ≡ true) where
-      pub length-wrong : (n ≡ hullLength (h .kind) (h .zones) → ⊥) → 5 ≡ hullNumber h n
+    module _ (persons : personsFit h ≡ true) where
+      pub zones-wrong : zonesFit h ≡ false → 5 ≡ hullNumber h n
       unfolding hullNumber firstHolds
-      length-wrong f = rw (sizes, zones, ne-eqb n (hullLength (h .kind) (h .zones)) f) refl
+      zones-wrong e = rw (sizes, persons, e) refl
 
-      pub hull-right : n ≡ hullLength (h .kind) (h .zones) → 0 ≡ hullNumber h n
-      unfolding hullNumber firstHolds
-      hull-right e = rw (sizes, zones, eq-eqb n (hullLength (h .kind) (h .zones)) e) refl
+      module _ (zones : zonesFit h ≡ true) where
+        pub length-wrong : (n ≡ hullLength (h .kind) (h .zones) → ⊥) → 5 ≡ hullNumber h n
+        unfolding hullNumber firstHolds
+        length-wrong f = rw (sizes, persons, zones, ne-eqb n (hullLength (h .kind) (h .zones)) f) refl
+
+        pub hull-right : n ≡ hullLength (h .kind) (h .zones) → 0 ≡ hullNumber h n
+        unfolding hullNumber firstHolds
+        hull-right e = rw (sizes, persons, zones, eq-eqb n (hullLength (h .kind) (h .zones)) e) refl
 
 pub few-zones : (h : Hull) → zonesFit h ≡ true → h .zones ≤ 20
 unfolding zonesFit between
@@ -74,32 +79,32 @@ module _ (h g : Hull) (n k : ℕ) (e : h ≡ g) (f : k ≡ hullNumber h n) where
 
 -- ---- the record from a buffer
 
--- the persons have four bytes at most
-few-more : (kind : ℕ) → personsLength kind ≤ 4
+-- the persons and the rule have five bytes at most
+few-more : (kind : ℕ) → personsLength kind ≤ 5
 few-more kind = by (eqb kind 6)
   where
-    by : (t : Bool) → cond t 4 0 ≤ 4
+    by : (t : Bool) → cond t 5 0 ≤ 5
     by true = omega arith
     by false = omega arith
 
--- what is read lies below 53
-module _ (f g : List ℕ) (same : (i : ℕ) → i < 53 → getD f i 0 ≡ getD g i 0) where
-  word-same : (at : ℕ) → at + 1 < 53 → wordAt f at ≡ wordAt g at
+-- what is read lies below 54
+module _ (f g : List ℕ) (same : (i : ℕ) → i < 54 → getD f i 0 ≡ getD g i 0) where
+  word-same : (at : ℕ) → at + 1 < 54 → wordAt f at ≡ wordAt g at
   unfolding wordAt
   word-same at h = rw (same at (omega arith), same (at + 1) h) refl
 
-  place-same : (from m L k : ℕ) → from ≤ 11 → k < 21 → placeOf (λ i. wordAt f (from + 2 * i)) m L k ≡ placeOf (λ i. wordAt g (from + 2 * i)) m L k
+  place-same : (from m L k : ℕ) → from ≤ 12 → k < 21 → placeOf (λ i. wordAt f (from + 2 * i)) m L k ≡ placeOf (λ i. wordAt g (from + 2 * i)) m L k
   unfolding placeOf
   place-same from m L k l h = rw (word-same (from + 2 * k) (omega arith)) refl
 
-  places-same : (from m L : ℕ) → from ≤ 11 → placesOf (λ i. wordAt f (from + 2 * i)) m L ≡ placesOf (λ i. wordAt g (from + 2 * i)) m L
+  places-same : (from m L : ℕ) → from ≤ 12 → placesOf (λ i. wordAt f (from + 2 * i)) m L ≡ placesOf (λ i. wordAt g (from + 2 * i)) m L
   places-same from m L l = tabulate-same (placeOf (λ i. wordAt f (from + 2 * i)) m L) (placeOf (λ i. wordAt g (from + 2 * i)) m L) 21 (λ k. place-same from m L k l)
 
   pub hull-same : (kind : ℕ) → hullOf kind f ≡ hullOf kind g
   unfolding hullOf
   hull-same kind =
       let more : ℕ = personsLength kind in
-      let few : more ≤ 4 = few-more kind in
+      let few : more ≤ 5 = few-more kind in
       rw (
         word-same 0 (omega arith),
         word-same 2 (omega arith),
@@ -107,23 +112,24 @@ module _ (f g : List ℕ) (same : (i : ℕ) → i < 53 → getD f i 0 ≡ getD g
         word-same 6 (omega arith),
         word-same 8 (omega arith),
         word-same 10 (omega arith),
+        same 12 (omega arith),
         same (8 + more) (omega arith),
         places-same (7 + more) (byteAt g (8 + more)) (wordAt g 0) (omega arith),
       )
       refl
 
-module _ (bs out : List ℕ) (e : out ≡ sets (replicate 54 0) 0 bs) where
+module _ (bs out : List ℕ) (e : out ≡ sets (replicate 55 0) 0 bs) where
   pub kind-stored : getD out 0 0 ≡ kindOf bs
-  kind-stored = rw e (byte-stored 54 0 bs (omega arith))
+  kind-stored = rw e (byte-stored 55 0 bs (omega arith))
 
-  all-of-it : take 53 (drop 1 out) ≡ drop 1 out
-  all-of-it = take-all 53 (drop 1 out) (omega (arith, length-drop 1 out, ap length e, length-sets (replicate 54 0) 0 bs))
+  all-of-it : take 54 (drop 1 out) ≡ drop 1 out
+  all-of-it = take-all 54 (drop 1 out) (omega (arith, length-drop 1 out, ap length e, length-sets (replicate 55 0) 0 bs))
 
-  pub hull-stored : (kind : ℕ) → hullOf kind (take 53 (drop 1 out)) ≡ hullOf kind (fieldsOf bs)
+  pub hull-stored : (kind : ℕ) → hullOf kind (take 54 (drop 1 out)) ≡ hullOf kind (fieldsOf bs)
   hull-stored kind =
       rw all-of-it
       (hull-same (drop 1 out) (drop 1 bs)
-      (λ i h. getD-drop 1 out i 0 ∙ rw e (byte-stored 54 (1 + i) bs (omega arith)) ∙ sym (getD-drop 1 bs i 0)) kind)
+      (λ i h. getD-drop 1 out i 0 ∙ rw e (byte-stored 55 (1 + i) bs (omega arith)) ∙ sym (getD-drop 1 bs i 0)) kind)
 
 -- ---- the line
 
@@ -155,7 +161,7 @@ module _ (bs : List ℕ) where
   hull-frame : shortestHull (kindOf bs) ≤ length bs → (kindOf bs ≡ 1) ⊎ (kindOf bs ≡ 6) → wrongHullFrame bs ≡ false
   unfolding wrongHullFrame
   hull-frame h (inl e) = rw (e, le-ltb (length bs) 10 (rw e at h)) refl
-  hull-frame h (inr e) = rw (e, le-ltb (length bs) 14 (rw e at h)) refl
+  hull-frame h (inr e) = rw (e, le-ltb (length bs) 15 (rw e at h)) refl
 
 module _ (text : List ℕ) where
   pub first-not-closed : refusedFirst 2 ≡ firstJudged (record { text = text; closed = false })

@@ -1,18 +1,18 @@
 -- Limits as the code tests them: places that rise one by one, and a group of zones without the sum that could wrap. Assumes nothing.
 use Prim.Native.Nat.{ℕ, _+_, _-_, _≤_, _<_}
 use mathlib.Core.Path.{_≡_, refl}
-use mathlib.Core.Bool.{Bool, true, false, _&&_, and-true}
+use mathlib.Core.Bool.{Bool, true, false, not, _&&_, and-true, and-false}
 use mathlib.Core.List.{List, [], _∷_}
 use native.Mathlib.Numerals.{add-one}
 use native.Mathlib.Omega.{arith}
 use lib.Dec.{leb, ltb, eqb}
 use lib.ListN.{length, getD}
-use borrow.Author.Tests.{le-leb, lt-leb, leb-true}
+use borrow.Author.Tests.{le-leb, lt-leb, leb-true, ne-eqb}
 use Rattle.laws.proofs.Tests.{same-test}
 use Rattle.records.specs.declared.Finding.{Finding}
 use Rattle.records.specs.declared.Flooding.{Flooding}
 use Rattle.records.specs.declared.Hull.{Hull}
-use Rattle.casefile.specs.Limits.{between, risingTo, zonesFit, findingFits, findingsFit, floodingFits, floodingsFit}
+use Rattle.casefile.specs.Limits.{between, aboard, personsFit, risingTo, zonesFit, findingFits, findingsFit, floodingFits, floodingsFit}
 
 -- ---- the zones of a hull
 
@@ -37,6 +37,21 @@ module _ (h : Hull) where
       → (eqb (getD (h .places) 0 0) 0 && eqb (getD (h .places) (h .zones) 0) (h .length) && rising) ≡ zonesFit h
   unfolding zonesFit between
   zones-by-places rising l k e = rw (le-leb 1 (h .zones) l, le-leb (h .zones) 20 k, e) refl
+
+-- ---- its persons, summed where the sum cannot wrap
+
+module _ (h : Hull) where
+  pub of-the-earlier-rule : (h .rule ≡ 1 → ⊥) → true ≡ personsFit h
+  unfolding personsFit
+  of-the-earlier-rule n = rw (ne-eqb (h .rule) 1 n) refl
+
+  pub above-the-band : 6000 < aboard h → true ≡ personsFit h
+  unfolding personsFit between
+  above-the-band l = rw (lt-leb (aboard h) 6000 l, and-false (leb 1351 (aboard h)), and-false (eqb (h .rule) 1)) refl
+
+  pub persons-by-sum : h .rule ≡ 1 → (band : Bool) → band ≡ between 1351 6000 (aboard h) → not band ≡ personsFit h
+  unfolding personsFit
+  persons-by-sum r band e = rw (r, e) refl
 
 -- ---- sums that could wrap
 

@@ -63,7 +63,10 @@ pub fn persons_fit(h: Hull) -> bool
     if h.rule != 1 {
         return true;
     }
-    if (6000 < h.lifeboats) | (6000 < h.excess) {
+    if 6000 < h.lifeboats {
+        return true;
+    }
+    if 6000 < h.excess {
         return true;
     }
     !is_between(1351, 6000, h.lifeboats + h.excess)

@@ -29,13 +29,13 @@ use Rattle.heights.specs.Height.{rowVs}
 use Rattle.survival.specs.Marks.{foundMarks, marksOf, passengerMarks}
 use Rattle.survival.specs.Survival.{worseOf, countsAt, factorOf, scaledOf, roundedOf, survivalOf, passengerSurvival, survivalAt, survivalsOf}
 use Rattle.indices.specs.Index.{addsOf, rowAdds, partials, attainedOf}
-use Rattle.verdicts.specs.Required.{requiredOf, markOf}
+use Rattle.verdicts.specs.Required.{passengerRequired, requiredOf, markOf}
 use Rattle.verdicts.specs.Verdict.{reaches, allReach, verdictOf}
 use Rattle.lines.specs.Lines.{lines}
 use Rattle.hexadecimal.specs.Hex.{digitOf, pairOf, pairs, digitsOnly, proper, badlyWritten, digit, hex, lineOf}
 use Rattle.fields.specs.Fields.{wordAt, longAt, signed}
 use Rattle.casefile.specs.Layout.{takes, frameLength, placeOf, hullOf, headOf, findingOf, setOf, floodingOf, floodingsOf, resultsOf}
-use Rattle.casefile.specs.Limits.{between, sizesFit, risingTo, zonesFit, headFits, openingFits, findingFits, findingsFit, floodingFits, floodingsFit, resultsFit, rowFits}
+use Rattle.casefile.specs.Limits.{between, sizesFit, personsFit, risingTo, zonesFit, headFits, openingFits, findingFits, findingsFit, floodingFits, floodingsFit, resultsFit, rowFits}
 use Rattle.casefile.specs.Order.{atTop, closesGroup, sameGroup, sameLayer, earlierGroup, outOfOrder, leavesOpen, endsOpen}
 use Rattle.casefile.specs.Table.{firstHolds, wrongHullFrame, wrongFrame, wrongZones, hullChecks, rowChecks, endChecks, lineChecks}
 use Rattle.casefile.specs.Record.{Case}
@@ -50,7 +50,7 @@ use Rattle.answers.specs.Report.{linesIn, report}
 use Rattle.promises.specs.OneFile.{printedCase, text, OneFileIsRead, OneFileInFull, twoSets, textOfTwoSets, TwoSetsInFull, passengerFile, textOfPassengers, PassengersInFull}
 
 pub file-read : OneFileIsRead
-unfolding reading readFrom lines firstHolds hullChecks rowChecks endChecks lineChecks wrongHullFrame wrongFrame wrongZones between sizesFit risingTo zonesFit headFits openingFits findingFits findingsFit floodingsFit resultsFit rowFits
+unfolding reading readFrom lines firstHolds hullChecks rowChecks endChecks lineChecks wrongHullFrame wrongFrame wrongZones between sizesFit personsFit risingTo zonesFit headFits openingFits findingFits findingsFit floodingsFit resultsFit rowFits
     atTop closesGroup sameGroup sameLayer earlierGroup outOfOrder leavesOpen endsOpen takes frameLength placeOf hullOf headOf findingOf setOf resultsOf digitOf pairOf pairs digitsOnly proper badlyWritten wordAt signed tabulate
 file-read = refl
 
@@ -90,7 +90,7 @@ caseOfTwoSets =
     }
 
 two-sets-read : reading twoSets ≡ accepted caseOfTwoSets
-unfolding reading readFrom lines firstHolds hullChecks rowChecks endChecks lineChecks wrongHullFrame wrongFrame wrongZones between sizesFit risingTo zonesFit headFits openingFits findingFits findingsFit floodingsFit resultsFit rowFits
+unfolding reading readFrom lines firstHolds hullChecks rowChecks endChecks lineChecks wrongHullFrame wrongFrame wrongZones between sizesFit personsFit risingTo zonesFit headFits openingFits findingFits findingsFit floodingsFit resultsFit rowFits
     atTop closesGroup sameGroup sameLayer earlierGroup outOfOrder leavesOpen endsOpen takes frameLength placeOf hullOf headOf findingOf setOf resultsOf digitOf pairOf pairs digitsOnly proper badlyWritten wordAt signed tabulate
 two-sets-read = refl
 
@@ -127,14 +127,14 @@ caseOfPassengers =
     }
 
 passengers-read : reading passengerFile ≡ accepted caseOfPassengers
-unfolding reading readFrom lines firstHolds hullChecks rowChecks endChecks lineChecks wrongHullFrame wrongFrame wrongZones between sizesFit risingTo zonesFit headFits openingFits findingFits findingsFit floodingFits floodingsFit resultsFit rowFits
+unfolding reading readFrom lines firstHolds hullChecks rowChecks endChecks lineChecks wrongHullFrame wrongFrame wrongZones between sizesFit personsFit risingTo zonesFit headFits openingFits findingFits findingsFit floodingFits floodingsFit resultsFit rowFits
     atTop closesGroup sameGroup sameLayer earlierGroup outOfOrder leavesOpen endsOpen takes frameLength placeOf hullOf headOf findingOf setOf floodingOf floodingsOf resultsOf digitOf pairOf pairs digitsOnly proper badlyWritten wordAt longAt signed tabulate
 passengers-read = refl
 
 passengers-printed : report (accepted caseOfPassengers) ≡ textOfPassengers
 unfolding report answered answer figures partialsOf linesIn linesFrom addsFrom addsAt shareAt stands sameGroup sameLayer
     rowEnds rowOf lowest highest sumsOf withinEnds added taken QEnds mixed c d PEnds GEnds pEnds partEnds G1Ends G3Ends minus plus rounded.endsOf billionthsOf portionOf halvesOf ceil touch P p G1 G3 _⊹_ _⊛_ _≼?_ _less_over_
-    rowVs rowV vAt v dp survivalsOf survivalAt passengerSurvival passengerMarks unlessImmersed together⁴ intermediate⁴ final⁴ sMom kOfPassengers lesser ratioOf scaledOf roundedOf rootDown rootUp withDigits addsOf rowAdds partials attainedOf requiredOf markOf persons passengerR passengerMark reaches allReach verdictOf
+    rowVs rowV vAt v dp survivalsOf survivalAt passengerSurvival passengerMarks unlessImmersed together⁴ intermediate⁴ final⁴ sMom kOfPassengers lesser ratioOf scaledOf roundedOf rootDown rootUp withDigits addsOf rowAdds partials attainedOf requiredOf markOf passengerRequired persons passengerR passengerMark reaches allReach verdictOf
     printed lineOf figuresFrame refusalFrame rowFrame rowLines markByte marksAt marksField endsField partialField partialsField bytes digit hex
 passengers-printed = refl
 

@@ -1,6 +1,6 @@
 -- The verdict is right by the regulation's own sums: a ship that is said to meet reaches every mark, and one that is said to fail falls short of one
 -- where no row but a layer's last is too high. Assumes nothing.
-use Prim.Native.Nat.{suc}
+use Prim.Native.Nat.{suc, _+_}
 use mathlib.Core.Path.{_≡_, refl, _∙_, ap}
 use mathlib.Core.List.{List, [], _∷_}
 use lib.ListN.{length}
@@ -9,19 +9,19 @@ use Rattle.laws.proofs.Fraction.{≈-sym, ≼-of-≈, ≼-trans}
 use lib.Dec.{eqb}
 use Rattle.laws.proofs.Tests.{told}
 use Rattle.laws.proofs.FractionCompare.{strictly-then-below, below-then-strictly}
-use Rattle.verdicts.specs.Required.{requiredOf, markOf}
+use Rattle.verdicts.specs.Required.{passengerRequired, requiredOf, markOf}
 use Rattle.regulation.specs.RegulationIndex.{Boundary, vm}
 use Rattle.regulation.specs.RegulationSums.{plain}
 use Rattle.regulation.specs.OfSolasSums.{NoneNegative}
 use Rattle.regulation.proofs.RegulationIndices.{required-is-01's, partial-mark-is-01's}
-use Rattle.regulation.proofs.RegulationPassengers.{passenger-required-is-02's, passenger-mark-is-02's}
+use Rattle.regulation.proofs.RegulationPassengers.{passenger-required-is-02's, rule-of-2020-is-02's, passenger-mark-is-02's}
 use Rattle.indices.specs.Exact.{RowAt, Each, NoneBelow, Thrice, AtAll, AtEach}
 use Rattle.verdicts.specs.Promises.{attained, atDeepest, atPartial, atLight, ReachAll, OneShort}
 use Rattle.casefile.specs.Record.{Case}
 use Rattle.casefile.specs.Groups.{Grouped}
 use Rattle.promises.specs.Rows.{rowsOf}
 use Rattle.promises.specs.Sums.{LowButTops, OneEach, SummedUp}
-use Rattle.promises.specs.VerdictBySolas.{requiredIn, markIn, ReachBySolas, ShortBySolas, MeetsBySolas, PlainMeetsBySolas, FailsBySolas, PlainFailsBySolas}
+use Rattle.promises.specs.VerdictBySolas.{passengersIn, requiredIn, markIn, ReachBySolas, ShortBySolas, MeetsBySolas, PlainMeetsBySolas, FailsBySolas, PlainFailsBySolas}
 use Rattle.promises.proofs.CaseRows.{as-many}
 use Rattle.promises.proofs.CutLists.{low-at-middle}
 use Rattle.promises.proofs.Kept.{promise}
@@ -42,18 +42,22 @@ none-negative [] (x ∷ xs) n = absurd n
 none-negative (r ∷ rs) [] n = absurd n
 none-negative (r ∷ rs) (x ∷ xs) n = (n .0 .0, none-negative rs xs (n .1))
 
--- R and the mark are the regulation's, by the ship's type
+-- R and the mark are the regulation's, by the ship's type and rule
+passengers-same : (c : Case) → passengersIn c ≈ passengerRequired (c .hull)
+unfolding passengerRequired
+passengers-same c =
+    let h = c .hull in
+    told (eqb (h .rule) 1) (λ t. rw t (rule-of-2020-is-02's (h .lifeboats + h .excess))) (λ t. rw t (passenger-required-is-02's (h .length) (h .lifeboats) (h .excess)))
+
 required-same : (c : Case) → requiredIn c ≈ requiredOf (c .hull)
 unfolding requiredOf
-required-same c =
-    let h = c .hull in
-    told (eqb (h .kind) 6) (λ t. rw t (passenger-required-is-02's (h .length) (h .lifeboats) (h .excess))) (λ t. rw t (required-is-01's (h .length)))
+required-same c = let h = c .hull in told (eqb (h .kind) 6) (λ t. rw t (passengers-same c)) (λ t. rw t (required-is-01's (h .length)))
 
 mark-same : (c : Case) → markIn c ≈ markOf (c .hull)
 unfolding markOf
 mark-same c =
     let h = c .hull in
-    told (eqb (h .kind) 6) (λ t. rw t (passenger-mark-is-02's (h .length) (h .lifeboats) (h .excess))) (λ t. rw t (partial-mark-is-01's (h .length)))
+    told (eqb (h .kind) 6) (λ t. rw t (passenger-mark-is-02's (passengersIn c) (passengerRequired h) (passengers-same c))) (λ t. rw t (partial-mark-is-01's (h .length)))
 
 of-equals : {f f′ g g′ : Fraction} → f′ ≈ f → g ≈ g′ → f ≺ g → f′ ≺ g′
 of-equals p q l = below-then-strictly (≼-of-≈ p) (strictly-then-below l (≼-of-≈ q))

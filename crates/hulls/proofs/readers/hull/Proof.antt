@@ -26,6 +26,9 @@ persons-requires c κs = search needs
 persons-requires-2 : tie.Need-persons-requires-2
 persons-requires-2 c κs = search needs
 
+rule-requires : tie.Need-rule-requires
+rule-requires c κs = search needs
+
 add-byte-at : tie.Need-add-byte-at
 add-byte-at c = search needs
 
@@ -44,13 +47,14 @@ returns c =
     rw (
       c .places .ensures,
       c .before .byte-at .ensures .0,
-      c .before .before .persons2 .ensures,
-      c .before .before .before .persons .ensures,
-      c .before .before .before .before .word-at4 .ensures .0,
-      c .before .before .before .before .before .word-at3 .ensures .0,
-      c .before .before .before .before .before .before .word-at2 .ensures .0,
-      c .before .before .before .before .before .before .before .word-at .ensures .0,
-      c .before .before .before .before .before .before .before .before .persons-length .ensures .0,
+      c .before .before .rule .ensures,
+      c .before .before .before .persons2 .ensures,
+      c .before .before .before .before .persons .ensures,
+      c .before .before .before .before .before .word-at4 .ensures .0,
+      c .before .before .before .before .before .before .word-at3 .ensures .0,
+      c .before .before .before .before .before .before .before .word-at2 .ensures .0,
+      c .before .before .before .before .before .before .before .before .word-at .ensures .0,
+      c .before .before .before .before .before .before .before .before .before .persons-length .ensures .0,
     )
     refl
 
@@ -65,6 +69,7 @@ hull-spec =
     word-at-requires-4
     persons-requires
     persons-requires-2
+    rule-requires
     add-byte-at
     byte-at-requires
     add-places

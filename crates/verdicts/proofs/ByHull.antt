@@ -1,14 +1,15 @@
 -- What a ship must reach by its hull: that of a cargo ship, or of a passenger ship by its rule; never negative, and small enough to be compared. Assumes nothing.
-use Prim.Native.Nat.{ℕ, _+_, _*_, _^_, _≤_}
-use mathlib.Core.Path.{_≡_, refl, _∙_, ap, sym}
+use Prim.Native.Nat.{ℕ, _+_, _*_, _^_, _<_}
+use mathlib.Core.Path.{_≡_, refl}
 use native.Mathlib.Omega.{arith}
 use lib.Dec.{eqb}
-use borrow.Author.Tests.{eqb-true, eqb-false, ne-eqb}
-use Rattle.laws.specs.Fraction.{Fraction, whole, _≼_}
+use borrow.Author.Tests.{eqb-true, eqb-false, eq-eqb, ne-eqb}
+use Rattle.laws.specs.Fraction.{Fraction, whole, _≼_, _≺_}
 use Rattle.laws.proofs.FractionCompare.{plain-not-negative}
 use Rattle.laws.proofs.Tests.{told, picked}
 use Rattle.records.specs.declared.Hull.{Hull}
 use Rattle.solas.specs.Index.{R, partialMark, persons, passengerR, R2020, passengerMark}
+use Rattle.solas.proofs.Required.{R-positive, passenger-R-positive, R2020-positive}
 use Rattle.numbers.specs.Ratio.{ratioOf, Proper}
 use Rattle.verdicts.specs.Required.{Sized, passengerRequired, requiredOf, markOf}
 use Rattle.verdicts.proofs.Marks.{required-plain, passenger-plain, rule-plain, Few, required-few, passenger-few, rule-few, mark-half, half-plain, mark-nine-tenths, nine-tenths-plain}
@@ -42,6 +43,13 @@ module _ (h : Hull) where
       picked (λ (f : Fraction). whole 0 ≼ f) (eqb (h .kind) 6) (passengerRequired h) (R (h .length))
       (λ e. plain-not-negative passengers-plain) (λ e. plain-not-negative (required-plain (h .length)))
 
+  pub required-of-positive : 0 < h .length → whole 0 ≺ requiredOf h
+  unfolding requiredOf passengerRequired
+  required-of-positive l =
+      picked (λ (f : Fraction). whole 0 ≺ f) (eqb (h .kind) 6) _ _
+      (λ e. picked (λ (f : Fraction). whole 0 ≺ f) (eqb (h .rule) 1) _ _ (λ e. R2020-positive (h .lifeboats + h .excess)) (λ e. passenger-R-positive (h .length) (persons (h .lifeboats) (h .excess))))
+      (λ e. R-positive l)
+
   pub mark-of-not-negative : whole 0 ≼ markOf h
   unfolding markOf
   mark-of-not-negative =
@@ -51,7 +59,7 @@ module _ (h : Hull) where
   -- ---- the mark, nine tenths of R or half of it
   pub passenger-mark-of : h .kind ≡ 6 → ratioOf (markOf h) ≡ record { num = ratioOf (requiredOf h) .num * 9; den = ratioOf (requiredOf h) .den * 10 }
   unfolding markOf requiredOf
-  passenger-mark-of e = rw e (mark-nine-tenths (passengerRequired h) passengers-plain)
+  passenger-mark-of e = rw (eq-eqb (h .kind) 6 e) (mark-nine-tenths (passengerRequired h) passengers-plain)
 
   pub cargo-mark-of : (h .kind ≡ 6 → ⊥) → ratioOf (markOf h) ≡ record { num = ratioOf (requiredOf h) .num; den = ratioOf (requiredOf h) .den * 2 }
   unfolding markOf requiredOf

@@ -13,17 +13,17 @@ use Rattle.laws.proofs.Fraction.{is-over, ≈-sym, ≼-of-≈, ≼-trans, below
 use Rattle.laws.proofs.FractionCompare.{≼-of-≺, across-below, across-strictly-below, below-then-strictly}
 use Rattle.numbers.specs.Figures.{billionths}
 use Rattle.records.specs.declared.Ends.{Ends}
+use Rattle.records.specs.declared.Hull.{Hull}
 use Rattle.records.specs.declared.Trio.{Trio}
-use Rattle.solas.specs.Index.{R, partialMark, passengerR, passengerMark}
-use Rattle.solas.proofs.Required.{R-positive, passenger-R-positive}
 use Rattle.numbers.specs.Ratio.{ratioOf}
 use Rattle.numbers.proofs.Ratios.{ratio-positive, is-ratio}
 use Rattle.indices.specs.Index.{partials, attainedOf}
 use Rattle.indices.specs.Exact.{partialsOf}
 use Rattle.indices.proofs.Enclosure.{billionths-none, no-more-than-upper, no-less-than-lower, attained-no-more, attained-no-less}
+use Rattle.verdicts.specs.Required.{requiredOf, markOf}
 use Rattle.verdicts.specs.Verdict.{reaches, allReach, verdictOf}
 use Rattle.verdicts.specs.Promises.{AllFour, OneOfFour, attained, atDeepest, atPartial, atLight, Meets, Fails, ByEnds, VerdictByEnds, MeetsIsRight, OneShort, FailsIsRight}
-use Rattle.verdicts.proofs.Marks.{mark-not-negative, passenger-mark-not-negative}
+use Rattle.verdicts.proofs.ByHull.{required-of-positive, mark-of-not-negative}
 -- checked first, so that a definition that gives another verdict is refused there
 use Rattle.verdicts.proofs.Values.{at-the-mark}
 
@@ -127,8 +127,5 @@ nothing-fails {required} {mark} p q =
     short : billionths 0 ≺ required
     short = below-then-strictly (≼-of-≈ (≈-sym billionths-none)) p
 
-pub no-rows-fail : (L : ℕ) → 0 < L → verdictOf (attainedOf (partials [])) (partials []) (ratioOf (R L)) (ratioOf (partialMark L)) ≡ 2
-no-rows-fail L h = nothing-fails (R-positive h) (mark-not-negative L)
-
-pub no-rows-fail-passengers : (L n : ℕ) → verdictOf (attainedOf (partials [])) (partials []) (ratioOf (passengerR L n)) (ratioOf (passengerMark L n)) ≡ 2
-no-rows-fail-passengers L n = nothing-fails (passenger-R-positive L n) (passenger-mark-not-negative L n)
+pub no-rows-fail : (h : Hull) → 0 < h .length → verdictOf (attainedOf (partials [])) (partials []) (ratioOf (requiredOf h)) (ratioOf (markOf h)) ≡ 2
+no-rows-fail h l = nothing-fails (required-of-positive h l) (mark-of-not-negative h)

@@ -1,30 +1,28 @@
--- `verdicts::mark_of` meets its contract: half of R or nine tenths of it. Assumes nothing.
+-- `verdicts::mark_of` meets its contract: half of R, or nine tenths of it. Assumes nothing.
 use borrow.Author.Needs.{needs}
-use mathlib.Core.Path.{ap, sym, _∙_}
-use Rattle.numbers.specs.Ratio.{ratioOf}
-use Rattle.verdicts.proofs.ByHull.{passenger-mark-of, cargo-mark-of}
+use mathlib.Core.Path.{ap, sym}
+use native.Mathlib.Omega.{arith}
+use Rattle.verdicts.proofs.ByHull.{required-of-few, passenger-mark-of, cargo-mark-of}
 use Rattle.verdicts.proofs.mark_of.Statement.{statement}
 use Rattle.verdicts.proofs.mark_of.Tie as tie
 
-mul-passenger-mark : tie.Need-mul-passenger-mark
-mul-passenger-mark c = search needs
+required-of-requires : tie.Need-required-of-requires
+required-of-requires c κs = search needs
 
-add-passenger-mark : tie.Need-add-passenger-mark
-add-passenger-mark c = search needs
-
-passenger-mark-requires : tie.Need-passenger-mark-requires
-passenger-mark-requires c κs = search needs
+mul-t4 : tie.Need-mul-t4
+mul-t4 c = let s = c .before .before .before in let b = required-of-few (s .before .pre) in omega (arith, b .2, ap (λ r. r .den) (s .required-of .ensures))
 
 returns : tie.Need-returns
-returns c =
-    let then = c .before .before .before in
-    c .passenger-mark .ensures ∙ sym (ap ratioOf (passenger-mark-of (then .before .before .args .h) (then .if1 .taken)))
+returns c = let s = c .before .before .before in rw (s .required-of .ensures) (sym (cargo-mark-of (s .before .args .h) (c .before .if1 .taken)))
 
-partial-mark-requires : tie.Need-partial-mark-requires
-partial-mark-requires c κs = search needs
+mul-t5 : tie.Need-mul-t5
+mul-t5 c = let s = c .before .before .before in let b = required-of-few (s .before .pre) in omega (arith, b .1, b .2, ap (λ r. r .num) (s .required-of .ensures))
+
+mul-t6 : tie.Need-mul-t6
+mul-t6 c = let s = c .before .before .before .before in let b = required-of-few (s .before .pre) in omega (arith, b .2, ap (λ r. r .den) (s .required-of .ensures))
 
 returns-2 : tie.Need-returns-2
-returns-2 c = let else = c .before in c .partial-mark .ensures ∙ sym (ap ratioOf (cargo-mark-of (else .before .before .args .h) (else .if1 .left)))
+returns-2 c = let s = c .before .before .before .before in rw (s .required-of .ensures) (sym (passenger-mark-of (s .before .args .h) (c .before .before .if1 .left)))
 
 pub mark-of-spec : {M : Type 1} → statement M
-mark-of-spec = tie.close (tie.spec mul-passenger-mark add-passenger-mark passenger-mark-requires returns partial-mark-requires returns-2)
+mark-of-spec = tie.close (tie.spec required-of-requires mul-t4 returns mul-t5 mul-t6 returns-2)

@@ -9,17 +9,30 @@ use Rattle.verdicts.proofs.required_of_2020.Tie as tie
 returns : tie.Need-returns
 returns c = sym (few-aboard _ (c .if1 .taken))
 
-mul-t5 : tie.Need-mul-t5
-mul-t5 c = search needs
+mul-t3 : tie.Need-mul-t3
+mul-t3 c = search needs
 
-add-t5 : tie.Need-add-t5
-add-t5 c = search needs
+add-t4 : tie.Need-add-t4
+add-t4 c = search needs
 
 returns-2 : tie.Need-returns-2
 returns-2 c = sym (more-aboard _ (omega arith) (omega arith))
+
+mul-t5 : tie.Need-mul-t5
+mul-t5 c = search needs
+
+add-t6 : tie.Need-add-t6
+add-t6 c = search needs
+
+add-t7 : tie.Need-add-t7
+add-t7 c = search needs
+
+mul-t8 : tie.Need-mul-t8
+mul-t8 c = search needs
 
 returns-3 : tie.Need-returns-3
 returns-3 c = sym (most-aboard _ (omega arith))
 
 pub required-of-2020-spec : {M : Type 1} → statement M
-required-of-2020-spec = tie.close (tie.spec returns mul-t5 add-t5 returns-2 returns-3)
+required-of-2020-spec =
+    tie.close (tie.spec returns mul-t3 add-t4 returns-2 mul-t5 add-t6 add-t7 mul-t8 returns-3)

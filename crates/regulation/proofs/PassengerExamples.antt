@@ -9,7 +9,7 @@ use lib.IntN.{pos}
 use Rattle.laws.specs.Fraction.{Fraction, _less_over_, _over_, whole, _≈_, _≼_, _≼?_, lesser, _⊹_, _⊝_, _⊛_, _⊘_}
 use Rattle.solas.specs.Survival.{unlessImmersed}
 use Rattle.solas.specs.Passengers.{kOfPassengers, final⁴, intermediate⁴, sMom, together⁴}
-use Rattle.solas.specs.Index.{persons, passengerR}
+use Rattle.solas.specs.Index.{persons, passengerR, R2020, passengerMark}
 use Rattle.regulation.specs.RegulationIndex.{millimetres, centimetres, hundredths, held, fourth, Final, Least}
 use Rattle.regulation.specs.RegulationPassengers as regulation
 use Rattle.regulation.specs.RegulationPassengers.{passenger, smom, Intermediate}
@@ -21,6 +21,17 @@ use Rattle.regulation.proofs.LeastExamples.{inOrder, airPipe, pipe-crit
 pub required : (regulation.R (centimetres 2500) (regulation.persons 1500 200) ≈ 3 over 4) × (passengerR 2500 (persons 1500 200) ≈ 3 over 4)
 unfolding regulation.R regulation.persons persons passengerR _⊹_ _⊝_ _⊛_ _⊘_ _less_over_
 required = (record { cross = refl }, record { cross = refl })
+
+-- by the rule of 2020: 399 persons and 400, 1,350, and 6,001
+pub required-of-2020 : (regulation.R2020 399 ≈ 722 over 1000) × (regulation.R2020 400 ≈ 27363817 over 37900000) × (regulation.R2020 1350 ≈ 32113817 over 37900000)
+    × (regulation.R2020 6001 ≈ 7932769 over 8800800)
+unfolding regulation.R2020 _⊹_ _⊝_ _⊛_ _⊘_ _less_over_
+required-of-2020 = (record { cross = refl }, record { cross = refl }, record { cross = refl }, record { cross = refl })
+
+-- what its partial indices must reach: nine tenths of 0.722
+pub mark-of-2020 : (regulation.partialMark (regulation.R2020 399) ≈ 6498 over 10000) × (passengerMark (R2020 399) ≈ 6498 over 10000)
+unfolding regulation.R2020 regulation.partialMark R2020 passengerMark _⊛_ _less_over_
+mark-of-2020 = (record { cross = refl }, record { cross = refl })
 
 -- s-mom of 5 m of lever, less than one by a little; of a moment that is more than borne; and of a lever of 39 mm
 pub moments : (smom (millimetres 5000) (whole 299999) (whole 1488000) ≈ 1487995040 over 1488000000) × (smom (millimetres 5000) (whole 300000) (whole 1) ≈ whole 1)

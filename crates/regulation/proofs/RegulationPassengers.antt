@@ -1,27 +1,29 @@
 -- A passenger ship's survival is that of the regulation: document 02's s⁴ is the fourth power of whatever 002, 2.7.1.1, gives for s, and nothing where 2.7.6.2 takes
--- s as zero; and R and the mark of a partial index are those of 003, 10.2. Assumes nothing.
+-- s as zero; and R and the mark of a partial index are those of 003, 10.2, and of the resolution of 2020. Assumes nothing.
 use Prim.Native.Nat.{ℕ, _+_, _-_, _*_, _<_, min}
 use mathlib.Core.Bool.{Bool, true, false, cond}
 use mathlib.Core.List.{[], _∷_}
 use native.Mathlib.Nat.{mul-comm, mul-sub}
 use native.Mathlib.Omega.{arith}
-use lib.Dec.{eqb, lit<}
+use lib.Dec.{eqb, leb, ltb, lit<}
 use lib.IntN.{pos}
 use borrow.Author.Tests.{lt-ltb, le-ltb}
 use Rattle.laws.specs.Fraction.{Fraction, _over_, whole, Is, _≈_, _⊛_}
 use Rattle.laws.specs.Polynomial.{X, C, _:+_, _:*_}
 use Rattle.laws.proofs.Choice.{split}
-use Rattle.laws.proofs.Fraction.{is-over, is-nothing, is-written, is-⊝, is-⊛, is-⊘, same, below, strictly-below, ≈-refl, ⊛-≈}
-use Rattle.laws.proofs.FractionTerm.{number, ratio, variable, _⊹ᵗ_, _⊝ᵗ_, _⊛ᵗ_, also, quotient}
+use Rattle.laws.proofs.Fraction.{is-over, is-nothing, is-written, is-⊝, is-⊛, is-⊘, same, below, strictly-below, ≈-refl, ≈-sym, ⊛-≈}
+use Rattle.laws.proofs.FractionCompare.{cond-≈}
+use Rattle.laws.proofs.FractionTerm.{number, ratio, variable, polynomial, _⊹ᵗ_, _⊝ᵗ_, _⊛ᵗ_, also, agree, quotient, quotient-by}
 use Rattle.solas.specs.Survival.{unlessImmersed}
 use Rattle.solas.specs.Passengers.{leverCap, rangeCap, final⁴, intermediate⁴, sMom, together⁴}
-use Rattle.solas.specs.Index.{persons, passengerMark}
+use Rattle.solas.specs.Index.{persons, R2020, passengerMark}
 use Rattle.solas.proofs.Required.{is-passenger-R}
+use Rattle.solas.proofs.Rules.{rules-compared, compared-alike}
 use Rattle.solas.proofs.Passengers.{leverCap-positive, rangeCap-positive, is-final⁴, is-intermediate⁴, is-sMom}
 use Rattle.regulation.specs.RegulationIndex.{millimetres, hundredths, Numbers, fourth, Final, Order}
 use Rattle.regulation.specs.RegulationPassengers as regulation
 use Rattle.regulation.specs.RegulationPassengers.{passenger, smom, Intermediate, Minimum}
-use Rattle.regulation.specs.OfSolasPassengers.{stageOf, damageOf, PassengerSurvivalIs02's, PassengerRequiredIs02's, PassengerMarkIs02's}
+use Rattle.regulation.specs.OfSolasPassengers.{stageOf, damageOf, PassengerSurvivalIs02's, PassengerRequiredIs02's, PassengerMarkIs02's, RuleOf2020Is02's, RulesComparedInLetters}
 use Rattle.regulation.proofs.Units.{is-millimetres, is-centimetres, is-hundredths, metres-in-millimetres, degrees-in-hundredths}
 use Rattle.regulation.proofs.RegulationHeights.{is-held}
 use Rattle.regulation.proofs.RegulationSurvival.{fourth-product, fourth-fraction, fourth-nothing, is-under-root, InUnits, final-fourth, unless-immersed}
@@ -107,7 +109,22 @@ passenger-required-is-02's L n1 n2 =
     let r = number 1 1 tt ⊝ᵗ quotient (number 5000 1 tt) (length ⊹ᵗ number 25 10 tt ⊛ᵗ counted ⊹ᵗ number 15225 1 tt) d (C 100) (omega arith) tt in
     same (omega arith) (also r (X 0 :+ C 250 :* (X 1 :+ C 2 :* X 2) :+ C 1022500) (C 0) d tt) (is-passenger-R L (n1 + 2 * n2))
 
--- 0.9 R
+-- 0.9 R, whichever R it is
 pub passenger-mark-is-02's : PassengerMarkIs02's
 unfolding regulation.partialMark passengerMark
-passenger-mark-is-02's L n1 n2 = ⊛-≈ (≈-refl (9 over 10)) (passenger-required-is-02's L n1 n2)
+passenger-mark-is-02's r r′ e = ⊛-≈ (≈-refl (9 over 10)) e
+
+-- ---- resolution MSC.421(98)
+pub rule-of-2020-is-02's : RuleOf2020Is02's
+unfolding regulation.R2020 R2020
+rule-of-2020-is-02's n =
+    let aboard = variable {ρ = n ∷ []} 0 in
+    let some = quotient-by aboard (number 7580 1 tt) 7580 1 tt tt ⊹ᵗ number 66923 100000 tt in
+    let many = number 1 1 tt ⊝ᵗ quotient (number 8525 10 tt ⊹ᵗ number 3875 100000 tt ⊛ᵗ aboard) (aboard ⊹ᵗ number 5000 1 tt) (X 0 :+ C 5000) (C 1) (omega arith) tt in
+    cond-≈ (ltb n 400) (≈-refl (722 over 1000))
+    (cond-≈ (leb n 1350) (agree some (polynomial (C 5000 :* X 0 :+ C 25363817) (C 0) (C 37900000) (lit< tt)) tt)
+    (agree many (polynomial (C 769 :* X 0 :+ C 3318000) (C 0) (C 800 :* (X 0 :+ C 5000)) (omega arith)) tt))
+
+-- beside the earlier rule
+pub rules-compared-in-letters : RulesComparedInLetters
+rules-compared-in-letters = compared-alike (λ L n1 n2. ≈-sym (passenger-required-is-02's L n1 n2)) (λ n. ≈-sym (rule-of-2020-is-02's n)) rules-compared

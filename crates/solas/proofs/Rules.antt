@@ -1,7 +1,7 @@
 -- The rule of 2020 beside the earlier one: where its R is above, and where it is not, by products of whole numbers. Assumes nothing.
-use Prim.Native.Nat.{ℕ, _+_, _*_, _≤_, _<_}
+use Prim.Native.Nat.{ℕ, _+_, _-_, _*_, _≤_, _<_}
 use mathlib.Core.Logic.{_↔_}
-use mathlib.Core.Path.{ap}
+use mathlib.Core.Path.{_≡_, ap}
 use native.Mathlib.Nat.{le-dest, mul-le-mul-left}
 use native.Mathlib.Omega.{arith}
 use lib.Dec.{lit<, leb→le}
@@ -15,72 +15,79 @@ use Rattle.solas.proofs.Required.{is-passenger-R, is-R2020-few, is-R202
 -- checked first, so that a definition that gives another number is refused there
 use Rattle.solas.proofs.Values.{rules-nearest}
 
--- ---- over plain numbers: n persons, and x for a ship, its length and 250 cm for each person counted. The earlier R is (x + 1,022,500)/(x + 1,522,500)
+-- ---- over plain numbers: n persons, and x of a ship, its length and 250 cm for each person counted. The earlier R is (x + 1,022,500)/(x + 1,522,500)
 module _ (x n : ℕ) where
-  -- the products that are compared beyond 6,000 persons
-  abbrev ByProducts : Type 0
-  ByProducts = (682000 + 31 * n) * (x + 1522500) < 400000000 * (n + 5000)
+  -- what is compared beyond 6,000 persons, and what it is if the comparison fails
+  abbrev Lower : Type 0
+  Lower = (682000 + 31 * n) * (x + 1522500) < 400000000 * (n + 5000)
 
-  -- cross multiplied, the two R are these products
-  one-comparison : ((x + 1022500) * (800 * (n + 5000)) < (769 * n + 3318000) * (x + 1522500)) ↔ ByProducts
+  abbrev NotLower : Type 0
+  NotLower = 400000000 * (n + 5000) ≤ (682000 + 31 * n) * (x + 1522500)
+
+  -- the two R cross multiplied
+  one-comparison : ((x + 1022500) * (800 * (n + 5000)) < (769 * n + 3318000) * (x + 1522500)) ↔ Lower
   one-comparison = (λ l. omega (arith, l), λ l. omega (arith, l))
 
-  -- in 400 m, with all persons in excess, x is 40,000 + 500n, and nowhere more
-  module _ (most : x ≤ 40000 + 500 * n) where
-    above-some : 400 ≤ n → n ≤ 1350 → (x + 1022500) * 37900000 < (5000 * n + 25363817) * (x + 1522500)
-    above-some p q =
-        let (k, e) = le-dest q in
-        omega (arith, mul-le-mul-left k most, ap (λ z. z * x) e, ap (λ z. z * n) e, mul-le-mul-left n p)
+-- x is nowhere more than in 400 m with all persons in excess
+lower-of-some : (x n : ℕ) → x ≤ 40000 + 500 * n → 400 ≤ n → n ≤ 1350 → (x + 1022500) * 37900000 < (5000 * n + 25363817) * (x + 1522500)
+lower-of-some x n l p q =
+    let (k, e) = le-dest q in
+    omega (arith, mul-le-mul-left k l, ap (λ z. z * x) e, ap (λ z. z * n) e, mul-le-mul-left n p)
 
-    above-many : n ≤ 8112 → ByProducts
-    above-many p = omega (arith, mul-le-mul-left (682000 + 31 * n) most, mul-le-mul-left n p)
+-- so what holds there of b persons holds of fewer everywhere
+lower-of-fewer : (x n b : ℕ) → x ≤ 40000 + 500 * n → 1350 < n → n ≤ b → Lower (40000 + 500 * b) b → Lower x n
+lower-of-fewer x n b l p q h =
+    let (k, e) = le-dest q in
+    omega (arith, rw (← e) at h, mul-le-mul-left (682000 + 31 * n) l, mul-le-mul-left k p)
 
-  -- in 20 m, with 10,000 persons in lifeboats, x is 500n - 2,498,000, and nowhere less
-  not-above-most : 500 * n ≤ x + 2498000 → 16305 ≤ n → 400000000 * (n + 5000) ≤ (682000 + 31 * n) * (x + 1522500)
-  not-above-most least p = omega (arith, mul-le-mul-left (682000 + 31 * n) least, mul-le-mul-left n p)
+-- nowhere less than in 20 m with 10,000 persons in lifeboats and the others, m, in excess, and what holds there holds of more everywhere
+not-lower-of-more : (x n m : ℕ) → 500 * n ≤ x + 2498000 → 10000 + m ≤ n → NotLower (2000 + 250 * (10000 + 2 * m)) (10000 + m) → NotLower x n
+not-lower-of-more x n m l p h =
+    let (k, e) = le-dest p in
+    rw (← e) (omega (arith, rw (← e) at (mul-le-mul-left (682000 + 31 * n) l), h))
 
 -- ---- of ships
 module _ (L n1 n2 : ℕ) where
-  abbrev LaterAbove : Type 0
-  LaterAbove = passengerR L (persons n1 n2) ≺ R2020 (n1 + n2)
+  abbrev Above : Type 0
+  Above = passengerR L (persons n1 n2) ≺ R2020 (n1 + n2)
 
-  few : Within L n1 n2 → n1 + n2 ≤ 1350 → LaterAbove
+  few : Within L n1 n2 → n1 + n2 ≤ 1350 → Above
   unfolding persons
   few w p =
       let earlier = is-passenger-R L (n1 + 2 * n2) in
       let most : L + 250 * (n1 + 2 * n2) ≤ 40000 + 500 * (n1 + n2) = omega (arith, w .short) in
-      split 400 (n1 + n2) (λ q. strictly-below-across earlier (is-R2020-some q p) (omega (arith, above-some (L + 250 * (n1 + 2 * n2)) (n1 + n2) most q p)))
+      split 400 (n1 + n2) (λ q. strictly-below-across earlier (is-R2020-some q p) (omega (arith, lower-of-some (L + 250 * (n1 + 2 * n2)) (n1 + n2) most q p)))
       (λ q. strictly-below-across earlier (is-R2020-few q) (omega (arith, most)))
 
   -- by one comparison, as soon as the last form of R holds
-  beyond : 1350 < n1 + n2 → LaterAbove ↔ ByProducts (L + 250 * (n1 + 2 * n2)) (n1 + n2)
+  beyond : 1350 < n1 + n2 → Above ↔ Lower (L + 250 * (n1 + 2 * n2)) (n1 + n2)
   unfolding persons
   beyond p =
       let x = L + 250 * (n1 + 2 * n2) in
       let earlier = is-passenger-R L (n1 + 2 * n2) in
-      let later = is-R2020-many {n = n1 + n2} p in
-      (
+      let later = is-R2020-many {n = n1 + n2} p in (
         λ l. one-comparison x (n1 + n2) .0 (omega (arith, across-strictly-below earlier later (omega arith) (omega arith) l)),
         λ l. strictly-below-across earlier later (omega (arith, one-comparison x (n1 + n2) .1 l)),
       )
 
-  many : Within L n1 n2 → 1350 < n1 + n2 → n1 + n2 ≤ 8112 → LaterAbove
-  many w p q = beyond p .1 (above-many (L + 250 * (n1 + 2 * n2)) (n1 + n2) (omega (arith, w .short)) q)
+  many : {b : ℕ} → Within L n1 n2 → 1350 < n1 + n2 → n1 + n2 ≤ b → Lower (40000 + 500 * b) b → Above
+  many {b} w p q h = beyond p .1 (lower-of-fewer (L + 250 * (n1 + 2 * n2)) (n1 + n2) b (omega (arith, w .short)) p q h)
 
-  most : Within L n1 n2 → 16305 ≤ n1 + n2 → R2020 (n1 + n2) ≼ passengerR L (persons n1 n2)
+  most : {b : ℕ} → Within L n1 n2 → b ≤ n1 + n2 → 10000 ≤ b → NotLower (2000 + 250 * (10000 + 2 * (b - 10000))) b → R2020 (n1 + n2) ≼ passengerR L (persons n1 n2)
   unfolding persons
-  most w p =
-      let l = not-above-most (L + 250 * (n1 + 2 * n2)) (n1 + n2) (omega (arith, w .long, w .lifeboats)) p in
+  most {b} w p q h =
+      let e : 10000 + (b - 10000) ≡ b = omega arith in
+      let l = not-lower-of-more (L + 250 * (n1 + 2 * n2)) (n1 + n2) (b - 10000) (omega (arith, w .long, w .lifeboats)) (rw e p) (rw e h) in
       below-across (is-R2020-many (omega arith)) (is-passenger-R L (n1 + 2 * n2)) (omega arith) (omega arith) (omega (arith, l))
 
 pub rules-compared : RulesCompared
 unfolding persons passengerR R2020 _less_over_
 rules-compared = record {
-  few = λ {L} {n1} {n2} w p. few L n1 n2 w (omega (arith, p));
+  few = λ {L} {n1} {n2} w p. few L n1 n2 w p;
   beyond = λ L n1 n2 p. beyond L n1 n2 (omega (arith, p));
-  many = λ {L} {n1} {n2} w p q. many L n1 n2 w (omega (arith, p)) (omega (arith, q));
+  many = λ {L} {n1} {n2} w p q. many L n1 n2 w (omega (arith, p)) q (lit< tt);
   at-8113 = record { cross = leb→le _ _ tt };
-  most = λ {L} {n1} {n2} w p. most L n1 n2 w (omega (arith, p));
+  most = λ {L} {n1} {n2} w p. most L n1 n2 w p (leb→le _ _ tt) (leb→le _ _ tt);
   at-16304 = record { cross = lit< tt };
 }
 
@@ -89,21 +96,21 @@ alike : {f f′ g g′ : Fraction} → f ≈ f′ → g ≈ g′ → f ≺ g →
 alike p q l = below-then-strictly (≼-of-≈ (≈-sym p)) (strictly-then-below l (≼-of-≈ q))
 
 module _ {earlier earlier′ : ℕ → ℕ → ℕ → Fraction} {later later′ : ℕ → Fraction} (e : (L n1 n2 : ℕ) → earlier L n1 n2 ≈ earlier′ L n1 n2) (l : (n : ℕ) → later n ≈ later′ n) where
-  above : (L n1 n2 n : ℕ) → earlier L n1 n2 ≺ later n → earlier′ L n1 n2 ≺ later′ n
-  above L n1 n2 n = alike (e L n1 n2) (l n)
+  above-too : (L n1 n2 n : ℕ) → earlier L n1 n2 ≺ later n → earlier′ L n1 n2 ≺ later′ n
+  above-too L n1 n2 n = alike (e L n1 n2) (l n)
 
-  not-above : (L n1 n2 n : ℕ) → later n ≼ earlier L n1 n2 → later′ n ≼ earlier′ L n1 n2
-  not-above L n1 n2 n h = ≼-trans (≼-of-≈ (≈-sym (l n))) (≼-trans h (≼-of-≈ (e L n1 n2)))
+  not-above-too : (L n1 n2 n : ℕ) → later n ≼ earlier L n1 n2 → later′ n ≼ earlier′ L n1 n2
+  not-above-too L n1 n2 n h = ≼-trans (≼-of-≈ (≈-sym (l n))) (≼-trans h (≼-of-≈ (e L n1 n2)))
 
   pub compared-alike : Compared earlier later → Compared earlier′ later′
   compared-alike c = record {
-    few = λ {L} {n1} {n2} w p. above L n1 n2 (n1 + n2) (c .few w p);
+    few = λ {L} {n1} {n2} w p. above-too L n1 n2 (n1 + n2) (c .few w p);
     beyond = λ L n1 n2 p. (
       λ h. c .beyond L n1 n2 p .0 (alike (≈-sym (e L n1 n2)) (≈-sym (l (n1 + n2))) h),
-      λ h. above L n1 n2 (n1 + n2) (c .beyond L n1 n2 p .1 h),
+      λ h. above-too L n1 n2 (n1 + n2) (c .beyond L n1 n2 p .1 h),
     );
-    many = λ {L} {n1} {n2} w p q. above L n1 n2 (n1 + n2) (c .many w p q);
-    at-8113 = not-above 40000 0 8113 8113 (c .at-8113);
-    most = λ {L} {n1} {n2} w p. not-above L n1 n2 (n1 + n2) (c .most w p);
-    at-16304 = above 2000 10000 6304 16304 (c .at-16304);
+    many = λ {L} {n1} {n2} w p q. above-too L n1 n2 (n1 + n2) (c .many w p q);
+    at-8113 = not-above-too 40000 0 8113 8113 (c .at-8113);
+    most = λ {L} {n1} {n2} w p. not-above-too L n1 n2 (n1 + n2) (c .most w p);
+    at-16304 = above-too 2000 10000 6304 16304 (c .at-16304);
   }

@@ -9,7 +9,7 @@ use Rattle.solas.specs.Ship.{Ship, abutting}
 use Rattle.solas.specs.Share.{within, share, rowShare}
 use Rattle.solas.specs.Height.{v, top}
 use Rattle.solas.specs.Survival.{k, s⁴, unlessImmersed}
-use Rattle.solas.specs.Index.{dp, draughts, attained, R, persons, passengerR, passengerMark}
+use Rattle.solas.specs.Index.{dp, draughts, attained, R, persons, passengerR, R2020, passengerMark}
 
 -- the hull of "One file in full": two zones that meet at 1,500
 abbrev pub printed : Ship
@@ -86,9 +86,20 @@ unfolding R _less_over_
 R-10000 = record { cross = refl }
 
 -- of a passenger ship of 25 m with 1,500 persons in its lifeboats and 200 beyond them, and its partial mark
-pub passengers-1500-200 : (passengerR 2500 (persons 1500 200) ≈ 3 over 4) × (passengerMark 2500 (persons 1500 200) ≈ 27 over 40)
+pub passengers-1500-200 : (passengerR 2500 (persons 1500 200) ≈ 3 over 4) × (passengerMark (passengerR 2500 (persons 1500 200)) ≈ 27 over 40)
 unfolding persons passengerR passengerMark _⊛_ _less_over_
 passengers-1500-200 = (record { cross = refl }, record { cross = refl })
+
+-- by the rule of 2020, at the ends of its bands: 399 persons and 400, 1,350, and 6,001
+pub bands-of-2020 : (R2020 399 ≈ 722 over 1000) × (R2020 400 ≈ 27363817 over 37900000) × (R2020 1350 ≈ 32113817 over 37900000) × (R2020 6001 ≈ 7932769 over 8800800)
+unfolding R2020 _less_over_
+bands-of-2020 = (record { cross = refl }, record { cross = refl }, record { cross = refl }, record { cross = refl })
+
+-- and beside the earlier R, which it all but reaches at 8,113 persons in 400 m, none in a lifeboat, and just passes at 16,304 in 20 m, of whom 10,000 are
+pub rules-nearest : (R2020 8113 ≈ 308287 over 338400) × (passengerR 40000 (persons 0 8113) ≈ 5119 over 5619) × (R2020 16304 ≈ 495493 over 532600)
+    × (passengerR 2000 (persons 10000 6304) ≈ 13353 over 14353)
+unfolding R2020 persons passengerR _less_over_
+rules-nearest = (record { cross = refl }, record { cross = refl }, record { cross = refl }, record { cross = refl })
 
 -- survival, by its fourth power: of 5,000 ten-thousandths, of 7,071 to 7,072, of 1,000, and at the heel's limit
 pub s⁴-half : s⁴ 30 400 0 ≈ 1 over 16

@@ -11,7 +11,7 @@ use Rattle.hexadecimal.specs.Hex.{pairs, badlyWritten}
 use Rattle.casefile.specs.declared.Progress.{Progress}
 use Rattle.casefile.specs.Record.{Row}
 use Rattle.casefile.specs.Layout.{kindOf, fieldsOf, isRow, hullOf, rowOf, countOf}
-use Rattle.casefile.specs.Limits.{mostRows, sizesFit, rowFits}
+use Rattle.casefile.specs.Limits.{mostRows, sizesFit, personsFit, rowFits}
 use Rattle.casefile.specs.Order.{outOfOrder, leavesOpen, endsOpen}
 use Rattle.casefile.specs.Table.{Check, _when_, firstHolds, wrongHullFrame, wrongFrame, wrongZones, hullChecks, rowChecks, endChecks, lineChecks}
 -- checked first, so that a definition that reads a worked file otherwise is refused there
@@ -19,13 +19,17 @@ use Rattle.casefile.proofs.PassengerExamples.{ferry-accepted}
 
 -- ---- a list of checks
 
-by-first : (k : ℕ) (t : Bool) (rest : ℕ) → (k ≡ 0 → ⊥) → cond t k rest ≡ 0 → (t ≡ false) × (rest ≡ 0)
-by-first k true rest h e = absurd (h e)
-by-first k false rest h e = (refl, e)
+by-first : (k n : ℕ) (t : Bool) (rest : ℕ) → (k ≡ n → ⊥) → cond t k rest ≡ n → (t ≡ false) × (rest ≡ n)
+by-first k n true rest h e = absurd (h e)
+by-first k n false rest h e = (refl, e)
+
+-- where another number is given than the first check's, that check does not hold
+pub first-other : (k n : ℕ) (t : Bool) (cs : List Check) → (k ≡ n → ⊥) → firstHolds ((k when t) ∷ cs) ≡ n → (t ≡ false) × (firstHolds cs ≡ n)
+unfolding firstHolds
+first-other k n t cs h e = by-first k n t (firstHolds cs) h e
 
 pub first-fails : (k : ℕ) (t : Bool) (cs : List Check) → (k ≡ 0 → ⊥) → firstHolds ((k when t) ∷ cs) ≡ 0 → (t ≡ false) × (firstHolds cs ≡ 0)
-unfolding firstHolds
-first-fails k t cs h e = by-first k t (firstHolds cs) h e
+first-fails k t cs h e = first-other k 0 t cs h e
 
 pub first-passed : (k : ℕ) (t : Bool) (cs : List Check) → t ≡ false → firstHolds ((k when t) ∷ cs) ≡ firstHolds cs
 unfolding firstHolds
@@ -37,6 +41,7 @@ pub record HullPasses (l : Line) : Type 0 where
   pub written : badlyWritten l ≡ false
   pub frame : wrongHullFrame (pairs (l .text)) ≡ false
   pub sizes : sizesFit (hullOf (kindOf (pairs (l .text))) (fieldsOf (pairs (l .text)))) ≡ true
+  pub persons : personsFit (hullOf (kindOf (pairs (l .text))) (fieldsOf (pairs (l .text)))) ≡ true
   pub zones : wrongZones (pairs (l .text)) (hullOf (kindOf (pairs (l .text))) (fieldsOf (pairs (l .text)))) ≡ false
 
 pub record RowPasses (h : Hull) (p : Progress) (r : Row) : Type 0 where
@@ -62,12 +67,13 @@ module _ (l : Line) where
       let (w, e1) = first-fails _ _ _ (λ z. omega arith) e in
       let (f, e2) = first-fails _ _ _ (λ z. omega arith) e1 in
       let (s, e3) = first-fails _ _ _ (λ z. omega arith) e2 in
-      let (z, e4) = first-fails _ _ _ (λ z. omega arith) e3 in
-      record { written = w; frame = f; sizes = not-false _ s; zones = z }
+      let (n, e4) = first-fails _ _ _ (λ z. omega arith) e3 in
+      let (z, e5) = first-fails _ _ _ (λ z. omega arith) e4 in
+      record { written = w; frame = f; sizes = not-false _ s; persons = not-false _ n; zones = z }
 
   pub hull-passed : HullPasses l → firstHolds (hullChecks l) ≡ 0
   unfolding hullChecks firstHolds
-  hull-passed q = rw (q .written, q .frame, q .sizes, q .zones) refl
+  hull-passed q = rw (q .written, q .frame, q .sizes, q .persons, q .zones) refl
 
 module _ (h : Hull) (p : Progress) where
   pub row-passes : (r : Row) → firstHolds (rowChecks h p r) ≡ 0 → RowPasses h p r

@@ -19,7 +19,7 @@ use Rattle.hexadecimal.proofs.Pairs.{pairs-hex, proper-hex, line-in-front}
 use Rattle.casefile.specs.declared.Progress.{Progress}
 use Rattle.casefile.specs.Record.{Row, Case}
 use Rattle.casefile.specs.Layout.{kindOf, fieldsOf, isHull, isRow, takes, frameLength, hullLength, shortestHull, hullOf, rowOf, countOf, hullBytes, rowBytes, endBytes}
-use Rattle.casefile.specs.Limits.{longestInput, mostRows, sizesFit, zonesFit, rowFits}
+use Rattle.casefile.specs.Limits.{longestInput, mostRows, sizesFit, personsFit, zonesFit, rowFits}
 use Rattle.casefile.specs.Order.{outOfOrder, leavesOpen, endsOpen}
 use Rattle.casefile.specs.Table.{firstHolds, wrongHullFrame, wrongFrame, wrongZones, hullChecks, lineChecks}
 use Rattle.casefile.specs.Reading.{accepted, begin, inside, start, withRow, before, readFrom, reading}
@@ -144,7 +144,7 @@ module _ (h : Hull) (s : Sizes h) (z : Zones h) (v : ValidHull h) where
       rw (hull-kind h (v .type) s z (v .places), of-type (v .type), le-ltb (length (hullBytes h)) (shortestHull (h .kind)) (omega (arith, hull-length h (v .type) s z (v .places), z .some))) refl
     where
       of-type : ShipType h → isHull (h .kind) ≡ true
-      of-type (cargo k a b) = rw k refl
+      of-type (cargo k a b r) = rw k refl
       of-type (passenger k) = rw k refl
 
   hull-zones : wrongZones (hullBytes h) h ≡ false
@@ -161,6 +161,7 @@ module _ (h : Hull) (s : Sizes h) (z : Zones h) (v : ValidHull h) where
         written = written-well (hullBytes h) o (omega (arith, hull-length h (v .type) s z (v .places)));
         frame = rw same-bytes hull-frame;
         sizes = rw hull-there (holds (sizesFit h) (v .sizes));
+        persons = rw hull-there (holds (personsFit h) (v .persons));
         zones = rw (hull-there, same-bytes) hull-zones;
       }) in
       ap (readFrom begin n) (line-in-front (hullBytes h) rest o)

@@ -13,7 +13,7 @@ use Rattle.hexadecimal.specs.Hex.{digitOf, pairOf, pairs, digitsOnly, proper, b
 use Rattle.fields.specs.Fields.{wordAt, longAt, signed, unsigned}
 use Rattle.casefile.specs.Record.{Row, Case}
 use Rattle.casefile.specs.Layout.{takes, frameLength, placeOf, hullOf, headOf, findingOf, setOf, floodingOf, floodingsOf, resultsOf, hullBytes, findingBytes, floodingBytes, rowBytes, endBytes}
-use Rattle.casefile.specs.Limits.{between, sizesFit, risingTo, zonesFit, headFits, openingFits, findingFits, findingsFit, floodingFits, floodingsFit, resultsFit, rowFits}
+use Rattle.casefile.specs.Limits.{between, sizesFit, personsFit, risingTo, zonesFit, headFits, openingFits, findingFits, findingsFit, floodingFits, floodingsFit, resultsFit, rowFits}
 use Rattle.casefile.specs.Order.{atTop, closesGroup, sameGroup, sameLayer, earlierGroup, outOfOrder, leavesOpen, endsOpen}
 use Rattle.casefile.specs.Table.{firstHolds, wrongHullFrame, wrongFrame, wrongZones, hullChecks, rowChecks, endChecks, lineChecks}
 use Rattle.casefile.specs.Kept.{keptRow, keptRows}
@@ -49,7 +49,7 @@ printed = hullLine ++ firstRow ++ secondRow ++ thirdRow ++ endLine
 
 -- the definitions, open to computation
 unfoldable pub read : List ℕ → Reading
-unfolding reading readFrom lines firstHolds hullChecks rowChecks endChecks lineChecks wrongHullFrame wrongFrame wrongZones between sizesFit risingTo zonesFit headFits openingFits findingFits findingsFit floodingFits floodingsFit resultsFit rowFits atTop closesGroup sameGroup sameLayer earlierGroup outOfOrder leavesOpen endsOpen takes frameLength placeOf hullOf headOf findingOf setOf floodingOf floodingsOf resultsOf digitOf pairOf pairs digitsOnly proper badlyWritten wordAt longAt signed unsigned tabulate bytes hullBytes findingBytes floodingBytes rowBytes endBytes digit hex lineOf rowLines encode
+unfolding reading readFrom lines firstHolds hullChecks rowChecks endChecks lineChecks wrongHullFrame wrongFrame wrongZones between sizesFit personsFit risingTo zonesFit headFits openingFits findingFits findingsFit floodingFits floodingsFit resultsFit rowFits atTop closesGroup sameGroup sameLayer earlierGroup outOfOrder leavesOpen endsOpen takes frameLength placeOf hullOf headOf findingOf setOf floodingOf floodingsOf resultsOf digitOf pairOf pairs digitsOnly proper badlyWritten wordAt longAt signed unsigned tabulate bytes hullBytes findingBytes floodingBytes rowBytes endBytes digit hex lineOf rowLines encode
 read f = reading f
 
 -- 16 m broad, two zones
@@ -62,6 +62,7 @@ hull Ls ds dl bulkhead = record {
   light = dl;
   lifeboats = 0;
   excess = 0;
+  rule = 0;
   zones = 2;
   places = 0 ∷ bulkhead ∷ Ls ∷ 0 ∷ 0 ∷ 0 ∷ 0 ∷ 0 ∷ 0 ∷ 0 ∷ 0 ∷ 0 ∷ 0 ∷ 0 ∷ 0 ∷ 0 ∷ 0 ∷ 0 ∷ 0 ∷ 0 ∷ 0 ∷ [];
 }

@@ -22,6 +22,7 @@ pub mod Turns
 pub mod EndFrames
 pub mod Refusal
 pub mod TableOrder
+pub mod Band
 pub mod Kept
 pub mod Longest
 pub mod Groups

@@ -12,7 +12,7 @@ use Rattle.records.specs.declared.Hull.{Hull}
 use Rattle.lines.specs.Lines.{lines}
 use Rattle.casefile.specs.declared.Progress.{Progress}
 use Rattle.casefile.specs.Record.{Row}
-use Rattle.casefile.specs.Limits.{between, sizesFit, risingTo, zonesFit, headFits, openingFits, findingFits, findingsFit, floodingFits, floodingsFit, resultsFit, rowFits}
+use Rattle.casefile.specs.Limits.{between, sizesFit, personsFit, risingTo, zonesFit, headFits, openingFits, findingFits, findingsFit, floodingFits, floodingsFit, resultsFit, rowFits}
 use Rattle.casefile.specs.Order.{outOfOrder, leavesOpen, endsOpen}
 use Rattle.casefile.specs.Table.{firstHolds, rowChecks, endChecks}
 use Rattle.casefile.specs.Reading.{refused, begin, start, readFrom, reading}
@@ -27,14 +27,21 @@ UpTo fits high = (fits 0 ≡ true) × (fits high ≡ true) × (fits (high + 1) �
 -- ---- the hull
 
 abbrev hull : ℕ → ℕ → ℕ → ℕ → ℕ → List ℕ → Hull
-hull Ls B ds dl m places = record { kind = 1; length = Ls; breadth = B; deepest = ds; light = dl; lifeboats = 0; excess = 0; zones = m; places = places }
+hull Ls B ds dl m places = record { kind = 1; length = Ls; breadth = B; deepest = ds; light = dl; lifeboats = 0; excess = 0; rule = 0; zones = m; places = places }
 
 abbrev sized : ℕ → ℕ → ℕ → ℕ → Bool
 sized Ls B ds dl = sizesFit (hull Ls B ds dl 1 (0 ∷ Ls ∷ []))
 
--- a passenger ship, by its length, its breadth, and the persons for whom there are lifeboats and those in excess
+-- a passenger ship, by its length, its breadth, the persons for whom there are lifeboats, those in excess, and its rule
+abbrev passengers : ℕ → ℕ → ℕ → ℕ → ℕ → Hull
+passengers Ls B n e r = record { kind = 6; length = Ls; breadth = B; deepest = 6000; light = 4000; lifeboats = n; excess = e; rule = r; zones = 1; places = 0 ∷ Ls ∷ [] }
+
 abbrev ferry : ℕ → ℕ → ℕ → ℕ → Bool
-ferry Ls B n e = sizesFit (record { kind = 6; length = Ls; breadth = B; deepest = 6000; light = 4000; lifeboats = n; excess = e; zones = 1; places = 0 ∷ Ls ∷ [] })
+ferry Ls B n e = sizesFit (passengers Ls B n e 0)
+
+-- by its rule and its persons
+abbrev manned : ℕ → ℕ → ℕ → Bool
+manned r n e = personsFit (passengers 9900 1600 n e r)
 
 -- so many zones of a metre
 abbrev zoned : ℕ → Bool
@@ -58,9 +65,13 @@ pub record Hulls : Type 0 where
   pub ferry-even : ferry 9900 401 0 0 ≡ false
   pub lifeboats : UpTo (λ n. ferry 9900 1600 n 0) 10000
   pub excess : UpTo (λ e. ferry 9900 1600 0 e) 10000
+  pub rule : UpTo (λ r. sizesFit (passengers 9900 1600 0 0 r)) 1
+  pub below-the-band : (manned 1 1350 0 ≡ true) × (manned 1 0 1350 ≡ true) × (manned 1 1000 351 ≡ false)
+  pub above-the-band : (manned 1 3000 3000 ≡ false) × (manned 1 6001 0 ≡ true) × (manned 1 0 6001 ≡ true)
+  pub no-band : (manned 0 1000 351 ≡ true) × (manned 0 3000 3000 ≡ true)
 
 pub hulls : Hulls
-unfolding between sizesFit risingTo zonesFit tabulate
+unfolding between sizesFit personsFit risingTo zonesFit tabulate
 hulls = record {
   length = (refl, refl, refl, refl);
   breadth = (refl, refl, refl, refl);
@@ -75,6 +86,10 @@ hulls = record {
   ferry-even = refl;
   lifeboats = (refl, refl, refl);
   excess = (refl, refl, refl);
+  rule = (refl, refl, refl);
+  below-the-band = (refl, refl, refl);
+  above-the-band = (refl, refl, refl);
+  no-band = (refl, refl);
 }
 
 -- ---- a row, of a ship of two zones and 16 m breadth

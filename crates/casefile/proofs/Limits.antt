@@ -1,6 +1,6 @@
--- The limits as orders between numbers: what a hull, a row's head and a result that fit are within. Assumes nothing.
+-- The limits as orders between numbers: what a hull, a row's head and a result that fit are within, and which persons do not fit. Assumes nothing.
 use Prim.Native.Nat.{ℕ, zero, suc, _+_, _-_, _/_, _%_, _≤_, _<_, zero-le}
-use mathlib.Core.Path.{_≡_}
+use mathlib.Core.Path.{_≡_, refl}
 use mathlib.Core.Bool.{Bool, true, false, cond, _&&_}
 use mathlib.Core.List.{List, [], _∷_}
 use mathlib.Core.Logic.{⊎-elim}
@@ -11,7 +11,7 @@ use lib.Dec.{leb, ltb, eqb}
 use lib.IntN.{ℤ, pos, negsuc, negℤ}
 use lib.Signed.{mag, leZ}
 use lib.ListN.{getD}
-use borrow.Author.Tests.{leb-true, eqb-true, ltb-true}
+use borrow.Author.Tests.{leb-true, eqb-true, ltb-true, le-leb, eq-eqb, not-false}
 use Rattle.laws.specs.Lists.{Every}
 use Rattle.laws.proofs.Rising.{places-rise}
 use Rattle.laws.proofs.Tests.{both}
@@ -21,7 +21,7 @@ use Rattle.records.specs.declared.Flooding.{Flooding}
 use Rattle.records.specs.declared.RowHead.{RowHead}
 use Rattle.records.specs.Results.{Results}
 use Rattle.casefile.specs.Record.{Row}
-use Rattle.casefile.specs.Limits.{between, shortestShip, narrowestShip, sizesFit, risingTo, zonesFit, headFits, openingFits, findingFits, findingsFit, floodingFits, floodingsFit, resultsFit, rowFits}
+use Rattle.casefile.specs.Limits.{between, shortestShip, narrowestShip, sizesFit, aboard, personsFit, risingTo, zonesFit, headFits, openingFits, findingFits, findingsFit, floodingFits, floodingsFit, resultsFit, rowFits}
 -- checked first, so that a definition that reads a worked file otherwise is refused there
 use Rattle.casefile.proofs.PassengerExamples.{ferry-accepted}
 
@@ -45,6 +45,7 @@ pub record Sizes (h : Hull) : Type 0 where
   pub fifths : (h .deepest - h .light) % 5 ≡ 0
   pub lifeboats : h .lifeboats ≤ 10000
   pub excess : h .excess ≤ 10000
+  pub rule : h .rule ≤ 1
 
 either-long : (t : Bool) → 2000 ≤ cond t 2000 8000
 either-long true = omega arith
@@ -59,13 +60,14 @@ unfolding sizesFit
 sizes-are h e =
     let least : ℕ = shortestShip (h .kind) in
     let slim : ℕ = narrowestShip (h .kind) in
-    let (e0, ps) = both _ (leb (h .lifeboats) 10000 && leb (h .excess) 10000) e in
+    let (e0, ps) = both _ (leb (h .lifeboats) 10000 && leb (h .excess) 10000 && leb (h .rule) 1) e in
     let (e1, dl) = both _ (between 500 (h .deepest) (h .light) && eqb ((h .deepest - h .light) % 5) 0) e0 in
     let (e2, ds) = both _ (between 1000 30000 (h .deepest)) e1 in
     let (ls, bb) = both (between least 19800 (h .length)) (eqb (h .breadth % 2) 0 && between slim 6000 (h .breadth)) e2 in
     let (b1, b2) = both (eqb (h .breadth % 2) 0) (between slim 6000 (h .breadth)) bb in
     let (d1, d2) = both (between 500 (h .deepest) (h .light)) (eqb ((h .deepest - h .light) % 5) 0) dl in
-    let (p1, p2) = both (leb (h .lifeboats) 10000) (leb (h .excess) 10000) ps in
+    let (ps1, r) = both _ (leb (h .rule) 1) ps in
+    let (p1, p2) = both (leb (h .lifeboats) 10000) (leb (h .excess) 10000) ps1 in
     let (long, short) = between-is least 19800 (h .length) ls in
     let (broad, narrow) = between-is slim 6000 (h .breadth) b2 in
     record {
@@ -83,7 +85,20 @@ sizes-are h e =
       fifths = eqb-true ((h .deepest - h .light) % 5) 0 d2;
       lifeboats = leb-true (h .lifeboats) 10000 p1;
       excess = leb-true (h .excess) 10000 p2;
+      rule = leb-true (h .rule) 1 r;
     }
+
+-- the persons do not fit exactly in the band of the rule of 2020
+pub in-the-band : (h : Hull) → personsFit h ≡ false → (h .rule ≡ 1) × (1351 ≤ aboard h) × (aboard h ≤ 6000)
+unfolding personsFit
+in-the-band h e =
+    let (r, b) = both (eqb (h .rule) 1) (between 1351 6000 (aboard h)) (not-false _ e) in
+    let (from, to) = between-is 1351 6000 (aboard h) b in
+    (eqb-true (h .rule) 1 r, from, to)
+
+pub band-unfit : (h : Hull) → h .rule ≡ 1 → 1351 ≤ aboard h → aboard h ≤ 6000 → personsFit h ≡ false
+unfolding personsFit between
+band-unfit h r from to = rw (eq-eqb (h .rule) 1 r, le-leb 1351 (aboard h) from, le-leb (aboard h) 6000 to) refl
 
 pub record Zones (h : Hull) : Type 0 where
   pub some : 1 ≤ h .zones

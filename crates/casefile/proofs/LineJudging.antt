@@ -15,7 +15,7 @@ use Rattle.fields.specs.Fields.{byteAt, wordAt}
 use Rattle.fields.proofs.Fields.{octets-drop}
 use Rattle.casefile.specs.declared.Frame.{Frame}
 use Rattle.casefile.specs.declared.Progress.{Progress}
-use Rattle.casefile.specs.Layout.{kindOf, fieldsOf, isRow, personsLength, zonesAt, hullOf, headOf, resultsOf, rowOf, countOf, personsOf, hullValues}
+use Rattle.casefile.specs.Layout.{kindOf, fieldsOf, isRow, personsLength, zonesAt, hullOf, headOf, resultsOf, rowOf, countOf, personsOf, ruleOf, hullValues}
 use Rattle.casefile.specs.Table.{firstHolds, hullChecks, lineChecks}
 use Rattle.casefile.specs.Reading.{Stage, begin, inside, checks}
 use Rattle.casefile.specs.Answer.{numberOf, valuesOf, givenFirst, refusedFirst, unlessRefused, firstJudged, frameOf, judged, none, SaysTheLine, frameAt}
@@ -49,12 +49,12 @@ module _ (l : Line) where
   -- the fields of a hull's line: the numbers after the zone count are its inner bulkheads
   hull-values : (p : HullPasses l) → let kind = kindOf (pairs (l .text)) in let f = fieldsOf (pairs (l .text)) in
       hullValues hull
-      ≡ kind ∷ wordAt f 0 ∷ wordAt f 2 ∷ wordAt f 4 ∷ wordAt f 6 ∷ personsOf hull ++ byteAt f (zonesAt kind) ∷ tabulate (λ i. wordAt f (9 + personsLength kind + 2 * i)) (byteAt f (zonesAt kind) - 1)
+      ≡ kind ∷ wordAt f 0 ∷ wordAt f 2 ∷ wordAt f 4 ∷ wordAt f 6 ∷ personsOf hull ++ ruleOf hull ++ byteAt f (zonesAt kind) ∷ tabulate (λ i. wordAt f (9 + personsLength kind + 2 * i)) (byteAt f (zonesAt kind) - 1)
   unfolding hullOf
   hull-values p =
       let kind : ℕ = kindOf (pairs (l .text)) in
       let f : List ℕ = fieldsOf (pairs (l .text)) in
-      ap (λ ns. kind ∷ wordAt f 0 ∷ wordAt f 2 ∷ wordAt f 4 ∷ wordAt f 6 ∷ personsOf hull ++ byteAt f (zonesAt kind) ∷ ns) (inner-words kind f (zones-are hull (hull-zones l (p .written) p .0) .most))
+      ap (λ ns. kind ∷ wordAt f 0 ∷ wordAt f 2 ∷ wordAt f 4 ∷ wordAt f 6 ∷ personsOf hull ++ ruleOf hull ++ byteAt f (zonesAt kind) ∷ ns) (inner-words kind f (zones-are hull (hull-zones l (p .written) p .0) .most))
 
   passed-values : firstHolds (hullChecks l) ≡ 0 → valuesOf (firstJudged l .hull) none (firstJudged l .frame) ≡ hullValues hull
   passed-values e = ap (λ a. valuesOf (a .hull) none (a .frame)) (first-passes e)
@@ -67,7 +67,7 @@ module _ (l : Line) where
 
   passenger-values : firstHolds (hullChecks l) ≡ 0 → kindOf (pairs (l .text)) ≡ 6 → let f = fieldsOf (pairs (l .text)) in
       valuesOf (firstJudged l .hull) none (firstJudged l .frame)
-      ≡ 6 ∷ wordAt f 0 ∷ wordAt f 2 ∷ wordAt f 4 ∷ wordAt f 6 ∷ wordAt f 8 ∷ wordAt f 10 ∷ byteAt f 12 ∷ tabulate (λ i. wordAt f (13 + 2 * i)) (byteAt f 12 - 1)
+      ≡ 6 ∷ wordAt f 0 ∷ wordAt f 2 ∷ wordAt f 4 ∷ wordAt f 6 ∷ wordAt f 8 ∷ wordAt f 10 ∷ byteAt f 12 ∷ byteAt f 13 ∷ tabulate (λ i. wordAt f (14 + 2 * i)) (byteAt f 13 - 1)
   unfolding hullOf
   passenger-values e k = passed-values e ∙ hull-values (hull-passes l e) ∙ rw k refl
 

@@ -87,11 +87,11 @@ module _ (c : Case) (v : Valid c) where
       omega (arith, file-length, none, high, zones .most, v .few)
 
   -- a passenger ship's, exactly
-  pub passenger-length : hull .kind ≡ 6 → length (encode c) ≡ 32 + 4 * hull .zones + 153 * length (c .rows)
+  pub passenger-length : hull .kind ≡ 6 → length (encode c) ≡ 34 + 4 * hull .zones + 153 * length (c .rows)
   passenger-length k =
       let (low, high) = rows-length hull sizes zones 76 76 (rw k passenger-frames) (c .rows) (v .rows) in
-      let four : personsLength (hull .kind) ≡ 4 = rw k refl in
-      omega (arith, file-length, four, low, high)
+      let five : personsLength (hull .kind) ≡ 5 = rw k refl in
+      omega (arith, file-length, five, low, high)
 
   few-read : hull .kind ≡ 6 → FewEnough c → length (encode c) ≤ longestInput
   few-read k (inl f) = omega (arith, passenger-length k, zones .most)

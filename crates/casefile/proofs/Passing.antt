@@ -20,7 +20,7 @@ use Rattle.fields.specs.Fields.{byteAt}
 use Rattle.hexadecimal.proofs.Pairs.{hex-pairs, pairs-octets}
 use Rattle.fields.proofs.Fields.{octets-drop}
 use Rattle.casefile.specs.Layout.{kindOf, fieldsOf, isHull, isRow, isEnd, takes, frameLength, personsLength, hullLength, shortestHull, zonesAt, hullOf, headOf, findingOf, setOf, floodingsOf, resultsOf, rowOf, countOf, hullBytes, rowBytes, endBytes}
-use Rattle.casefile.specs.Limits.{sizesFit, zonesFit, rowFits}
+use Rattle.casefile.specs.Limits.{sizesFit, personsFit, zonesFit, rowFits}
 use Rattle.casefile.specs.Table.{wrongHullFrame, wrongFrame, wrongZones}
 use Rattle.casefile.specs.Valid.{ValidHull, Formed, found, given, ValidRow}
 use Rattle.casefile.proofs.Checks.{HullPasses}
@@ -73,6 +73,7 @@ module _ (l : Line) (w : badlyWritten l ≡ false) where
     hull-valid = record {
       type = ship-type (fieldsOf bs) (hull-frame .0);
       sizes = proved (sizesFit hull) (p .sizes);
+      persons = proved (personsFit hull) (p .persons);
       zones = proved (zonesFit hull) (hull-zones .0);
       places = placed (kindOf bs) (fieldsOf bs);
     }

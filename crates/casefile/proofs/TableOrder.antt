@@ -62,7 +62,7 @@ line-numbers h p l k m = by (isRow (kindOf (pairs (l .text)))) refl
 
 stage-numbers : (s : Stage) (l : Line) (k : ℕ) → List·Memᴰ k (numbersOf (checks s l)) → List·Memᴰ k numbers
 unfolding has
-stage-numbers begin l k m = among numbers (2 ∷ 3 ∷ 4 ∷ 5 ∷ []) tt k (rw (in-turn .hull l) at m)
+stage-numbers begin l k m = among numbers (2 ∷ 3 ∷ 4 ∷ 13 ∷ 5 ∷ []) tt k (rw (in-turn .hull l) at m)
 stage-numbers (inside h p) l k m = line-numbers h p l k m
 
 pub of-the-table : OfTheTable

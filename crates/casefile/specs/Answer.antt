@@ -28,7 +28,7 @@ numberOf (Frame.Row r) = 0
 numberOf (Frame.End count) = 0
 numberOf (Frame.Wrong k) = k
 
--- the kind and the fields after it, with what stands beside the frame, a hull and a row's results: 01 and 06: Ls, B, ds, dl, of 06 the persons, zone count,
+-- the kind and the fields after it, with what stands beside the frame, a hull and a row's results: 01 and 06: Ls, B, ds, dl, of 06 the persons and the rule, zone count,
 -- inner bulkheads; 02, 03, 05, 07: a, n, b, H, and the results, each opening as its two bytes have it without a sign; 0f: row count
 abbrev pub valuesOf : Hull → Results → Frame → List ℕ
 valuesOf h rs Frame.Hull = hullValues h
@@ -83,7 +83,7 @@ pub record SaysTheLine : Type 0 where
       ≡ 1 ∷ wordAt f 0 ∷ wordAt f 2 ∷ wordAt f 4 ∷ wordAt f 6 ∷ byteAt f 8 ∷ tabulate (λ i. wordAt f (9 + 2 * i)) (byteAt f 8 - 1)
   pub passenger : (l : Line) → firstHolds (hullChecks l) ≡ 0 → kindOf (pairs (l .text)) ≡ 6 → let f = fieldsOf (pairs (l .text)) in
       valuesOf (firstJudged l .hull) none (firstJudged l .frame)
-      ≡ 6 ∷ wordAt f 0 ∷ wordAt f 2 ∷ wordAt f 4 ∷ wordAt f 6 ∷ wordAt f 8 ∷ wordAt f 10 ∷ byteAt f 12 ∷ tabulate (λ i. wordAt f (13 + 2 * i)) (byteAt f 12 - 1)
+      ≡ 6 ∷ wordAt f 0 ∷ wordAt f 2 ∷ wordAt f 4 ∷ wordAt f 6 ∷ wordAt f 8 ∷ wordAt f 10 ∷ byteAt f 12 ∷ byteAt f 13 ∷ tabulate (λ i. wordAt f (14 + 2 * i)) (byteAt f 13 - 1)
   pub number : (h : Hull) (p : Progress) (l : Line) → numberOf (judged h p l) ≡ firstHolds (lineChecks h p l)
   pub row : (h : Hull) (p : Progress) (l : Line) → firstHolds (lineChecks h p l) ≡ 0 → isRow (kindOf (pairs (l .text))) ≡ true →
       let kind = kindOf (pairs (l .text)) in let f = fieldsOf (pairs (l .text)) in

@@ -1,4 +1,4 @@
-"""The eleven ships of the examples, in metres: each zone by its name and forward end, from aft forward.
+"""The twelve ships of the examples, one of them under two rules, in metres: each zone by its name and forward end, from aft forward.
 
 The lowest opening stands as low as the load lines let it: an air pipe 0.76 m above the deck, a ventilator 0.9 m. Of the cruise ship it is the bulkhead deck
 itself, by which people leave."""
@@ -226,6 +226,37 @@ CRUISE_SHIP = Ship(
     ),
 )
 
+CAR_DECK = 8.6
+UNDER_THE_CARS = {"decks": (CAR_DECK,), "garage": CAR_DECK}
+
+NIGHT_FERRY = Ship(
+    name="night-ferry", what="night ferry, 131.6 m", verdict="meets", heeled="boats",
+    shows="under the earlier rule: A reaches R, and each partial index 0.9 R",
+    length=131.6, breadth=21.6, depth=13.2, deepest=5.6, light=5.0, block=0.58, gm=(3.1, 3.2, 3.4), vents=13.96,
+    people=People(in_lifeboats=640, in_excess=160, passengers=720, side=24.0, boats=4, boat=11.6, davit=13.0),
+    zones=(
+        Zone("steering gear", 9.6, **UNDER_THE_CARS),
+        Zone("stores", 19.2, **UNDER_THE_CARS),
+        Zone("engine room aft", 32.4, permeability=MACHINERY, **UNDER_THE_CARS),
+        Zone("engine room forward", 45.6, permeability=MACHINERY, **UNDER_THE_CARS),
+        Zone("auxiliary machinery", 56.4, permeability=MACHINERY, **UNDER_THE_CARS),
+        Zone("crew cabins", 67.2, **UNDER_THE_CARS),
+        Zone("cabins aft", 78.0, **UNDER_THE_CARS),
+        Zone("cabins forward", 88.8, **UNDER_THE_CARS),
+        Zone("stabilizers", 99.6, **UNDER_THE_CARS),
+        Zone("void", 110.4, **UNDER_THE_CARS),
+        Zone("bow thruster", 119.6, **UNDER_THE_CARS),
+        Zone("fore peak", 131.6, decks=(CAR_DECK,)),
+    ),
+)
+
+NIGHT_FERRY_2020 = NIGHT_FERRY._replace(
+    name="night-ferry-2020", what="the same night ferry, under the rule of 2020", verdict="fails", turned=("heeling moments", "ro-ro marks"),
+    shows="the same file but for the byte of the rule: R is higher, and A does not reach it",
+    people=NIGHT_FERRY.people._replace(rule=1),
+)
+
 FLEET = (
     COASTER, BULK_CARRIER, CONTAINER_SHIP, HEAVY_LIFT, TIMBER_CARRIER, REEFER, LIVESTOCK_CARRIER, PAPER_CARRIER, RO_PAX_FERRY, DAY_BOAT, CRUISE_SHIP,
+    NIGHT_FERRY, NIGHT_FERRY_2020,
 )

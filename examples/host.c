@@ -21,7 +21,7 @@ static const char *const refusals[] = {
     [DAMINDEX_TOO_LONG] = "the input is too long",
     [DAMINDEX_NOT_HEXADECIMAL] = "not a line of hexadecimal digits",
     [DAMINDEX_WRONG_FRAME] = "no frame that may stand here",
-    [DAMINDEX_HULL_LIMITS] = "length, breadth, a draught or the persons are outside their limits",
+    [DAMINDEX_HULL_LIMITS] = "length, breadth, a draught, the persons or the rule are outside their limits",
     [DAMINDEX_ZONES] = "zone count or bulkheads are wrong",
     [DAMINDEX_ROW_COUNT] = "too many rows, or they are counted wrongly",
     [DAMINDEX_ROW_LIMITS] = "a number of the row is outside its limits",
@@ -29,6 +29,7 @@ static const char *const refusals[] = {
     [DAMINDEX_NOT_CLOSED] = "the layer or group before is not closed",
     [DAMINDEX_END_FRAME] = "the end frame is missing, or not the last line",
     [DAMINDEX_SHEET_TOO_SHORT] = "the sheet is too short",
+    [DAMINDEX_BAND_NOT_TAKEN] = "under its rule a ship of so many persons is not judged yet",
 };
 
 static const struct {

@@ -13,7 +13,7 @@ import sys
 from pathlib import Path
 
 LIBRARY = Path(__file__).resolve().parent.parent / "target" / "library" / "lib" / "libdamindex.so"
-WRITTEN_FOR = 50000  # version 5.0.0; another one serves where the major number is the same and it is not older
+WRITTEN_FOR = 60000  # version 6.0.0; another one serves where the major number is the same and it is not older
 
 # as include/damindex.h has them
 LONGEST_INPUT, LONGEST_REPORT, LONGEST_SHEET, FIGURES = 65536, 12569, 1000, 12
@@ -31,7 +31,7 @@ REFUSALS = {
     1: "the input is too long",
     2: "not a line of hexadecimal digits",
     3: "no frame that may stand here",
-    4: "length, breadth, a draught or the persons are outside their limits",
+    4: "length, breadth, a draught, the persons or the rule are outside their limits",
     5: "zone count or bulkheads are wrong",
     6: "too many rows, or they are counted wrongly",
     7: "a number of the row is outside its limits",
@@ -39,6 +39,7 @@ REFUSALS = {
     9: "the layer or group before is not closed",
     10: "the end frame is missing, or not the last line",
     11: "the sheet is too short",
+    13: "under its rule a ship of so many persons is not judged yet",
 }
 
 STATUSES = {1: 0, 2: 2, 3: 3}

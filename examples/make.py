@@ -12,7 +12,7 @@ HERE = Path(__file__).resolve().parent
 ROOT = HERE.parent
 sys.path[:0] = [str(HERE), str(ROOT / "tests")]
 
-from fleet import CRUISE_SHIP, DAY_BOAT, FLEET, PAPER_CARRIER, RO_PAX_FERRY  # noqa: E402
+from fleet import CRUISE_SHIP, DAY_BOAT, FLEET, NIGHT_FERRY, NIGHT_FERRY_2020, PAPER_CARRIER, RO_PAX_FERRY  # noqa: E402
 from independent import answer, reading  # noqa: E402
 from independent.regulation import group_share, marks, row_s_fourth, s_final_fourth, s_fourth, s_intermediate_fourth, s_mom  # noqa: E402
 from heeling import MOMENTS, displacement, greatest, moment  # noqa: E402
@@ -35,7 +35,10 @@ MARKS_HEAD = ("| file | rows of results | deepest | partial | light |", "|---|--
 SETS_HEAD = ("| survived worse | deepest | partial | light |", "|---|---|---|---|")
 SETS = {1: "the second set, with the inner bottom whole", -1: "the first set, with everything flooded", 0: "neither"}
 MARKS = slice(-3, None)  # the last bytes of a row's line, at the deepest, the partial and the light draught
-PEOPLE_HEAD = ("| file | persons in lifeboats | in excess | N | R | 0.9 R | As | Ap | Al |", "|---|---|---|---|---|---|---|---|---|")
+RULES = ("earlier", "of 2020")  # by the byte of the hull
+RULE_AT = slice(26, 28)          # its digits there
+PEOPLE_HEAD = ("| file | rule | persons in lifeboats | in excess | N | R | 0.9 R | As | Ap | Al |", "|---|---|---|---|---|---|---|---|---|---|")
+RULES_HEAD = ("| | under the earlier rule | under the rule of 2020 |", "|---|---|---|")
 MOMENT_HEAD = (
     "| file | draught | displacement, t | passengers, tm | wind, tm | boats, tm | entered, tm |",
     "|---|---|---|---|---|---|---|",
@@ -95,11 +98,15 @@ def attained(data):
     return in_millionths(found(data).ends[0])
 
 
+def marks_of(data):
+    """What A and each partial index must reach, to six places: R by the ship's own rule, and its part."""
+    hull = reading(data).hull
+    return [millionths(round(mark * 10**6)) for mark in marks(hull.L, hull.persons, hull.rule)[:2]]
+
+
 def table_line(name, what, shows, data):
     """A line of the table."""
-    hull = reading(data).hull
-    required = marks(hull.L, hull.persons)[0]
-    return f"| [{name}]({name}.case) | {what} | {shows} | {found(data).rows} | {attained(data)} | {millionths(round(required * 10**6))} | {verdict(data)} |"
+    return f"| [{name}]({name}.case) | {what} | {shows} | {found(data).rows} | {attained(data)} | {marks_of(data)[0]} | {verdict(data)} |"
 
 
 def marks_line(name, data):
@@ -119,13 +126,17 @@ def sets_lines(data):
         yield f"| {what} | {' | '.join(map(str, cells))} |"
 
 
+def counted_persons(people):
+    """N by the ship's rule: those in excess count twice by the earlier one, and once by that of 2020."""
+    return people.in_lifeboats + people.in_excess * (1 if people.rule else 2)
+
+
 def people_line(ship):
-    """A line of the fourth table: a passenger ship's persons, what they make of R, and the partial indices."""
-    hull = reading(made(ship)).hull
-    in_lifeboats, in_excess = hull.persons
-    required, partial, *_ = (millionths(round(mark * 10**6)) for mark in marks(hull.L, hull.persons))
+    """A line of the fourth table: a passenger ship's rule and persons, what they make of R, and the partial indices."""
+    people = ship.people
     partials = " | ".join(map(in_millionths, found(made(ship)).ends[1:]))
-    return f"| {ship.name} | {in_lifeboats} | {in_excess} | {in_lifeboats + 2 * in_excess} | {required} | {partial} | {partials} |"
+    return (f"| {ship.name} | {RULES[people.rule]} | {people.in_lifeboats} | {people.in_excess} | {counted_persons(people)} | {' | '.join(marks_of(made(ship)))} "
+            f"| {partials} |")
 
 
 def moment_lines(ship):
@@ -170,6 +181,20 @@ def without_line(name, data):
     return f"| {name} | {' | '.join('the same' if file == data and at else f'{attained(file)}, {verdict(file)}' for at, file in enumerate(files))} |"
 
 
+def rules_lines():
+    """The lines of the eighth table: the night ferry under both rules."""
+    ships = NIGHT_FERRY, NIGHT_FERRY_2020
+    required, partial = zip(*(marks_of(made(ship)) for ship in ships))
+    people, (twice, once) = NIGHT_FERRY.people, [counted_persons(ship.people) for ship in ships]
+    yield f"| byte 13 of the hull | {' | '.join(f'`{made(ship).decode()[RULE_AT]}`' for ship in ships)} |"
+    yield f"| N | {people.in_lifeboats} + 2·{people.in_excess} = {twice} | {people.in_lifeboats} + {people.in_excess} = {once} |"
+    yield f"| R | 1 - 5,000/({NIGHT_FERRY.length} + 2.5·{twice} + 15,225) = {required[0]} | {once}/7,580 + 0.66923 = {required[1]} |"
+    yield f"| 0.9 R | {' | '.join(partial)} |"
+    for name, *ends in zip(("A", "As", "Ap", "Al"), *(map(in_millionths, found(made(ship)).ends) for ship in ships)):
+        yield f"| {name} | {' | '.join(ends)} |"
+    yield f"| verdict | {' | '.join(verdict(made(ship)) for ship in ships)} |"
+
+
 def with_table(text, head, lines):
     """A page with other lines under the head of one of its tables."""
     before, _, rest = text.partition(head[0] + "\n")
@@ -182,10 +207,12 @@ def with_tables(text):
     text = with_table(text, MARKS_HEAD, [marks_line(name, data) for name, _, _, data in cases()])
     text = with_table(text, SETS_HEAD, sets_lines(made(PAPER_CARRIER)))
     carriers = [ship for ship in FLEET if ship.people]
+    apart = [ship for ship in carriers if ship != NIGHT_FERRY_2020]  # whose rows are the night ferry's
     text = with_table(text, PEOPLE_HEAD, map(people_line, carriers))
-    text = with_table(text, MOMENT_HEAD, [line for ship in carriers for line in moment_lines(ship)])
-    text = with_table(text, HELD_HEAD, [line for ship in carriers for line in held_lines(ship.name, made(ship))])
-    return with_table(text, WITHOUT_HEAD, [without_line(ship.name, made(ship)) for ship in carriers])
+    text = with_table(text, MOMENT_HEAD, [line for ship in apart for line in moment_lines(ship)])
+    text = with_table(text, HELD_HEAD, [line for ship in apart for line in held_lines(ship.name, made(ship))])
+    text = with_table(text, WITHOUT_HEAD, [without_line(ship.name, made(ship)) for ship in carriers])
+    return with_table(text, RULES_HEAD, rules_lines())
 
 
 def survivals(row):
@@ -261,6 +288,16 @@ def ship_faults():
             yield None if told == ship.turned else f"{ship.name}: its verdict is turned without {told}"
 
 
+def rule_faults():
+    """The night ferry under both rules: two files that differ in the byte of the rule alone, and two answers that differ in the verdict alone."""
+    earlier, later = (made(ship).decode("ascii") for ship in (NIGHT_FERRY, NIGHT_FERRY_2020))
+    alike = later == earlier[:RULE_AT.start] + "01" + earlier[RULE_AT.stop:] and earlier[RULE_AT] == "00"
+    yield None if alike else "the night ferry's two files differ in more than the rule"
+    earlier, later = ((HERE / f"{ship.name}.answer").read_text(encoding="ascii") for ship in (NIGHT_FERRY, NIGHT_FERRY_2020))
+    alike = earlier.startswith("8101") and later == "8102" + earlier[4:]
+    yield None if alike else "the night ferry's two answers differ in more than the verdict"
+
+
 def counted():
     """What README.md counts of the passenger ships beside its tables, in its own words."""
     rows = reading(made(RO_PAX_FERRY)).rows
@@ -302,7 +339,7 @@ def build():
 
 
 def check():
-    looked_at = [*file_faults(), *ship_faults(), *page_faults()]
+    looked_at = [*file_faults(), *ship_faults(), *rule_faults(), *page_faults()]
     faults = [fault for fault in looked_at if fault]
     for fault in faults:
         print(fault)

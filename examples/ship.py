@@ -36,6 +36,7 @@ class People(NamedTuple):
     boats: int                       # survival craft that are launched by davits on one side
     boat: float                      # what one of them weighs with everybody in it, in tonnes
     davit: float                     # how far from the centre line it hangs
+    rule: int = 0                    # the rule that the ship is under: 0 the earlier one, 1 that of 2020
 
 
 class Ship(NamedTuple):
@@ -134,11 +135,16 @@ def group_rows(ship, a, n):
     return [damage_line(ship, a, n, b, h) for b in layers(ship, zones) for h in heights(ship, zones)]
 
 
+def people_digits(people):
+    """The persons of a passenger ship, in lifeboats and in excess, and its rule."""
+    return digits(people.in_lifeboats) + digits(people.in_excess) + digits(people.rule, 1)
+
+
 def hull_line(ship):
     sizes = whole(ship.length, 100), whole(ship.breadth, 100), whole(ship.deepest, 1000), whole(ship.light, 1000)
     bulkheads = [whole(zone.forward, 100) for zone in ship.zones[:-1]]
-    kind, persons = ("06", (ship.people.in_lifeboats, ship.people.in_excess)) if ship.people else ("01", ())
-    return kind + "".join(map(digits, (*sizes, *persons))) + digits(len(ship.zones), 1) + "".join(map(digits, bulkheads))
+    kind, people = ("06", people_digits(ship.people)) if ship.people else ("01", "")
+    return kind + "".join(map(digits, sizes)) + people + digits(len(ship.zones), 1) + "".join(map(digits, bulkheads))
 
 
 def case_file(ship):

@@ -1,7 +1,8 @@
 /* The damage subdivision index for programs in C, and in every language that calls C: four functions of the library damindex.
  *
  * What they take is a case file of a cargo ship (a hull of kind 01, rows of kinds 02, 03 and 05) or of a passenger ship (a hull of kind 06, rows of kind 07); the
- * file itself says which, and what comes back has the same shape for both.
+ * file itself says which, and what comes back has the same shape for both. A passenger ship's hull says in a byte after its persons, byte 13, which rule the ship is
+ * under: 0 the earlier one, 1 that of 2020, MSC.421(98). Its zone count is byte 14, and its bulkheads stand from byte 15 on.
  *
  *     ./library                                               proves the library and makes its package in target/library (x86-64 Linux)
  *     cc program.c $(pkg-config --cflags --libs damindex)     links with the shared object
@@ -38,14 +39,14 @@ extern "C" {
 
 /* The version of this header. The library tells its own by damindex_version. Major: something that a program relies on has changed. Minor:
  * something was added. Patch: neither. A program runs with a library of its own major version that is not older. */
-#define DAMINDEX_VERSION_MAJOR 5
+#define DAMINDEX_VERSION_MAJOR 6
 #define DAMINDEX_VERSION_MINOR 0
 #define DAMINDEX_VERSION_PATCH 0
 #define DAMINDEX_VERSION (10000 * DAMINDEX_VERSION_MAJOR + 100 * DAMINDEX_VERSION_MINOR + DAMINDEX_VERSION_PATCH)
-#define DAMINDEX_VERSION_STRING "5.0.0"
+#define DAMINDEX_VERSION_STRING "6.0.0"
 
 /* Sizes that serve every input (proved). A longer input than the longest is refused for its length, whatever it holds: to read one byte more
- * than that is enough to tell. A passenger ship's file of that length has 428 rows at most, and 427 from six zones on. */
+ * than that is enough to tell. A passenger ship's file has 428 rows at most, with four zones in 65,534 bytes, and 427 from five zones on. */
 enum {
     DAMINDEX_LONGEST_INPUT = 65536,  /* bytes */
     DAMINDEX_LONGEST_REPORT = 12569, /* bytes: 500 rows */
@@ -73,7 +74,8 @@ enum {
 
 /* Verdicts. A mark here is R or its part, which an index is held against; those of a survival are below. */
 enum {
-    DAMINDEX_MEETS = 1,    /* every lower end reaches its mark: A the required index R, each partial index half of R, of a passenger ship 0.9 of R */
+    DAMINDEX_MEETS = 1,    /* every lower end reaches its mark: A the required index R, each partial index half of R, of a passenger ship 0.9 of R; a passenger
+                              ship's R is that of its own rule */
     DAMINDEX_FAILS = 2,    /* some upper end is below its mark */
     DAMINDEX_UNSETTLED = 3 /* neither: some mark lies between the ends */
 };
@@ -92,20 +94,23 @@ enum {
     DAMINDEX_IMMERSED_OPENING = 8 /* the critical opening is below the final waterline: the survival is 0 */
 };
 
-/* Refusals. A file is judged line by line, and the first line that breaks a rule gives number and line. */
+/* Refusals. A file is judged line by line, and the first line that breaks a rule gives number and line; line 1 is judged by 2, 3, 4, 13 and 5, in this order. */
 enum {
-    DAMINDEX_TOO_LONG = 1,        /* more than 65,536 bytes; line 0 */
-    DAMINDEX_NOT_HEXADECIMAL = 2, /* an empty line, an odd number of digits, a byte that is no digit, or no closing line feed */
-    DAMINDEX_WRONG_FRAME = 3,     /* a frame of another kind or length than may stand there: a cargo ship's rows have 31 bytes (kind 02), 13 (03) or 55 (05), a
-                                     passenger ship's 76 (07), and neither may have a row of the other's; a hull has 10 bytes at least (01) or 14 (06) */
-    DAMINDEX_HULL_LIMITS = 4,     /* length, breadth, a draught or the persons outside their limits, which go by the kind of the hull; line 1 */
-    DAMINDEX_ZONES = 5,           /* the zone count, the hull frame's length or the bulkheads; line 1 */
-    DAMINDEX_ROW_COUNT = 6,       /* a 501st row, or an end frame that counts other rows than there were */
-    DAMINDEX_ROW_LIMITS = 7,      /* a number of a row outside its limits: of the first or the second set of results, or of what a passenger ship's row has besides */
-    DAMINDEX_ROW_ORDER = 8,       /* a row that does not come after the row before it */
-    DAMINDEX_NOT_CLOSED = 9,      /* a layer or group that ends before its top or before half the breadth */
-    DAMINDEX_END_FRAME = 10,      /* a line after the end frame; or no end frame, at the line after the last */
-    DAMINDEX_SHEET_TOO_SHORT = 11 /* fewer than two numbers a row on the sheet, in a file that is accepted otherwise; line 0 */
+    DAMINDEX_TOO_LONG = 1,         /* more than 65,536 bytes; line 0 */
+    DAMINDEX_NOT_HEXADECIMAL = 2,  /* an empty line, an odd number of digits, a byte that is no digit, or no closing line feed */
+    DAMINDEX_WRONG_FRAME = 3,      /* a frame of another kind or length than may stand there: a cargo ship's rows have 31 bytes (kind 02), 13 (03) or 55 (05), a
+                                      passenger ship's 76 (07), and neither may have a row of the other's; a hull has 10 bytes at least (01) or 15 (06) */
+    DAMINDEX_HULL_LIMITS = 4,      /* length, breadth, a draught or the persons outside their limits, which go by the kind of the hull, or a rule that is
+                                      neither 0 nor 1; line 1 */
+    DAMINDEX_ZONES = 5,            /* the zone count, the hull frame's length or the bulkheads; line 1 */
+    DAMINDEX_ROW_COUNT = 6,        /* a 501st row, or an end frame that counts other rows than there were */
+    DAMINDEX_ROW_LIMITS = 7,       /* a number of a row outside its limits: of the first or the second set of results, or of what a passenger ship's row has besides */
+    DAMINDEX_ROW_ORDER = 8,        /* a row that does not come after the row before it */
+    DAMINDEX_NOT_CLOSED = 9,       /* a layer or group that ends before its top or before half the breadth */
+    DAMINDEX_END_FRAME = 10,       /* a line after the end frame; or no end frame, at the line after the last */
+    DAMINDEX_SHEET_TOO_SHORT = 11, /* fewer than two numbers a row on the sheet, in a file that is accepted otherwise; line 0 */
+    DAMINDEX_BAND_NOT_TAKEN = 13   /* a passenger ship under the rule of 2020 with 1,351 to 6,000 persons, where R has a logarithm and no verdict is given; line 1.
+                                      No refusal has the number 12 */
 };
 
 /* The version of the library that the program runs with: 10000 times major, and 100 times minor, and patch. */

@@ -9,7 +9,7 @@ ghost use Rattle.host.specs.Figures.{figureCount, figuresAfter, sheetBes
 ghost use Rattle.host.specs.Version.{version};
 
 // This version: the one place of it in code. The header, the shared object's name and the pkg-config file are held to it.
-const MAJOR: u32 = 5;
+const MAJOR: u32 = 6;
 
 const MINOR: u32 = 0;
 

@@ -22,7 +22,7 @@ is-between-requires : tie.Need-is-between-requires
 is-between-requires c κs = search needs
 
 returns-4 : tie.Need-returns-4
-returns-4 c = persons-by-sum _ (c .before .before .before .before .if1 .left) _ (c .is-between .ensures)
+returns-4 c = persons-by-sum _ (c .before .before .before .before .before .before .if1 .left) _ (c .is-between .ensures)
 
 pub persons-fit-spec : {M : Type 1} → statement M
 persons-fit-spec = tie.close (tie.spec returns returns-2 returns-3 add-is-between is-between-requires returns-4)

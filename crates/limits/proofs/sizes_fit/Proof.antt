@@ -30,13 +30,13 @@ returns : tie.Need-returns
 unfolding sizesFit
 returns c =
     rw (
-      c .before .before .differ-by-fifths .ensures,
-      c .before .before .before .is-between4 .ensures,
-      c .before .before .before .before .is-between3 .ensures,
-      c .before .before .before .before .before .is-between2 .ensures,
-      c .before .before .before .before .before .before .narrowest .ensures,
-      c .before .before .before .before .before .before .before .before .is-between .ensures,
-      c .before .before .before .before .before .before .before .before .before .shortest .ensures,
+      c .before .before .before .differ-by-fifths .ensures,
+      c .before .before .before .before .is-between4 .ensures,
+      c .before .before .before .before .before .is-between3 .ensures,
+      c .before .before .before .before .before .before .is-between2 .ensures,
+      c .before .before .before .before .before .before .before .narrowest .ensures,
+      c .before .before .before .before .before .before .before .before .before .is-between .ensures,
+      c .before .before .before .before .before .before .before .before .before .before .shortest .ensures,
     )
     refl
 

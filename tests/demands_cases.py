@@ -39,7 +39,7 @@ class Group(NamedTuple):
 
 
 class Ship(NamedTuple):
-    """A case as it was drawn, with a name to find it again; a passenger ship has persons in lifeboats and in excess."""
+    """A case as it was drawn, with a name to find it again; a passenger ship has persons in lifeboats and in excess, and is under a rule."""
 
     name: str
     L: int
@@ -49,6 +49,7 @@ class Ship(NamedTuple):
     bulkheads: Tuple[int, ...]
     groups: Tuple[Group, ...]
     persons: Optional[Tuple[int, int]] = None
+    rule: int = 0
 
     @property
     def places(self):
@@ -73,7 +74,7 @@ def file_of_ship(ship):
     lines = [line_of((group.a, group.n, layer.b, height.H), height) for group in ship.groups for layer in group.layers for height in layer.heights]
     if ship.persons is None:
         return whole_file(hull_line(ship.L, ship.B, ship.ds, ship.dl, ship.bulkheads), lines)
-    return whole_file(passenger_hull_line(ship.L, ship.B, ship.ds, ship.dl, ship.persons, ship.bulkheads), lines)
+    return whole_file(passenger_hull_line(ship.L, ship.B, ship.ds, ship.dl, ship.persons, ship.bulkheads, rule=ship.rule), lines)
 
 
 def with_heights(ship, changed):

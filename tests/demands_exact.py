@@ -190,12 +190,17 @@ def parts(height, draught):
     return Parts(decided_by, "nothing" if moment == 0 else "one" if moment == 1 else "between")
 
 
+def passenger_R(L, persons, rule):
+    """R of a passenger ship by the rule that it is under."""
+    return letters.passenger_R_of_2020(sum(persons)) if rule == 1 else letters.passenger_R(Fraction(L, 100), *persons)
+
+
 def index_marks(ship):
     """What A, As, Ap and Al must reach."""
     if ship.persons is None:
         required, part = letters.R(Fraction(ship.L, 100)), Fraction(1, 2)
     else:
-        required, part = letters.passenger_R(Fraction(ship.L, 100), *ship.persons), Fraction(9, 10)
+        required, part = passenger_R(ship.L, ship.persons, ship.rule), Fraction(9, 10)
     return (required, required * part, required * part, required * part)
 
 

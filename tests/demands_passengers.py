@@ -6,9 +6,10 @@ from fractions import Fraction
 from demands_cases import (
     HIGHEST, Group, Height, Layer, Ship, edge_or_any, every_group, random_draughts, random_opening, random_rows, random_zones, with_heights,
 )
-from independent.letters import passenger_R
+from demands_exact import passenger_R
 
 MOST_ROWS = 427  # in 65,536 bytes, with 20 zones
+FORMS = {"below 400": (0, 399), "400 to 1,350": (400, 1_350), "above 6,000": (6_001, 20_000)}  # the persons of each form of R of 2020
 AFLOAT = (5_000, 9_000, 0, 30_000)
 CALM = (300_000, 1, 5_000, 9_000, 0, 0)
 
@@ -74,17 +75,34 @@ def random_height(chooser, R, H, way):
     return Height(H, results=tuple(results), stages=tuple(stages))
 
 
+def form_of(persons):
+    """The form of R of 2020 that these persons have, in words."""
+    return next(words for words, (low, high) in FORMS.items() if low <= sum(persons) <= high)
+
+
+def random_persons(chooser, rule):
+    """Persons in lifeboats and in excess; under the rule of 2020 as many as one of its forms has."""
+    if rule == 0:
+        return tuple(edge_or_any(chooser, (0, 1, 10_000), 0, chooser.choice((1_000, 10_000))) for _ in range(2))
+    low, high = FORMS[chooser.choice(tuple(FORMS))]
+    total = edge_or_any(chooser, (low, high), low, high)
+    least, most = max(total - 10_000, 0), min(total, 10_000)
+    in_excess = edge_or_any(chooser, (least, most), least, most)
+    return total - in_excess, in_excess
+
+
 def random_ferry(seed, number):
     """The random passenger ship of this number under this seed."""
     chooser = random.Random(f"passengers {seed}/{number}")
     L = edge_or_any(chooser, (2_000, 2_001, 2_500, 7_999, 8_000, 19_800), 2_000, 19_800)
     B = 2 * edge_or_any(chooser, (200, 201, 499, 3_000), 200, 3_000)
     ds, dl = random_draughts(chooser)
-    persons = tuple(edge_or_any(chooser, (0, 1, 10_000), 0, chooser.choice((1_000, 10_000))) for _ in range(2))
+    rule = chooser.randrange(2)
+    persons = random_persons(chooser, rule)
     bulkheads, chosen = random_zones(chooser, L)
-    way, R = chooser.choice(("any", "good", "near", "edges", "edges", "between", "moment")), passenger_R(Fraction(L, 100), *persons)
+    way, R = chooser.choice(("any", "good", "near", "edges", "edges", "between", "moment")), passenger_R(L, persons, rule)
     groups = random_rows(chooser, chosen, B, ds, MOST_ROWS, lambda H: random_height(chooser, R, H, way))
-    return Ship(f"random passengers {seed}/{number}", L, B, ds, dl, bulkheads, groups, persons)
+    return Ship(f"random passengers {seed}/{number}", L, B, ds, dl, bulkheads, groups, persons, rule)
 
 
 # Ships built by hand
@@ -101,21 +119,30 @@ def moved(survival):
 
 
 def built_ferries():
-    """Extreme cases: verdicts at R and at 0.9 R, the shortest ship, the widest row, thin zones, the most rows, and each factor deciding at one draught."""
+    """Extreme cases: verdicts at R and at 0.9 R under either rule, the shortest ship, the widest row, thin zones, the most rows, and each factor deciding at
+    one draught."""
     whole, odd = with_three(AFLOAT, CALM), with_three((1_040, 179, 0, 0), (7, 9, 50, 700, 0, 0))
 
-    def one_zone(name, *heights):
-        return Ship(name, 2_500, 1_000, 1_000, 500, (), (Group(1, 1, (Layer(500, heights),)),), (1_900, 0))  # R is 3/4
+    def one_zone(name, *heights, persons=(1_900, 0), rule=0):  # R is 3/4
+        return Ship(name, 2_500, 1_000, 1_000, 500, (), (Group(1, 1, (Layer(500, heights),)),), persons, rule)
 
     yield Ship("passengers, no rows", 2_000, 400, 1_000, 500, (), (), (0, 0))
     for survival in (7_499, 7_500, 7_501):
         yield one_zone(f"passengers, {survival} against R", moved(survival))
     yield one_zone("passengers, unsettled", with_three((1_040, 9_000, 0, 0), (74_999, 100_000, 50, 700, 0, 0)))
+    for persons, least, about in (((0, 399), 7_220, 72_199), ((399, 1), 7_221, 72_205), ((700, 650), 8_474, 84_735), ((6_000, 1), 9_014, 90_139),
+                                  ((10_000, 10_000), 9_349, 93_489)):  # the least survival that is not below R of 2020, and one that may be or not
+        for survival in (least - 1, least):
+            yield one_zone(f"passengers of 2020, {sum(persons)}, {survival} against R", moved(survival), persons=persons, rule=1)
+        unsettled = with_three((1_040, 9_000, 0, 0), (about, 100_000, 50, 700, 0, 0))
+        yield one_zone(f"passengers of 2020, {sum(persons)}, unsettled", unsettled, persons=persons, rule=1)
     for draught in range(3):
-        for survival in (6_749, 6_750):
+        for who, survival, aboard in (("passengers", 6_749, (1_900, 0)), ("passengers", 6_750, (1_900, 0)), ("passengers of 2020", 6_497, (300, 99)),
+                                      ("passengers of 2020", 6_498, (300, 99))):
             rows = [moved(survival) if j == draught else whole for j in range(3)]
             results, stages = zip(*((row.results[j], row.stages[j]) for j, row in enumerate(rows)))
-            yield one_zone(f"passengers, {survival} against 0.9 R at draught {draught + 1}", Height(HIGHEST, results=results, stages=stages))
+            yield one_zone(f"{who}, {survival} against 0.9 R at draught {draught + 1}", Height(HIGHEST, results=results, stages=stages),
+                           persons=aboard, rule=int(who != "passengers"))
         for name, result, stage in (("intermediate stage", AFLOAT, (*CALM[:4], 1_501, 0)), ("heeling moment", (40, *AFLOAT[1:]), CALM),
                                     ("opening", (*AFLOAT[:3], -1), CALM)):
             results, stages = [AFLOAT] * 3, [CALM] * 3

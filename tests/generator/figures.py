@@ -1,7 +1,8 @@
-"""The generator's own reading of the figures: shares, heights, survivals, openings, second sets, passenger ships' survivals, marks and the verdict, each
-rule a method that can be broken."""
+"""The generator's own reading of the figures: shares, heights, survivals, openings, second sets, passenger ships' survivals and marks, each rule a method
+that can be broken."""
 
-BILLION = 10 ** 9
+from .required import BILLION, Required
+
 FULL_HEIGHT = 916500
 FULL = FULL_HEIGHT * 10 ** 4
 ONE_FOURTH = 120 * 1600 * 250000  # a survival of one
@@ -15,7 +16,7 @@ def up(value, by):
     return -(-value // by)
 
 
-class Figures:
+class Figures(Required):
     """The figures of one case by documents 01 and 02; low and high always travel as a pair."""
 
     cap_lever, cap_range = 120, 1600
@@ -300,38 +301,6 @@ class Figures:
         """A's ends from those at the three draughts."""
         low, high = (2 * partials[0][end] + 2 * partials[1][end] + partials[2][end] for end in (0, 1))
         return down(low, 5), up(high, 5)
-
-    def persons(self):
-        """N of a passenger ship: those in excess of the lifeboats count twice."""
-        in_lifeboats, in_excess = self.hull.persons
-        return in_lifeboats + 2 * in_excess
-
-    def passenger_required(self):
-        """1 - 5000/(Ls + 2.5N + 15225), the length in centimetres."""
-        under = self.hull.ls + 250 * self.persons() + 1522500
-        return under - 500000, under
-
-    def required(self):
-        ls = self.hull.ls
-        if self.hull.persons is not None:
-            return self.passenger_required()
-        if ls > 10000:
-            return ls + 2400, ls + 15200
-        return ls * (ls + 2400), ls * (ls + 2400) + 128000000
-
-    def marks(self):
-        """The marks of A and of the three partials as fractions."""
-        over, under = self.required()
-        return [(over, under)] + [(over, 2 * under) if self.hull.persons is None else (9 * over, 10 * under)] * 3
-
-    def verdict(self, ends):
-        """The verdict on the ends of A and of the three partials."""
-        marked = list(zip(ends, self.marks()))
-        if all(low * under >= BILLION * over for (low, _), (over, under) in marked):
-            return 1
-        if any(high * under < BILLION * over for (_, high), (over, under) in marked):
-            return 2
-        return 3
 
     def answer(self):
         """The verdict, the ends of A, As, Ap and Al, and each row's share ends and marks."""

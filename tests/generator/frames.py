@@ -4,7 +4,8 @@ from typing import NamedTuple, Optional, Tuple
 
 
 class Hull(NamedTuple):
-    """A hull: lengths in centimetres, draughts in millimetres, the inner bulkheads from aft; persons in lifeboats and in excess make it kind 06."""
+    """A hull: lengths in centimetres, draughts in millimetres, the inner bulkheads from aft; persons in lifeboats and in excess make it kind 06, which
+    says its rule too: 0 the earlier one, 1 that of 2020."""
 
     ls: int
     breadth: int
@@ -12,6 +13,7 @@ class Hull(NamedTuple):
     dl: int
     bulkheads: Tuple[int, ...] = ()
     persons: Optional[Tuple[int, int]] = None
+    rule: int = 0
 
     @property
     def zones(self):
@@ -52,8 +54,8 @@ def pairs(values):
 def hull_line(hull, zones=None):
     """The hull's line; another zone count than the bulkheads' own may be asked for."""
     count = hull.zones if zones is None else zones
-    kind, persons = ("01", ()) if hull.persons is None else ("06", hull.persons)
-    return kind + pairs(hull[:4] + tuple(persons)) + number(count, 1) + pairs(hull.bulkheads)
+    kind, aboard = ("01", "") if hull.persons is None else ("06", pairs(hull.persons) + number(hull.rule, 1))
+    return kind + pairs(hull[:4]) + aboard + number(count, 1) + pairs(hull.bulkheads)
 
 
 SIZES = (4, 4, 2, 2, 2, 1)  # in bytes, of what a passenger row has at each draught after its results

@@ -1,12 +1,12 @@
 """Seeded damage to case files: bytes, lines, counts, and fields set to a limit or next to it."""
 
 from .frames import case_file, end_line, joined, lines_of
-from .shapes import seeded_case
+from .shapes import seeded_case, seeded_persons
 
 LIMITS = (0, 1, 2, 3, 5, 20, 21, 255, 256, 499, 500, 501, 999, 1000, 1001, 1002, 5000, 5001, 5998, 6000, 6002, 7999, 8000, 9000, 9001,
           10000, 10001, 12499, 12500, 19800, 19801, 30000, 30001, 32767, 32768, 35535, 35536, 60000, 60001, 65534, 65535)
-PASSENGER_LIMITS = LIMITS + (39, 40, 41, 49, 50, 51, 120, 200, 398, 400, 402, 699, 700, 701, 1499, 1501, 1600, 1999, 2000, 2001, 65536, 299999, 300000,
-                             300001, 1999999, 2000000, 2000001, 2 ** 31, 2 ** 32 - 1)
+PASSENGER_LIMITS = LIMITS + (39, 40, 41, 49, 50, 51, 120, 200, 398, 399, 400, 402, 699, 700, 701, 1350, 1351, 1499, 1501, 1600, 1999, 2000, 2001, 6001, 65536,
+                             299999, 300000, 300001, 1999999, 2000000, 2000001, 2 ** 31, 2 ** 32 - 1)
 ALIEN = b"\x00\r \tABCDEFGg/:`@-\x7f\x80\xff\n"
 
 
@@ -73,9 +73,9 @@ def wrong_count(dice, data):
 def fields_of(line, is_first):
     """Where the fields of a line begin, and how many digits each has."""
     if is_first:
-        persons = [(18, 4), (22, 4)] if line[:2] == "06" else []
-        zones = 18 + 4 * len(persons)
-        return [(2, 4), (6, 4), (10, 4), (14, 4)] + persons + [(zones, 2)] + [(place, 4) for place in range(zones + 2, len(line), 4)]
+        aboard = [(18, 4), (22, 4), (26, 2)] if line[:2] == "06" else []
+        zones = 28 if aboard else 18
+        return [(2, 4), (6, 4), (10, 4), (14, 4)] + aboard + [(zones, 2)] + [(place, 4) for place in range(zones + 2, len(line), 4)]
     if line[:2] == "0f":
         return [(2, 4)]
     head = [(2, 2), (4, 2)]
@@ -121,16 +121,24 @@ def type_changed(dice, data):
     lines = data.split(b"\n")
     at = dice.below(len(lines))
     line = lines[at]
-    cargo = b"01" + line[2:18] + line[26:] if at == 0 else b"02" + line[2:62]
+    cargo = b"01" + line[2:18] + line[28:] if at == 0 else b"02" + line[2:62]
     lines[at] = dice.pick((cargo, cargo, b"03" + line[2:26], b"05" + line[2:62] + line[14:62], b"05" + line[2:], line[:62], line[:92], line[:122], line[:150],
                            line + b"00", line[:26] + line[30:42] + line[46:58] + line[62:], line[:62] + line[92:122] + line[62:92] + line[122:]))
     return b"\n".join(lines)
 
 
+def rule_changed(dice, data):
+    """A passenger hull under the other rule, under one that is unknown or without the byte that says it; half of them with persons about the rule of 2020."""
+    hull, feed, rest = data.partition(b"\n")
+    persons = "%04x%04x" % seeded_persons(dice, 1, dice.one_in(2)) if dice.one_in(2) else hull[18:26].decode("latin-1")
+    rule = dice.pick((b"00", b"01", b"01", b"01", b"02", b"ff", b""))
+    return hull[:18] + persons.encode("latin-1") + rule + hull[28:] + feed + rest
+
+
 SIMPLE_WAYS = (flip, another_digit, another_digit, alien_byte, cut, twice, line_doubled, line_dropped, lines_swapped,
                carriage_returns, upper_case, wrong_count)
 WAYS = SIMPLE_WAYS + 2 * (set_changed,) + 8 * (field_changed,)
-PASSENGER_WAYS = SIMPLE_WAYS + 3 * (type_changed,) + 10 * (field_changed,)
+PASSENGER_WAYS = SIMPLE_WAYS + 3 * (type_changed, rule_changed) + 10 * (field_changed,)
 
 
 def damaged(dice, data):

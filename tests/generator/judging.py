@@ -34,9 +34,13 @@ class Line:
         """The persons of a passenger hull, in lifeboats and in excess; a cargo hull has none."""
         return (self.field(9), self.field(11)) if self.frame[0] == 6 else None
 
+    def rule(self):
+        """The rule that a passenger hull says it is under: the byte after the persons."""
+        return self.frame[13] if self.frame[0] == 6 else 0
+
     def zones_at(self):
-        """Where a hull has its zone count: after dl, or after the persons."""
-        return 13 if self.frame[0] == 6 else 9
+        """Where a hull has its zone count: after dl, or after the persons and the rule."""
+        return 14 if self.frame[0] == 6 else 9
 
     def bulkheads(self):
         return tuple(self.field(at) for at in range(self.zones_at() + 1, len(self.frame), 2))
@@ -69,12 +73,14 @@ class Judging:
     reads = Line
     longest = 65536
     most_rows = 500
-    order = (10, 2, 3, 4, 5, 6, 7, 8, 9)
+    order = (10, 2, 3, 4, 13, 5, 6, 7, 8, 9)
     lengths = {2: 31, 3: 13, 5: 55, 15: 3}
     passenger_lengths = {7: 76, 15: 3}
-    shortest_hulls = {1: 10, 6: 14}
+    shortest_hulls = {1: 10, 6: 15}
     least = {False: (8000, 1000), True: (2000, 400)}  # length and breadth, of a cargo ship and of a passenger ship
     most_persons = (10000, 10000)
+    rules = (0, 1)
+    not_taken = (1351, 6000)  # from so many persons to so many under the rule of 2020
     rise = 12500
     row_limits = ((5000, 9000, 9000, 30000), (10000,))
     lowest = -30000  # of an opening, the one figure that can be below zero
@@ -132,7 +138,7 @@ class Judging:
             return False
 
     def hull(self, line):
-        return Hull(line.field(1), line.field(3), line.field(5), line.field(7), line.bulkheads(), line.persons())
+        return Hull(line.field(1), line.field(3), line.field(5), line.field(7), line.bulkheads(), line.persons(), line.rule())
 
     def rule_10(self, line):
         return line.ended
@@ -158,11 +164,21 @@ class Judging:
         ls, breadth, ds, dl = (line.field(at) for at in (1, 3, 5, 7))
         length, width = self.least[line.frame[0] == 6]
         return (not length <= ls <= 19800 or not width <= breadth <= 6000 or breadth % 2 == 1
-                or not 1000 <= ds <= 30000 or not 500 <= dl <= ds or (ds - dl) % 5 != 0 or self.crowded(line))
+                or not 1000 <= ds <= 30000 or not 500 <= dl <= ds or (ds - dl) % 5 != 0 or self.crowded(line) or line.rule() not in self.rules)
 
     def crowded(self, line):
         """Whether a passenger ship has too many persons of a sort."""
         return line.frame[0] == 6 and any(count > most for count, most in zip(line.persons(), self.most_persons))
+
+    def rule_13(self, line):
+        """A ship under the rule of 2020 whose persons, all counted once, are between the two forms of R that are taken."""
+        if line.number > 1 or line.frame[0] != 6:
+            return False
+        low, high = self.not_taken
+        return line.rule() == 1 and low <= self.on_board(line.persons()) <= high
+
+    def on_board(self, persons):
+        return sum(persons)
 
     def rule_5(self, line):
         if line.number > 1:

@@ -188,6 +188,17 @@ def passenger_marks():
     return found
 
 
+def rule_marks():
+    """For passenger ships under the rule of 2020 by persons, ten tenths of the mark or nine, and verdict: rows as in marks()."""
+    found = {}
+    for persons in ((0, 399), (399, 1), (700, 650), (6000, 1), (10000, 10000)):
+        over, under = Figures(Hull(9000, 2000, 8000, 5000, (), persons, 1), []).required()
+        for tenths in (10, 9):
+            for verdict, wanted in WANTED.items():
+                found[persons, tenths, verdict] = tuned(tenths * over, 10 * under, wanted)
+    return found
+
+
 def near_moments(most=3):
     """Levers, displacements and moments whose s-mom is next to a whole ten-thousandth, as near as can be with these moments, from above and from below."""
     found = {"above": [], "below": []}
@@ -223,7 +234,7 @@ def near_products(most=3, tries=20000, seed=4):
     return {key: [one[1:] for one in sorted(all_found)[:most]] for key, all_found in sorted(found.items())}
 
 
-SEARCHES = (band_edges, depth_edges, wide_rows, full_ships, marks, near_roots, near_ties, passenger_marks, near_moments, near_products)
+SEARCHES = (band_edges, depth_edges, wide_rows, full_ships, marks, near_roots, near_ties, passenger_marks, rule_marks, near_moments, near_products)
 
 
 def write(path):

@@ -197,9 +197,9 @@ def seeded_rows(dice, hull, most):
     return seeded_second_sets(dice, rows) if hull.persons is None else seeded_stages(dice, hull, rows)
 
 
-def seeded_case(dice, most=60, zones=None, passengers=False):
-    """A cargo ship or a passenger ship, whose rows are so long that fewer fit into a file."""
-    hull = (seeded_ferry if passengers else seeded_hull)(dice, zones)
+def seeded_case(dice, most=60, zones=None, passengers=False, rule=None):
+    """A cargo ship or a passenger ship, under this rule or either, whose rows are so long that fewer fit into a file."""
+    hull = seeded_ferry(dice, zones, rule) if passengers else seeded_hull(dice, zones)
     return hull, seeded_rows(dice, hull, min(most, MOST_PASSENGER_ROWS) if passengers else most)
 
 
@@ -212,13 +212,30 @@ ABOARD = 3 * AFLOAT + 3 * CALM
 MOST_PASSENGER_ROWS = 427             # of 20 zones, in 65,536 bytes
 
 
-def seeded_ferry(dice, zones=None):
-    """A passenger ship's hull: of any length and breadth, many of them shorter or narrower than a cargo ship can be, and any number of persons."""
+def split(dice, total):
+    """So many persons in lifeboats and in excess: as many as can be of one sort, or any of both."""
+    least, most = max(total - 10000, 0), min(total, 10000)
+    in_lifeboats = dice.pick((least, most, dice.between(least, most), dice.between(least, most)))
+    return in_lifeboats, total - in_lifeboats
+
+
+def seeded_persons(dice, rule, taken=True):
+    """Persons of either sort, many of them at a limit; under the rule of 2020 as many as one of its forms takes, or as none does."""
+    if rule == 0:
+        return tuple(dice.pick((0, 1, 9999, 10000)) if dice.one_in(4) else dice.below(10001) for _ in range(2))
+    edges, forms = ((0, 399, 400, 1350, 6001, 20000), ((0, 399), (400, 1350), (6001, 20000))) if taken else ((1351, 6000), ((1351, 6000),))
+    return split(dice, dice.pick(edges) if dice.one_in(2) else dice.between(*dice.pick(forms)))
+
+
+def seeded_ferry(dice, zones=None, rule=None):
+    """A passenger ship's hull: of any length and breadth, many of them shorter or narrower than a cargo ship can be, and any number of persons. Under a rule
+    that is asked for it is one that is taken; otherwise one in twelve under the rule of 2020 is not."""
     ls = dice.pick((2000, 2001, 7999, 8000, 19800)) if dice.one_in(5) else dice.between(2000, dice.pick((8000, 19800)))
     breadth = dice.pick((400, 402, 998, 6000)) if dice.one_in(6) else 2 * dice.between(200, dice.pick((500, 3000)))
     draughts = seeded_draughts(dice)
-    persons = tuple(dice.pick((0, 1, 9999, 10000)) if dice.one_in(4) else dice.below(10001) for _ in range(2))
-    return with_zones(dice, Hull(ls, breadth, *draughts, persons=persons), zones)
+    under = dice.below(2) if rule is None else rule
+    persons = seeded_persons(dice, under, rule is not None or not dice.one_in(12))
+    return with_zones(dice, Hull(ls, breadth, *draughts, persons=persons, rule=under), zones)
 
 
 def final_figures(dice, hull):

@@ -1,12 +1,13 @@
 """Rules broken on purpose: the corpus must tell each broken reading from document 01's own."""
 
-from .broken import indices, marks, openings, passenger_files, passengers, refusals, second, shares
+from .broken import indices, marks, openings, passenger_files, passengers, refusals, rules, second, shares
 from .expecting import expected
 from .figures import Figures
 from .judging import Judging
 
-ALL = ([(words, broken, Figures) for words, broken in refusals.slip + openings.read + second.read + passenger_files.read]
-       + [(words, Judging, broken) for words, broken in shares.slip + indices.slip + openings.slip + second.slip + passengers.slip + marks.slip])
+ALL = ([(words, broken, Figures) for words, broken in refusals.slip + openings.read + second.read + passenger_files.read + rules.read]
+       + [(words, Judging, broken) for words, broken in (
+           shares.slip + indices.slip + openings.slip + second.slip + passengers.slip + rules.slip + marks.slip)])
 
 
 def prints(data, sheet, judging, figures):

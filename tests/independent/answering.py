@@ -3,7 +3,7 @@
 from typing import NamedTuple, Tuple
 
 from .casefile import Refusal, reading
-from .regulation import NO_MARKS, Marks, draughts, marks, passenger_marks, passenger_s_fourth, s_fourth, survival_marks
+from .regulation import EARLIER_RULE, NO_MARKS, Marks, draughts, marks, passenger_marks, passenger_s_fourth, s_fourth, survival_marks
 from .rounding import BILLION, Ends, added_ends, attained_ends, share_ends, sum_ends, survival_ends
 
 MEETS, FAILS, UNSETTLED = 1, 2, 3
@@ -67,11 +67,11 @@ def partial_ends(case, shares, survivals, draught):
     return sum_ends([added_ends(share, row, d, three[draught].ends) for row, share, three in rows])
 
 
-def verdict_of(ends, L, persons=None):
-    """Height and survival: 1 meets, 2 fails, 3 unsettled, all compared exactly; Passenger ships: by the marks of a ship with these persons."""
-    if all(end.lower >= mark * BILLION for end, mark in zip(ends, marks(L, persons))):
+def verdict_of(ends, L, persons=None, rule=EARLIER_RULE):
+    """Height and survival: 1 meets, 2 fails, 3 unsettled, all compared exactly; Passenger ships: by the marks of a ship with these persons under its rule."""
+    if all(end.lower >= mark * BILLION for end, mark in zip(ends, marks(L, persons, rule))):
         return MEETS
-    if any(end.upper < mark * BILLION for end, mark in zip(ends, marks(L, persons))):
+    if any(end.upper < mark * BILLION for end, mark in zip(ends, marks(L, persons, rule))):
         return FAILS
     return UNSETTLED
 
@@ -82,7 +82,7 @@ def answer_to_case(case):
     survivals = tuple(tuple(row_survival(row, draught) for draught in range(3)) for row in case.rows)
     partials = tuple(partial_ends(case, shares, survivals, draught) for draught in range(3))
     ends = (attained_ends(*partials),) + partials
-    return Answer(0, 0, verdict_of(ends, case.hull.L, case.hull.persons), ends, shares, survivals)
+    return Answer(0, 0, verdict_of(ends, case.hull.L, case.hull.persons, case.hull.rule), ends, shares, survivals)
 
 
 def answer(data, sheet=None):

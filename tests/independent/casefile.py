@@ -2,7 +2,7 @@
 
 from typing import NamedTuple, Optional, Tuple
 
-from .regulation import Span
+from .regulation import EARLIER_RULE, RULE_OF_2020, Span
 
 LONGEST_INPUT = 65_536
 MOST_ROWS = 500
@@ -10,6 +10,7 @@ MOST_ZONES = 20
 ABOVE_DEEPEST = 12_500  # a layer's top lies this far above ds
 
 MOST_PERSONS = 10_000
+NOT_TAKEN_YET = range(1_351, 6_001)  # the persons of a ship under the rule of 2020 whose R has a logarithm
 
 HULL, LEVER_ROW, GIVEN_ROW, TWO_SETS_ROW, PASSENGER_HULL, PASSENGER_ROW, END = 0x01, 0x02, 0x03, 0x05, 0x06, 0x07, 0x0F
 LENGTHS = {LEVER_ROW: 31, GIVEN_ROW: 13, TWO_SETS_ROW: 55, END: 3}  # of the lines after a cargo ship's hull
@@ -25,7 +26,7 @@ class Refusal(NamedTuple):
 
 class Hull(NamedTuple):
     """The hull: length and breadth, deepest and light draught, and each zone by its places; of a passenger ship also the persons for whom there are
-    lifeboats and those in excess."""
+    lifeboats and those in excess, and the rule that it is under."""
 
     L: int
     B: int
@@ -33,6 +34,7 @@ class Hull(NamedTuple):
     dl: int
     zones: Tuple[Span, ...]
     persons: Optional[Tuple[int, int]] = None
+    rule: int = EARLIER_RULE
 
     @property
     def top(self):
@@ -133,15 +135,17 @@ def two_bytes_signed(frame, at):
 
 
 def hull_of(frame):
-    """The case file: the hull frame's number of refusal, or its hull; Passenger ships: the persons after dl, and limits of their own."""
+    """The case file: the hull frame's number of refusal, or its hull; Passenger ships: the persons after dl, and limits of their own; The 2020 passenger
+    rule: a byte after the persons says the rule, and 13 comes right after 4."""
     if frame[0] not in (HULL, PASSENGER_HULL):
         return 3
     passengers = frame[0] == PASSENGER_HULL
-    count_at = 13 if passengers else 9
+    count_at = 14 if passengers else 9
     if len(frame) <= count_at:
         return 3
     L, B, ds, dl = (two_bytes(frame, at) for at in (1, 3, 5, 7))
     persons = (two_bytes(frame, 9), two_bytes(frame, 11)) if passengers else None
+    rule = frame[13] if passengers else EARLIER_RULE
     shortest, narrowest = (2_000, 400) if passengers else (8_000, 1_000)
     within = (
         shortest <= L <= 19_800
@@ -149,16 +153,19 @@ def hull_of(frame):
         and 1_000 <= ds <= 30_000
         and 500 <= dl <= ds and (ds - dl) % 5 == 0
         and all(count <= MOST_PERSONS for count in persons or ())
+        and rule in (EARLIER_RULE, RULE_OF_2020)
     )
     if not within:
         return 4
+    if rule == RULE_OF_2020 and sum(persons) in NOT_TAKEN_YET:
+        return 13
     m = frame[count_at]
     if not 1 <= m <= MOST_ZONES or len(frame) != count_at - 1 + 2 * m:
         return 5
     places = [0] + [two_bytes(frame, count_at + 1 + 2 * i) for i in range(m - 1)] + [L]
     if not all(here < there for here, there in zip(places, places[1:])):
         return 5
-    return Hull(L, B, ds, dl, tuple(Span(here, there) for here, there in zip(places, places[1:])), persons)
+    return Hull(L, B, ds, dl, tuple(Span(here, there) for here, there in zip(places, places[1:])), persons, rule)
 
 
 # Rows and end

@@ -68,7 +68,7 @@ def main():
     """Exit status 0 where nothing is found without a fault, and each fault is."""
     parser = argparse.ArgumentParser(prog="faults", description=__doc__)
     parser.add_argument("--corpus", action="store_true",
-                        help="the faults of the input's limit, of the second set and of passenger ships, which the corpus alone must find")
+                        help="the faults of the input's limit, of the second set, of passenger ships and of their rules, which the corpus alone must find")
     on_corpus = parser.parse_args().corpus
     begun, found, missed = time.monotonic(), 0, 0
     unbroken = with_fault("rounding", "BILLION = 10**9", "BILLION = 10**9", on_corpus)

@@ -1,6 +1,6 @@
 """The faults that the tests must find, by file: what is wrong, the text as it stands, and the text with the fault."""
 
-from . import passenger_faults as passengers
+from . import passenger_faults as passengers, rule_faults as rules
 
 DRY = "tuple(result._replace(opening=0) for result in row.results)"
 TABLE = "        if kind not in lengths or"
@@ -207,7 +207,8 @@ TEXT = [
     ("heel and opening change their bytes", "4 * marks.heel + 8 * marks.opening", "8 * marks.heel + 4 * marks.opening"),
     ("the exact survival has no eye for the opening", "row_s_fourth(row, draught)", "row_s_fourth(row._replace(results=%s), draught)" % DRY),
     ("the exact survival has no eye for the second set", "row_s_fourth(row, draught)", "row_s_fourth(row._replace(second=None), draught)"),
-    ("the exact figures of a passenger ship have a cargo ship's R", "index_marks(hull.L, hull.persons)", "index_marks(hull.L)"),
+    ("the exact figures of a passenger ship have a cargo ship's R", "index_marks(hull.L, hull.persons, hull.rule)", "index_marks(hull.L)"),
+    ("the exact figures have no eye for the rule", "index_marks(hull.L, hull.persons, hull.rule)", "index_marks(hull.L, hull.persons)"),
     ("the marks of the light draught stand for the partial", "for survival in survivals)", "for survival in (survivals[0], *survivals[2:] * 2))"),
     ("the draughts come light first", "for survival in survivals)", "for survival in survivals[::-1])"),
     ("the first row's marks are repeated", "row_line(*row) for row in zip(answer.shares, answer.survivals)",
@@ -231,7 +232,8 @@ SETTLING = [
     ("a root is rounded down on both sides", "Fraction(down + 1, scale)", "Fraction(down, scale)"),
     ("an immersed opening counts as dry", "row_s_fourth(row, draught)", "row_s_fourth(row._replace(results=%s), draught)" % DRY),
     ("the second set does not count", "row_s_fourth(row, draught)", "row_s_fourth(row._replace(second=None), draught)"),
-    ("a passenger ship is settled by a cargo ship's R", "marks(hull.L, hull.persons)", "marks(hull.L)"),
+    ("a passenger ship is settled by a cargo ship's R", "marks(hull.L, hull.persons, hull.rule)", "marks(hull.L)"),
+    ("a passenger ship is settled by the earlier rule's R", "marks(hull.L, hull.persons, hull.rule)", "marks(hull.L, hull.persons)"),
     ("a passenger ship's partial mark is told as R/2", '"R/2" if hull.persons is None else "0.9 R"', '"R/2"'),
     ("v does not count", "share * row_v(row, d) / WHOLE_V", "share"),
     ("A weighs each draught alike", "(Fraction(2, 5), Fraction(2, 5), Fraction(1, 5))", "(Fraction(1, 3),) * 3"),
@@ -363,8 +365,11 @@ SECOND_ANSWERED = [
      "    return lower_survival(*(results[draught]._replace(opening=opening) for results in row.sets))"),
 ]
 
-ON_CORPUS = {"casefile": SECOND_READ + passengers.READ, "regulation": passengers.WORKED, "answering": SECOND_ANSWERED + passengers.ANSWERED}
+ON_CORPUS = {
+    "casefile": SECOND_READ + passengers.READ + rules.READ, "regulation": passengers.WORKED + rules.WORKED,
+    "answering": SECOND_ANSWERED + passengers.ANSWERED + rules.ANSWERED,
+}
 FAULTS = {
-    "casefile": READING + SECOND_READ + passengers.READ, "regulation": FIGURES + passengers.WORKED, "rounding": ENDS,
-    "answering": ANSWER + SECOND_ANSWERED + passengers.ANSWERED, "printing": TEXT, "settling": SETTLING,
+    "casefile": READING + ON_CORPUS["casefile"], "regulation": FIGURES + ON_CORPUS["regulation"], "rounding": ENDS,
+    "answering": ANSWER + ON_CORPUS["answering"], "printing": TEXT, "settling": SETTLING,
 }

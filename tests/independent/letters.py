@@ -104,6 +104,17 @@ def R(length):
 
 
 def passenger_R(length, in_lifeboats, in_excess):
-    """003, 10.2: the required index of a passenger ship of so many metres, N1 persons in lifeboats and N2 in excess of them."""
+    """003, 10.2: the required index of a passenger ship of so many metres by the earlier rule, N1 persons in lifeboats and N2 in excess of them."""
     N = in_lifeboats + 2 * in_excess
     return 1 - 5_000 / (length + Fraction(5, 2) * N + 15_225)
+
+
+def passenger_R_of_2020(N):
+    """002, 2.4.2.3: the required index of a passenger ship by the rule of 2020, N persons on board in all; from 1,351 to 6,000 it has a logarithm."""
+    if N < 400:
+        return Fraction(722, 1_000)
+    if N <= 1_350:
+        return Fraction(N) / 7_580 + Fraction(66_923, 100_000)
+    if N <= 6_000:
+        raise ValueError(f"R of {N} persons is no fraction")
+    return 1 - (Fraction(8_525, 10) + Fraction(3_875, 100_000) * N) / (N + 5_000)

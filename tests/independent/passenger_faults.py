@@ -25,8 +25,8 @@ READ = [
         if kind == PASSENGER_ROW and len(frame) == 70:
             frame = frame[:7] + b"".join(frame[at:at + 6] + bytes(2) for at in (7, 13, 19)) + frame[25:]
 """ + TABLE),
-    ("a passenger ship's hull is filled up to 14 bytes", SHORT_HULL, "    frame = frame.ljust(14, bytes(1)) if passengers else frame\n" + SHORT_HULL),
-    ("a passenger ship's hull needs 16 bytes", SHORT_HULL, "    if len(frame) <= count_at + 2 * passengers:\n"),
+    ("a passenger ship's hull is filled up to 15 bytes", SHORT_HULL, "    frame = frame.ljust(15, bytes(1)) if passengers else frame\n" + SHORT_HULL),
+    ("a passenger ship's hull needs 17 bytes", SHORT_HULL, "    if len(frame) <= count_at + 2 * passengers:\n"),
     ("a passenger ship's hull is as long as a cargo ship's", "len(frame) != count_at - 1 + 2 * m:", "len(frame) != 8 + 2 * m:"),
     # Limits of the hull
     *((f"the least length and breadth are {words}", LEAST, changed) for words, changed in (
@@ -186,7 +186,7 @@ WORKED = [
     ("a person counts 25 m", "L + 250 * (", "L + 2_500 * ("),
     ("a person counts 2.49 m", "L + 250 * (", "L + 249 * ("),
     ("R of passenger ships has its length in metres", "L + 250 * (", "L // 100 + 250 * ("),
-    ("a passenger ship has a cargo ship's R", "required = passenger_R(L, *persons)", "required = R(L)"),
+    ("a passenger ship has a cargo ship's R", "else passenger_R(L, *persons)", "else R(L)"),
     ("a partial index must reach R/2 in a passenger ship", OF_R, OF_R.replace("Fraction(9, 10)", "Fraction(1, 2)")),
     ("a partial index must reach R in a passenger ship", OF_R, OF_R.replace("Fraction(9, 10)", "Fraction(1)")),
     ("A must reach 0.9 R alone", OF_R, "4 * (required * Fraction(9, 10),)"),
@@ -221,5 +221,5 @@ ANSWERED = [
     ("the displacement is that of the deepest draught", ONE,
      ONE.replace("row.stages[draught]", "row.stages[draught]._replace(displacement=row.stages[0].displacement)")),
     ("the moment is that of the deepest draught", ONE, ONE.replace("row.stages[draught]", "row.stages[draught]._replace(moment=row.stages[0].moment)")),
-    ("the verdict is a cargo ship's", "verdict_of(ends, case.hull.L, case.hull.persons)", "verdict_of(ends, case.hull.L)"),
+    ("the verdict is a cargo ship's", "verdict_of(ends, case.hull.L, case.hull.persons, case.hull.rule)", "verdict_of(ends, case.hull.L)"),
 ]

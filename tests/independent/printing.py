@@ -69,7 +69,7 @@ def exact_text(read):
         lines.append(f"row {number}: group ({row.a}, {row.n}) b {row.b} H {row.H} share {share}")
         for draught, name in enumerate(DRAUGHTS):
             lines.append(f"  {name}: v {row_v(row, depths[draught])}/{WHOLE_V} {exact_survival(row, draught)}")
-    required, partial, *_ = index_marks(hull.L, hull.persons)
+    required, partial, *_ = index_marks(hull.L, hull.persons, hull.rule)
     lines += [f"R {required}", f"partial mark {partial}"]
     for d, name in zip(depths, DRAUGHTS):
         total = sum(share * row_v(row, d) for row, share in zip(read.rows, shares)) / WHOLE_V if shares else 0

@@ -8,6 +8,8 @@ WHOLE_V = 916_500        # v of a boundary that no damage passes
 WHOLE_SURVIVAL = 10_000  # a survival of one
 KEPT = 8_192             # figures kept by the caches: more than the spans and layers of any one file
 
+EARLIER_RULE, RULE_OF_2020 = 0, 1  # the marks of the rule that a passenger ship is under
+
 
 class Marks(NamedTuple):
     """What holds one result's survival down, yes or no: its lever, its range, its heel, its opening."""
@@ -253,14 +255,25 @@ def R(L):
 
 
 def passenger_R(L, in_lifeboats, in_excess):
-    """Passenger ships, 003 10.2: the required index, with L in centimetres."""
+    """Passenger ships, 003 10.2: the required index by the earlier rule, with L in centimetres."""
     length_and_persons = L + 250 * (in_lifeboats + 2 * in_excess)
     return Fraction(length_and_persons + 1_022_500, length_and_persons + 1_522_500)
 
 
-def marks(L, persons=None):
-    """Height and survival: what A, As, Ap and Al must reach; Passenger ships: with these persons, and nine tenths for each partial."""
+def passenger_R_of_2020(in_lifeboats, in_excess):
+    """The 2020 passenger rule: the required index of N persons on board; ships of 1,351 to 6,000 are refused, and have none here."""
+    N = in_lifeboats + in_excess
+    if N < 400:
+        return Fraction("0.722")
+    if N <= 1_350:
+        return Fraction(N, 7_580) + Fraction("0.66923")
+    return 1 - (Fraction("852.5") + Fraction("0.03875") * N) / (N + 5_000)
+
+
+def marks(L, persons=None, rule=EARLIER_RULE):
+    """Height and survival: what A, As, Ap and Al must reach; Passenger ships: with these persons, and nine tenths for each partial; The 2020 passenger rule:
+    by the rule that the ship is under."""
     if persons is None:
         return (R(L), R(L) / 2, R(L) / 2, R(L) / 2)
-    required = passenger_R(L, *persons)
+    required = passenger_R_of_2020(*persons) if rule == RULE_OF_2020 else passenger_R(L, *persons)
     return (required,) + 3 * (required * Fraction(9, 10),)

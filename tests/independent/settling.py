@@ -88,7 +88,7 @@ def figures_of(case):
     whole = [(part * weight, fourth) for part, parts in zip(OF_A, partials) for weight, fourth in parts]
     hull = case.hull
     of_R = "R/2" if hull.persons is None else "0.9 R"
-    named = zip(("A", "As", "Ap", "Al"), ("R", of_R, of_R, of_R), marks(hull.L, hull.persons), [whole, *partials])
+    named = zip(("A", "As", "Ap", "Al"), ("R", of_R, of_R, of_R), marks(hull.L, hull.persons, hull.rule), [whole, *partials])
     return [Figure(name, mark_name, mark, lambda places, parts=parts: sum_bounds(parts, places))
             for name, mark_name, mark, parts in named]
 

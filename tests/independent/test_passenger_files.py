@@ -19,7 +19,7 @@ class Frames(unittest.TestCase):
         return case
 
     def test_hull_in_digits(self):
-        hull = self.read(file_of(["0607d0019017700fa00190025803" + "01f403e8", "0f0000"])).hull
+        hull = self.read(file_of(["0607d0019017700fa0019002580003" + "01f403e8", "0f0000"])).hull
         self.assertEqual(hull[:4], (2_000, 400, 6_000, 4_000))
         self.assertEqual(hull.persons, (400, 600))
         self.assertEqual([tuple(zone) for zone in hull.zones], [(0, 500), (500, 1_000), (1_000, 2_000)])
@@ -85,12 +85,12 @@ class Refusals(unittest.TestCase):
 
     def test_hull_lengths(self):
         one = passenger_hull_line(9_900, 1_600, 6_000, 4_000, (400, 600), [])
-        self.assertEqual(len(one), 2 * 14)
-        for length in range(1, 18):
+        self.assertEqual(len(one), 2 * 15)
+        for length in range(1, 19):
             line = (one + "0000000000")[:2 * length]
-            self.expect({length: file_of([line, end_line(0)])}, (3, 1) if length < 14 else ACCEPTED if length == 14 else (5, 1))
+            self.expect({length: file_of([line, end_line(0)])}, (3, 1) if length < 15 else ACCEPTED if length == 15 else (5, 1))
         self.expect({"cargo hull as passenger": file_of(["06" + hull_line(9_900, 1_600, 6_000, 4_000, [])[2:], end_line(0)]),
-                     "short, and outside": file_of([passenger_hull_line(1, 1, 1, 1, (20_000, 20_000), [])[:26]])}, (3, 1))
+                     "short, and outside": file_of([passenger_hull_line(1, 1, 1, 1, (20_000, 20_000), [])[:28]])}, (3, 1))
         self.expect({"passenger hull as cargo": file_of(["01" + HULL[2:], end_line(0)])}, (5, 1))
 
     def test_row_lengths(self):
@@ -152,6 +152,6 @@ class Refusals(unittest.TestCase):
             hull = passenger_hull_line(9_900, 1_600, 6_000, 4_000, (400, 600), [100 * i for i in range(1, zones)])
             return whole_file(hull, [passenger_row(1, 1, 800, H, (SAFE,) * 3, (CALM,) * 3) for H in [*range(1, rows), TOP]])
 
-        self.assertEqual([len(ship(*one)) for one in ((5, 428), (6, 428), (1, 429), (20, 427))], [65_536, 65_540, 65_673, 65_443])
-        self.expect({one: ship(*one) for one in ((1, 428), (5, 428), (6, 427), (20, 427))}, ACCEPTED)
-        self.expect({one: ship(*one) for one in ((6, 428), (1, 429), (20, 428), (20, 501))}, (1, 0))
+        self.assertEqual([len(ship(*one)) for one in ((4, 428), (5, 428), (1, 429), (20, 427))], [65_534, 65_538, 65_675, 65_445])
+        self.expect({one: ship(*one) for one in ((1, 428), (4, 428), (5, 427), (20, 427))}, ACCEPTED)
+        self.expect({one: ship(*one) for one in ((5, 428), (1, 429), (20, 428), (20, 501))}, (1, 0))

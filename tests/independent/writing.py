@@ -7,10 +7,10 @@ def hull_line(L, B, ds, dl, bulkheads, m=None):
     return f"01{L:04x}{B:04x}{ds:04x}{dl:04x}{count:02x}" + "".join(f"{place:04x}" for place in bulkheads)
 
 
-def passenger_hull_line(L, B, ds, dl, persons, bulkheads, m=None):
-    """Passenger ships: a hull frame of kind 06, with the persons in lifeboats and those in excess after dl."""
+def passenger_hull_line(L, B, ds, dl, persons, bulkheads, m=None, rule=0):
+    """Passenger ships: a hull frame of kind 06, with the persons in lifeboats and those in excess after dl, and then the mark of the rule."""
     cargo = hull_line(L, B, ds, dl, bulkheads, m)
-    return "06" + cargo[2:18] + "".join(f"{count:04x}" for count in persons) + cargo[18:]
+    return "06" + cargo[2:18] + "".join(f"{count:04x}" for count in persons) + f"{rule:02x}" + cargo[18:]
 
 
 def result_digits(lever, reach, heel, opening):

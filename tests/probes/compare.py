@@ -119,11 +119,11 @@ def rows(dice, count):
 
 def hull_read(kind, ls, breadth, ds, dl, zones, *places):
     """The hull that the independent program reads from a frame of these numbers, or None where it refuses it or no frame has them. A passenger ship has
-    nobody aboard, and whatever is not kind 6 is a cargo ship."""
+    nobody aboard and is under the earlier rule, and whatever is not kind 6 is a cargo ship."""
     if max(ls, breadth, ds, dl, *places) > 65_535 or not 1 <= zones <= 20 or places[0] != 0 or places[zones] != ls:
         return None
     sizes, inner = (b"".join(number.to_bytes(2, "big") for number in part) for part in ((ls, breadth, ds, dl), places[1:zones]))
-    read = hull_of((b"\x06" + sizes + bytes(4) if kind == 6 else b"\x01" + sizes) + bytes([zones]) + inner)
+    read = hull_of((b"\x06" + sizes + bytes(5) if kind == 6 else b"\x01" + sizes) + bytes([zones]) + inner)
     return None if isinstance(read, int) else read
 
 

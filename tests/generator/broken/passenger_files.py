@@ -21,9 +21,9 @@ for kind in (2, 3, 5):
     constant("kind %02x in a passenger file" % kind, passenger_lengths={**Judging.passenger_lengths, kind: Judging.lengths[kind]})
 constant("kind 07 in a cargo file", lengths={**Judging.lengths, 7: 76})
 constant("a passenger file has a cargo file's rows", passenger_lengths=Judging.lengths)
-for length in (12, 13, 16):
+for length in (13, 14, 17):
     constant("a passenger hull from %d bytes" % length, shortest_hulls={1: 10, 6: length})
-constant("a cargo hull from 14 bytes", shortest_hulls={1: 14, 6: 14})
+constant("a cargo hull from 15 bytes", shortest_hulls={1: 15, 6: 15})
 
 
 class Dry(Line):

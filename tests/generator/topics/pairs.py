@@ -7,31 +7,35 @@ from ..frames import Hull, Row, end_line, hull_line, joined, row_line
 from ..judging import without
 from ..shapes import CERTAIN, FOUR, group
 
-ORDER = (1, 10, 2, 3, 4, 5, 6, 7, 8, 9, 11)
+ORDER = (1, 10, 2, 3, 4, 13, 5, 6, 7, 8, 9, 11)
 
 WHOLE = "1 is judged on the whole input before any line"
 LAST = "11 is judged on the sheet after every line"
-FIRST_LINE = "4 and 5 are given for line 1 alone, which is never a row and never an end"
+FIRST_LINE = "4, 13 and 5 are given for line 1 alone, which is never a row and never an end"
 CANNOT_MEET = {frozenset(pair): reason for reason, pairs in {
     WHOLE: [(1, other) for other in ORDER if other not in (1, 11)],
     LAST: [(other, 11) for other in ORDER if other != 11],
-    FIRST_LINE: [(early, late) for early in (4, 5) for late in (6, 7, 8, 9)],
-    "line 1 is never after the end frame: an end frame on line 1 is refused itself": [(10, 4), (10, 5)],
+    FIRST_LINE: [(early, late) for early in (4, 13, 5) for late in (6, 7, 8, 9)],
+    "line 1 is never after the end frame: an end frame on line 1 is refused itself": [(10, 4), (10, 13), (10, 5)],
     "an end frame is accepted with every group closed, so after it nothing is open": [(10, 9)],
 }.items() for pair in pairs}
 
 HALF, TOP = FOUR.half, FOUR.top
 HULL = hull_line(FOUR)
+UNTAKEN = Hull(12000, 2000, 8000, 5000, (), (1000, 351), 1)  # under the rule of 2020, and R of 1,351 persons is not taken yet
 
 
 def row(a, n, b=HALF, h=TOP, figures=CERTAIN):
     return row_line(Row(a, n, b, h, figures))
 
 
-BEFORE = [HULL, row(1, 1), row(2, 1)]
-OPEN_GROUP = [HULL, row(1, 1), row(2, 1, 400)]
-OPEN_LAYER = [HULL, row(1, 1), row(2, 1, 400, 9000)]
-ENDED = BEFORE + [end_line(2)]
+def beginnings(hull, of):
+    """What may stand before the line in question, of the rows that are made so: two closed groups; the second one open, or its first layer; the whole file."""
+    closed = [hull, of(1, 1), of(2, 1)]
+    return closed, [hull, of(1, 1), of(2, 1, 400)], [hull, of(1, 1), of(2, 1, 400, 9000)], closed + [end_line(2)]
+
+
+BEFORE, OPEN_GROUP, OPEN_LAYER, ENDED = beginnings(HULL, row)
 FULL = [HULL] + [row_line(one) for one in group(FOUR, 1, 1, heights=tuple(range(1, 499))) + group(FOUR, 2, 1)]
 FULL_OPEN = FULL[:-1] + [row(2, 1, 400)]
 BAD = (10000, 10001, 10000)
@@ -60,6 +64,7 @@ ALONE = [
     (9, "end", OPEN_GROUP, end_line(2)),
     (10, "row", ENDED, row(3, 1)),
     (10, "end", ENDED, end_line(2)),
+    (13, "persons", [], hull_line(UNTAKEN)),
 ]
 
 TOGETHER = [
@@ -108,12 +113,12 @@ UNCLEAN = [
 
 
 def shorter(line):
-    """One byte less; a hull is cut to nine."""
-    return line[:18] if line[:2] == "01" else line[:-2]
+    """One byte less; a hull is cut before its zone count."""
+    return line[:{"01": 18, "06": 28}.get(line[:2], -2)]
 
 
 def longer(line):
-    return shorter(line) if line[:2] == "01" else line + "00"
+    return shorter(line) if line[:2] in ("01", "06") else line + "00"
 
 
 def other_kind(line):
@@ -151,6 +156,10 @@ def in_one_line():
         hull = FOUR._replace(**change)
         yield one_line(4, 5, "%s-zones" % name, [], hull_line(hull, 0 if name < "d" else 21) + CLOSED)
         yield one_line(4, 5, "%s-bulkheads" % name, [], hull_line(hull._replace(bulkheads=(9000, 5000, 2000))) + CLOSED)
+        yield one_line(4, 13, name, [], hull_line(UNTAKEN._replace(**change)) + CLOSED)
+    for name, line in (("no-zones", hull_line(UNTAKEN, 0)), ("21-zones", hull_line(UNTAKEN._replace(bulkheads=tuple(range(100, 2100, 100))))),
+                       ("length", hull_line(UNTAKEN, 2)), ("bulkheads", hull_line(UNTAKEN._replace(bulkheads=(2000, 2000))))):
+        yield one_line(13, 5, name, [], line + CLOSED)
     for first, second, name, before, line in TOGETHER:
         yield one_line(first, second, name, before, line + CLOSED)
 

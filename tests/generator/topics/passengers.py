@@ -195,10 +195,10 @@ def ro_ro():
         yield one_row("roro-%s" % name, [(result, stage(roro=roro, **of)) for roro in (0, 1, 0)], "a ro-ro mark at dp alone: the %s" % name)
 
 
-def steps(ls, persons, found, at=None):
+def steps(ls, persons, found, at=None, rule=0):
     """A ship of one draught and three heights whose ends were tuned; at one draught alone, or at all of them."""
     first, second, third = found
-    hull = Hull(ls, 2000, 8000, 8000, (), persons)
+    hull = Hull(ls, 2000, 8000, 8000, (), persons, rule)
     rows = []
     for h, s in ((first, third + 2), (second, third + 1), (12500, third)):
         rows.append(Row(1, 1, hull.half, 8000 + h, aboard(*(moved(s) if at in (None, place) else FINE for place in range(3)))))
@@ -282,7 +282,7 @@ def hulls():
 
 def sizes():
     """As many rows as 65,536 bytes hold, and one more; one more zone."""
-    for zones, count, size in ((5, 428, 65536), (20, 427, 65443), (6, 428, 65540), (1, 429, 65673)):
+    for zones, count, size in ((4, 428, 65534), (20, 427, 65445), (5, 428, 65538), (1, 429, 65675)):
         hull = Hull(9000, 1800, 6000, 4500, tuple(400 * i for i in range(1, zones)), (400, 600))
         rows = [one._replace(figures=of_its_own(at)) for at, one in enumerate(group(hull, 1, zones, heights=tuple(range(1, count))))]
         data = case_file(hull, rows)
@@ -293,11 +293,11 @@ def sizes():
 
 def seeded():
     for seed in range(16):
-        hull, rows = seeded_case(Dice(4000 + seed), (8, 24, 40)[seed % 3], zones=(None, 2, 3, None, 5, 7)[seed % 6], passengers=True)
+        hull, rows = seeded_case(Dice(4000 + seed), (8, 24, 40)[seed % 3], zones=(None, 2, 3, None, 5, 7)[seed % 6], passengers=True, rule=0)
         yield accepted("seeded-%02d" % seed, case_file(hull, rows), "seeded: %d zones, %d rows" % (hull.zones, len(rows)))
     for seed in range(16):
         dice = Dice(4100 + seed)
-        data, words = damaged(dice, joined(lines_of(*seeded_case(dice, 8, passengers=True))))
+        data, words = damaged(dice, joined(lines_of(*seeded_case(dice, 8, passengers=True, rule=0))))
         yield Case("damaged-%02d" % seed, data, "seeded damage: %s" % words, Judging().refusal(data))
 
 

@@ -5,7 +5,7 @@ from ..frames import Hull, Row, case_file, end_line, hull_line, joined, row_line
 from ..shapes import ABOARD, AFLOAT, CALM, CERTAIN, FERRY, FOUR, SAFE, every_group, group
 from .following import both
 from .openings import DRAUGHTS
-from .pairs import BEFORE as CARGO_BEFORE, CLOSED, FULL as CARGO_FULL, HULL as CARGO_HULL, OPEN_GROUP as CARGO_OPEN_GROUP, UNCLEAN, one_line
+from .pairs import BEFORE as CARGO_BEFORE, CLOSED, FULL as CARGO_FULL, HULL as CARGO_HULL, OPEN_GROUP as CARGO_OPEN_GROUP, UNCLEAN, beginnings, one_line
 
 HALF, TOP = FERRY.half, FERRY.top
 HULL = hull_line(FERRY)
@@ -17,10 +17,7 @@ def row(a, n, b=HALF, h=TOP, figures=ABOARD):
     return row_line(Row(a, n, b, h, figures))
 
 
-BEFORE = [HULL, row(1, 1), row(2, 1)]
-OPEN_GROUP = [HULL, row(1, 1), row(2, 1, 400)]
-OPEN_LAYER = [HULL, row(1, 1), row(2, 1, 400, 9000)]
-ENDED = BEFORE + [end_line(2)]
+BEFORE, OPEN_GROUP, OPEN_LAYER, ENDED = beginnings(HULL, row)
 
 
 def with_stage(at, name, value):
@@ -62,10 +59,10 @@ def hull_numbers():
 def hull_frames():
     """Refusals 3 and 5: a hull too short for one zone, zone counts, lengths and bulkheads; a frame of the other kind."""
     one, cargo = FERRY._replace(bulkheads=()), FERRY._replace(persons=None)
-    for length in (1, 2, 8, 9, 10, 12, 13):
+    for length in (1, 2, 8, 9, 10, 12, 13, 14):
         yield refused("hull-%d-bytes" % length, joined([hull_line(one)[:2 * length], end_line(0)]), 3, 1, "a passenger hull of %d bytes" % length)
-    yield accepted("hull-14-bytes", joined([hull_line(one), end_line(0)]), "a passenger hull of 14 bytes, the least", verdict=2)
-    for length in (15, 16, 18):
+    yield accepted("hull-15-bytes", joined([hull_line(one), end_line(0)]), "a passenger hull of 15 bytes, the least", verdict=2)
+    for length in (16, 17, 19):
         yield refused("hull-%d-bytes" % length, joined([(hull_line(one) + "00" * 4)[:2 * length], end_line(0)]), 5, 1, "one zone in a passenger hull of %d bytes" % length)
     yield refused("hull-of-cargo-as-06", joined(["06" + hull_line(cargo._replace(bulkheads=()))[2:], end_line(0)]), 3, 1, "a cargo hull of one zone under kind 06")
     yield refused("hull-of-four-zones-as-06", joined(["06" + hull_line(cargo)[2:], end_line(0)]), 4, 1,
@@ -168,12 +165,12 @@ def two_refusals():
     short, crowded, open_end = FERRY._replace(ls=1999), FERRY._replace(persons=(10001, 0)), OPEN_GROUP
     cargo_row = row_line(Row(2, 2, FOUR.half, FOUR.top, ABOARD))
     for first, second, name, before, line in (
-            (3, 4, "hull-of-13-bytes-short-ship", [], hull_line(short)[:26]), (3, 4, "hull-of-13-bytes-crowded", [], hull_line(crowded)[:26]),
-            (3, 5, "hull-of-13-bytes", [], HULL[:26]), (3, 4, "hull-of-12-bytes-narrow", [], hull_line(FERRY._replace(breadth=398))[:24]),
+            (3, 4, "hull-of-14-bytes-short-ship", [], hull_line(short)[:28]), (3, 4, "hull-of-14-bytes-crowded", [], hull_line(crowded)[:28]),
+            (3, 5, "hull-of-14-bytes", [], HULL[:28]), (3, 4, "hull-of-12-bytes-narrow", [], hull_line(FERRY._replace(breadth=398))[:24]),
             (4, 5, "short-ship-no-zones", [], hull_line(short, 0)), (4, 5, "crowded-no-zones", [], hull_line(crowded, 0)),
             (4, 5, "crowded-21-zones", [], hull_line(crowded, 21)), (4, 5, "in-excess-bulkheads", [], hull_line(FERRY._replace(persons=(0, 10001), bulkheads=(2, 1)))),
             (4, 5, "narrow-length", [], hull_line(FERRY._replace(breadth=398), 3)), (4, 5, "cargo-limits-bulkheads", [], hull_line(Hull(7999, 1000, 6000, 4500, (0,)))),
-            (2, 3, "odd-hull-of-13-bytes", [], HULL[:26] + "0"), (2, 4, "odd-crowded", [], hull_line(crowded) + "0"), (2, 5, "odd-zones", [], hull_line(FERRY, 3) + "0"),
+            (2, 3, "odd-hull-of-14-bytes", [], HULL[:28] + "0"), (2, 4, "odd-crowded", [], hull_line(crowded) + "0"), (2, 5, "odd-zones", [], hull_line(FERRY, 3) + "0"),
             (2, 3, "odd-cargo-row", BEFORE, row(3, 1, figures=SAFE) + "0"), (2, 3, "odd-passenger-row-in-a-cargo-file", CARGO_BEFORE, cargo_row + "0"),
             (2, 7, "odd-stage-outside", BEFORE, row(3, 1, figures=OUTSIDE) + "0"), (2, 8, "odd-earlier-group", BEFORE, row(1, 2) + "0"),
             (3, 7, "long-stage-outside", BEFORE, row(3, 1, figures=OUTSIDE) + "00"), (3, 7, "cargo-row-outside", BEFORE, row(5, 1, figures=SAFE)),

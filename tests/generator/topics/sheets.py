@@ -3,9 +3,9 @@
 from ..case import accepted, refused
 from ..frames import Hull, case_file, end_line, joined
 from ..judging import without
-from ..shapes import FOUR, every_group, group
+from ..shapes import ABOARD, FOUR, every_group, group
 from .following import EARLY, rows_in
-from .pairs import HULL, row
+from .pairs import HULL, UNTAKEN, row
 
 
 def cases():
@@ -28,6 +28,7 @@ def cases():
         assert without(number).refusal(data) is None, "with %d let through the sheet does not decide" % number
         yield refused("11-and-%d-%s" % (number, where), data, number, len(lines),
                       "a sheet of no numbers, and %d on line %d" % (number, len(lines)), 0)
+    yield refused("11-and-13-hull", case_file(UNTAKEN, group(UNTAKEN, 1, 1, figures=ABOARD)), 13, 1, "a sheet of no numbers, and 13 on line 1", 0)
     yield refused("11-and-10-no-input", b"", 10, 1, "a sheet of no numbers and no input", 0)
     yield refused("11-and-10-no-end", joined([HULL]), 10, 2, "a sheet of no numbers and no end frame", 0)
     yield refused("11-and-1", b"0" * 65537, 1, 0, "a sheet of no numbers and an input too long", 0)

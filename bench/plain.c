@@ -12,8 +12,8 @@ typedef unsigned _BitInt(192) u192;
 enum { LONGEST = 65536, MOST_ROWS = 500, MOST_ZONES = 20, LONGEST_FRAME = 76, NUMBERS = 27 };
 
 typedef struct { u64 lower, upper; } Ends;
-/* A hull of kind 06 is a passenger ship's. */
-typedef struct { u64 kind, length, breadth, deepest, light, lifeboats, excess, zones, places[MOST_ZONES + 1]; } Hull;
+/* A hull of kind 06 is a passenger ship's, and says which rule it is under: 1 is that of 2020. */
+typedef struct { u64 kind, length, breadth, deepest, light, lifeboats, excess, rule, zones, places[MOST_ZONES + 1]; } Hull;
 /* A given survival stands in the lever's place. */
 typedef struct { u64 lever, range, heel; long opening; } Result;
 /* What a passenger ship's row tells besides: the intermediate stage's lever, range and heel, and whether a ro-ro space is involved. */
@@ -242,6 +242,12 @@ static u64 verdict(const Hull *h, const Ends *figures) {
     u64 L = h->length, n = L > 10000 ? L + 2400 : L * (L + 2400), d = L > 10000 ? L + 15200 : n + 128000000, part = 1, of = 2;
     int meets = 1, fails = 0;
     if (h->kind == 6) n = L + 250 * (h->lifeboats + 2 * h->excess) + 1022500, d = n + 500000, part = 9, of = 10;
+    if (h->rule == 1) {
+        u64 aboard = h->lifeboats + h->excess;
+        if (aboard < 400) n = 722, d = 1000;
+        else if (aboard <= 1350) n = 100000 * aboard + 7580 * 66923, d = 758000000;
+        else n = 100000 * (aboard + 5000) - 85250000 - 3875 * aboard, d = 100000 * (aboard + 5000);
+    }
     for (int k = 0; k < 4; k++) {
         u64 num = k ? part * n : n, den = k ? of * d : d;
         meets &= reaches(figures[k].lower, num, den);
@@ -315,12 +321,13 @@ static u64 decode(const u8 *text, u64 digits, u8 *frame) {
 
 static u64 read_hull(const u8 *f, u64 size, Hull *h) {
     int boats = f[0] == 6;
-    u64 more = boats ? 4 : 0;
+    u64 more = boats ? 5 : 0;
     if ((f[0] != 1 && !boats) || size < 10 + more) return 3;
-    *h = (Hull){f[0], word(f + 1), word(f + 3), word(f + 5), word(f + 7), boats ? word(f + 9) : 0, boats ? word(f + 11) : 0, f[9 + more], {0}};
+    *h = (Hull){f[0], word(f + 1), word(f + 3), word(f + 5), word(f + 7), boats ? word(f + 9) : 0, boats ? word(f + 11) : 0, boats ? f[13] : 0, f[9 + more], {0}};
     if (h->length < (boats ? 2000 : 8000) || h->length > 19800 || h->breadth % 2 || h->breadth < (boats ? 400 : 1000) || h->breadth > 6000) return 4;
     if (h->deepest < 1000 || h->deepest > 30000 || h->light < 500 || h->light > h->deepest || (h->deepest - h->light) % 5) return 4;
-    if (h->lifeboats > 10000 || h->excess > 10000) return 4;
+    if (h->lifeboats > 10000 || h->excess > 10000 || h->rule > 1) return 4;
+    if (h->rule == 1 && h->lifeboats + h->excess > 1350 && h->lifeboats + h->excess <= 6000) return 13;
     if (h->zones < 1 || h->zones > MOST_ZONES || size != 8 + more + 2 * h->zones) return 5;
     for (u64 k = 1; k < h->zones; k++) h->places[k] = word(f + 8 + more + 2 * k);
     h->places[h->zones] = h->length;
@@ -431,7 +438,7 @@ u64 REPORT(const u8 *input, u64 size, u8 *out, u64 room) {
 
 /* The shares of rows by their numbers, a, n, b' and b, in a hull by its numbers, as probe_shares of the proved crates takes them. */
 u64 SHARES(const u64 *hull, u64 numbers, const u64 *rows, u64 fields, u64 *out, u64 room) {
-    Hull h = {hull[0], hull[1], hull[2], hull[3], hull[4], 0, 0, hull[5], {0}};
+    Hull h = {hull[0], hull[1], hull[2], hull[3], hull[4], 0, 0, 0, hull[5], {0}};
     u64 count = fields / 4 < room / 2 ? fields / 4 : room / 2;
     if (numbers != NUMBERS) return 0;
     for (int k = 0; k <= MOST_ZONES; k++) h.places[k] = hull[6 + k];

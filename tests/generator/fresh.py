@@ -1,7 +1,7 @@
 """Seeded damage to case files: bytes, lines, counts, and fields set to a limit or next to it."""
 
 from .frames import case_file, end_line, joined, lines_of
-from .shapes import seeded_case, seeded_persons
+from .seeded import seeded_case, seeded_persons
 
 LIMITS = (0, 1, 2, 3, 5, 20, 21, 255, 256, 499, 500, 501, 999, 1000, 1001, 1002, 5000, 5001, 5998, 6000, 6002, 7999, 8000, 9000, 9001,
           10000, 10001, 12499, 12500, 19800, 19801, 30000, 30001, 32767, 32768, 35535, 35536, 60000, 60001, 65534, 65535)

@@ -81,12 +81,22 @@ class RequiredIndex(unittest.TestCase):
         self.assertEqual(marks(2_500, (1_900, 0)), marks(2_500, (1_900, 0), EARLIER_RULE))
 
     def test_which_is_higher(self):
-        for L, N in product((2_000, 40_000), (0, 399, 400, 1_350, 6_001, 8_112)):
-            for persons in splits(N):
-                self.assertGreater(passenger_R_of_2020(*persons), passenger_R(L, *persons), (L, persons))
-        for L, N in product((2_000, 40_000), (16_305, 20_000)):
-            for persons in ((10_000, N - 10_000), (N - 10_000, 10_000)):
-                self.assertLessEqual(passenger_R_of_2020(*persons), passenger_R(L, *persons), (L, persons))
+        in_some, in_all = set(), set()  # N at which R of 2020 is above the earlier R, which rises with the length and with the excess
+        for N in (*range(1_351), *range(6_001, 20_001)):
+            fewest, most = max(N - 10_000, 0), min(N, 10_000)
+            R = passenger_R_of_2020(most, fewest)
+            in_some |= {N} if R > passenger_R(2_000, most, fewest) else set()
+            in_all |= {N} if R > passenger_R(40_000, fewest, most) else set()
+        self.assertEqual(in_all, {*range(1_351), *range(6_001, 8_113)})
+        self.assertEqual(in_some, {*range(1_351), *range(6_001, 16_305)})
+
+    def test_when_it_is_higher(self):
+        for L, N in product((2_000, 9_900, 19_800, 40_000), range(6_001, 20_001, 101)):
+            least, most = max(N - 10_000, 0), min(N, 10_000)
+            for in_excess in (least, (least + most) // 2, most):
+                persons = N - in_excess, in_excess
+                above = (682_000 + 31 * N) * (L + 250 * (N + in_excess) + 1_522_500) < 400_000_000 * (N + 5_000)
+                self.assertEqual(passenger_R_of_2020(*persons) > passenger_R(L, *persons), above, (L, persons))
 
 
 class Verdicts(unittest.TestCase):

@@ -14,7 +14,7 @@ sys.path.insert(0, str(HERE.parent))
 
 from generator.dice import Dice  # noqa: E402
 from generator.fresh import seeded_file  # noqa: E402
-from generator.shapes import seeded_ferry, seeded_hull, seeded_layers  # noqa: E402
+from generator.seeded import seeded_ferry, seeded_hull, seeded_layers  # noqa: E402
 from independent import Result, Row, judge, reading  # noqa: E402
 from independent.answering import row_survival  # noqa: E402
 from independent.casefile import hull_of, row_is_within  # noqa: E402

@@ -4,7 +4,7 @@ from fractions import Fraction
 from itertools import product
 from math import isqrt
 
-from generator.shapes import final_result
+from generator.seeded import final_result
 from independent import Result, Stage
 from independent.answering import passenger_survival
 from independent.printing import mark_byte

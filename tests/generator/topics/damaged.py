@@ -5,7 +5,8 @@ from ..dice import Dice
 from ..frames import case_file, joined, lines_of, row_line
 from ..fresh import damaged
 from ..judging import Judging
-from ..shapes import CERTAIN, FOUR, group, seeded_case
+from ..seeded import seeded_case
+from ..shapes import CERTAIN, FOUR, group
 
 WHOLE = case_file(FOUR, group(FOUR, 1, 1, (400,), (9000,)) + group(FOUR, 1, 2) + group(FOUR, 2, 1))
 LINES = WHOLE.decode("ascii").split("\n")[:-1]

@@ -3,7 +3,8 @@
 from ..case import accepted
 from ..dice import Dice
 from ..frames import Hull, Row, case_file
-from ..shapes import CERTAIN, FOUR, LOST, NONE, PRINTED, SAFE, dry, every_group, group, groups_of, seeded_case, seeded_rows
+from ..seeded import seeded_case, seeded_rows
+from ..shapes import CERTAIN, FOUR, LOST, NONE, PRINTED, SAFE, dry, every_group, group, groups_of
 
 TWENTY = Hull(19800, 3200, 11000, 6000, tuple(990 * i for i in range(1, 20)))
 UNEVEN = Hull(8000, 1000, 1000, 500, (1, 3, 9, 27, 81, 243, 729, 2187, 6561))

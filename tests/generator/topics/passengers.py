@@ -10,7 +10,8 @@ from ..found import NEAR_MOMENTS, NEAR_PRODUCTS, PASSENGER_MARKS
 from ..frames import Hull, Row, case_file, joined, lines_of
 from ..fresh import damaged
 from ..judging import Judging
-from ..shapes import ABOARD, AFLOAT, CALM, FERRY, PRINTED, SAFE, every_group, group, seeded_case
+from ..seeded import seeded_case
+from ..shapes import ABOARD, AFLOAT, CALM, FERRY, PRINTED, SAFE, every_group, group
 from . import passengers_refused
 from .openings import DRAUGHTS
 from .verdicts import FIGURES, WORDS

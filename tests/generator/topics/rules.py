@@ -10,7 +10,8 @@ from ..found import RULE_MARKS
 from ..frames import Hull, Row, case_file, end_line, hull_line, joined, lines_of, row_line
 from ..fresh import damaged
 from ..judging import Judging
-from ..shapes import ABOARD, FERRY, SAFE, every_group, group, seeded_case
+from ..seeded import seeded_case
+from ..shapes import ABOARD, FERRY, SAFE, every_group, group
 from .following import both
 from .pairs import CLOSED, UNCLEAN, UNTAKEN, one_line
 from .passengers import FINE, LOST, aboard, moved, of_its_own, stage, steps

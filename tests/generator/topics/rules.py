@@ -47,8 +47,8 @@ def told(persons, rule):
 
 def splits(total):
     """So many persons, at most 10,000 of either sort: all in lifeboats, all in excess, one of them in excess or in lifeboats, and about half of each."""
-    both = [(total, 0), (0, total), (total - 1, 1), (1, total - 1), (total // 2, total - total // 2)]
-    return sorted({persons for persons in both if 0 <= min(persons) and max(persons) <= 10000})
+    ways = [(total, 0), (0, total), (total - 1, 1), (1, total - 1), (total // 2, total - total // 2)]
+    return sorted({persons for persons in ways if 0 <= min(persons) and max(persons) <= 10000})
 
 
 def between():

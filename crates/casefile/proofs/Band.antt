@@ -1,7 +1,7 @@
 -- Refusal 13: line 1 gets it exactly of a ship of the rule of 2020 with 1,351 to 6,000 persons, no other line does, and no such ship is read. Assumes nothing.
 use Prim.Native.Nat.{ℕ, zero, suc, _+_, _≤_}
 use mathlib.Core.Path.{_≡_, refl, sym, _∙_}
-use mathlib.Core.Bool.{Bool, true, false, not, true≢false}
+use mathlib.Core.Bool.{Bool, true, false, not}
 use mathlib.Core.List.{List, [], _∷_, Memᴰ·cast}
 use mathlib.Core.Logic.{_⊎_, inl, inr}
 use native.Mathlib.Omega.{arith}
@@ -21,7 +21,7 @@ use Rattle.casefile.specs.Table.{Check, _when_, firstHolds, wrongHullFra
 use Rattle.casefile.specs.Reading.{refused, begin, inside, start, progressed, checks, readFrom, reading}
 use Rattle.casefile.specs.Refusal.{lineAt, after, firstHull, OfTheBand, ThirteenExactly, BandIsNotTaken, numbersOf}
 use Rattle.casefile.proofs.Checks.{first-other}
-use Rattle.casefile.proofs.Limits.{in-the-band, band-unfit}
+use Rattle.casefile.proofs.Limits.{in-the-band, band-unfit, outside-the-band}
 use Rattle.casefile.proofs.Steps.{too-long, not-too-long, line-refused}
 use Rattle.casefile.proofs.Soundness.{sound}
 use Rattle.casefile.proofs.Turns.{noLine, numberFrom, Stops, RunsOut, number-first, number-next, same-refusal, refused-by}
@@ -115,7 +115,4 @@ thirteen-exactly f l = (
 )
 
 pub band-is-not-taken : BandIsNotTaken
-band-is-not-taken f c e r =
-    let fit : personsFit (c .hull) ≡ true = holds (personsFit (c .hull)) (sound f c e .1 .hull .persons) in
-    split (aboard (c .hull)) 1350 (λ low. inl low)
-    (λ from. split (aboard (c .hull)) 6000 (λ to. absurd (true≢false (sym fit ∙ band-unfit (c .hull) r from to))) (λ high. inr high))
+band-is-not-taken f c e r = outside-the-band (c .hull) (holds (personsFit (c .hull)) (sound f c e .1 .hull .persons)) r

@@ -1,9 +1,9 @@
 -- The limits as orders between numbers: what a hull, a row's head and a result that fit are within, and which persons do not fit. Assumes nothing.
 use Prim.Native.Nat.{ℕ, zero, suc, _+_, _-_, _/_, _%_, _≤_, _<_, zero-le}
-use mathlib.Core.Path.{_≡_, refl}
-use mathlib.Core.Bool.{Bool, true, false, cond, _&&_}
+use mathlib.Core.Path.{_≡_, refl, sym, _∙_}
+use mathlib.Core.Bool.{Bool, true, false, cond, _&&_, true≢false}
 use mathlib.Core.List.{List, [], _∷_}
-use mathlib.Core.Logic.{⊎-elim}
+use mathlib.Core.Logic.{_⊎_, inl, inr, ⊎-elim}
 use native.Mathlib.Nat.{le-of-suc-le-suc, le-trans, eq-or-lt-of-le}
 use native.Mathlib.Numerals.{add-one}
 use native.Mathlib.Omega.{arith}
@@ -13,6 +13,7 @@ use lib.Signed.{mag, leZ}
 use lib.ListN.{getD}
 use borrow.Author.Tests.{leb-true, eqb-true, ltb-true, le-leb, eq-eqb, not-false}
 use Rattle.laws.specs.Lists.{Every}
+use Rattle.laws.proofs.Choice.{split}
 use Rattle.laws.proofs.Rising.{places-rise}
 use Rattle.laws.proofs.Tests.{both}
 use Rattle.records.specs.declared.Hull.{Hull}
@@ -99,6 +100,11 @@ in-the-band h e =
 pub band-unfit : (h : Hull) → h .rule ≡ 1 → 1351 ≤ aboard h → aboard h ≤ 6000 → personsFit h ≡ false
 unfolding personsFit between
 band-unfit h r from to = rw (eq-eqb (h .rule) 1 r, le-leb 1351 (aboard h) from, le-leb (aboard h) 6000 to) refl
+
+pub outside-the-band : (h : Hull) → personsFit h ≡ true → h .rule ≡ 1 → (aboard h ≤ 1350) ⊎ (6001 ≤ aboard h)
+outside-the-band h e r =
+    split (aboard h) 1350 (λ low. inl low)
+    (λ from. split (aboard h) 6000 (λ to. absurd (true≢false (sym e ∙ band-unfit h r from to))) (λ high. inr high))
 
 pub record Zones (h : Hull) : Type 0 where
   pub some : 1 ≤ h .zones

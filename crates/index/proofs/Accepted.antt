@@ -22,12 +22,12 @@ use Rattle.verdicts.specs.Required.{Sized, requiredOf, markOf}
 use Rattle.verdicts.specs.Verdict.{verdictOf}
 use Rattle.casefile.specs.declared.Judgement.{Judgement}
 use Rattle.casefile.specs.Record.{Row, Case}
-use Rattle.casefile.specs.Limits.{sizesFit}
+use Rattle.casefile.specs.Limits.{sizesFit, personsFit}
 use Rattle.casefile.specs.Reading.{Reading, refused, accepted, reading}
 use Rattle.casefile.specs.Answer.{judgementOf}
 use Rattle.casefile.specs.Valid.{ValidRow, Valid}
 use Rattle.casefile.specs.Kept.{placeWidth, keptRows, Keeps}
-use Rattle.casefile.proofs.Limits.{Sizes, sizes-are}
+use Rattle.casefile.proofs.Limits.{Sizes, sizes-are, outside-the-band}
 use Rattle.casefile.proofs.Refusal.{zero-accepts}
 use Rattle.casefile.proofs.Soundness.{sound}
 use Rattle.casefile.proofs.Kept.{length-kept}
@@ -61,7 +61,12 @@ module _ (kept : List ℕ) (h : Hull) (rows : ℕ) (valid : Valid (keptCase kept
   sizes = sizes-are h (holds (sizesFit h) (valid .hull .sizes))
 
   pub sized : Sized h
-  sized = record { length = omega (arith, sizes .short); lifeboats = omega (arith, sizes .lifeboats); excess = omega (arith, sizes .excess) }
+  sized = record {
+    length = omega (arith, sizes .short);
+    lifeboats = omega (arith, sizes .lifeboats);
+    excess = omega (arith, sizes .excess);
+    persons = outside-the-band h (holds (personsFit h) (valid .hull .persons));
+  }
 
   -- what is asked before its rows' survivals are told
   pub rows-given : Every (λ (r : Row). Given (r .results)) (keptRows rows kept 0)

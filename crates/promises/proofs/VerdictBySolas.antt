@@ -14,7 +14,7 @@ use Rattle.regulation.specs.RegulationIndex.{Boundary, vm}
 use Rattle.regulation.specs.RegulationSums.{plain}
 use Rattle.regulation.specs.OfSolasSums.{NoneNegative}
 use Rattle.regulation.proofs.RegulationIndices.{required-is-01's, partial-mark-is-01's}
-use Rattle.regulation.proofs.RegulationPassengers.{passenger-required-is-02's, rule-of-2020-is-02's, passenger-mark-is-02's}
+use Rattle.regulation.proofs.RegulationPassengers.{passenger-required-is-02's, letters-of-2020, passenger-mark-is-02's}
 use Rattle.indices.specs.Exact.{RowAt, Each, NoneBelow, Thrice, AtAll, AtEach}
 use Rattle.verdicts.specs.Promises.{attained, atDeepest, atPartial, atLight, ReachAll, OneShort}
 use Rattle.casefile.specs.Record.{Case}
@@ -47,7 +47,7 @@ passengers-same : (c : Case) → passengersIn c ≈ passengerRequired (c .hull)
 unfolding passengerRequired
 passengers-same c =
     let h = c .hull in
-    told (eqb (h .rule) 1) (λ t. rw t (rule-of-2020-is-02's (h .lifeboats + h .excess))) (λ t. rw t (passenger-required-is-02's (h .length) (h .lifeboats) (h .excess)))
+    told (eqb (h .rule) 1) (λ t. rw t (letters-of-2020 (h .lifeboats + h .excess))) (λ t. rw t (passenger-required-is-02's (h .length) (h .lifeboats) (h .excess)))
 
 required-same : (c : Case) → requiredIn c ≈ requiredOf (c .hull)
 unfolding requiredOf

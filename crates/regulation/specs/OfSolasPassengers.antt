@@ -6,7 +6,7 @@ use lib.IntN.{ℤ}
 use Rattle.laws.specs.Fraction.{Fraction, whole, _≈_}
 use Rattle.solas.specs.Survival.{unlessImmersed}
 use Rattle.solas.specs.Passengers.{final⁴, intermediate⁴, sMom, together⁴}
-use Rattle.solas.specs.Index.{persons, passengerR, R2020, passengerMark}
+use Rattle.solas.specs.Index.{persons, passengerR, NoLogarithm, R2020, passengerMark}
 use Rattle.solas.specs.Rules.{Compared}
 use Rattle.regulation.specs.RegulationIndex.{millimetres, centimetres, hundredths, Opening, Numbers, fourth, Order}
 use Rattle.regulation.specs.RegulationPassengers as regulation
@@ -21,7 +21,7 @@ abbrev pub PassengerMarkIs02's : Type 0
 PassengerMarkIs02's = (r r′ : Fraction) → r ≈ r′ → regulation.partialMark r ≈ passengerMark r′
 
 abbrev pub RuleOf2020Is02's : Type 0
-RuleOf2020Is02's = (n : ℕ) → regulation.R2020 n ≈ R2020 n
+RuleOf2020Is02's = (n : ℕ) → NoLogarithm n → regulation.R2020 n ≈ R2020 n
 
 -- ---- and the two rules beside each other, in their own letters
 abbrev pub RulesComparedInLetters : Type 0

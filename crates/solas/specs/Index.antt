@@ -1,8 +1,9 @@
 -- Document 01, "Height and survival": the middle draught, the weights of the three draughts, R and the partial mark; and R and the mark of document 02's
 -- passenger ships. Assumes nothing.
-use Prim.Native.Nat.{ℕ, _+_, _-_, _*_, _/_}
+use Prim.Native.Nat.{ℕ, _+_, _-_, _*_, _/_, _≤_}
 use mathlib.Core.Bool.{cond}
 use mathlib.Core.List.{List, [], _∷_}
+use mathlib.Core.Logic.{_⊎_}
 use lib.Dec.{leb, ltb}
 use Rattle.laws.specs.Fraction.{Fraction, _over_, whole, _⊹_, _⊛_}
 use Rattle.solas.specs.Span.{half}
@@ -35,7 +36,11 @@ persons n1 n2 = n1 + 2 * n2
 unfoldable pub passengerR : ℕ → ℕ → Fraction
 passengerR L n = (L + 250 * n + 1022500) over (L + 250 * n + 1522500)
 
--- by the rule of 2020, of n persons, each counted once: document 02, ticket 7; of 1,351 to 6,000, where the rule has a logarithm, no ship is taken
+-- the persons of whom the rule of 2020 has no logarithm: "The band between has a logarithm and is not taken yet"
+abbrev pub NoLogarithm : ℕ → Type 0
+NoLogarithm n = (n ≤ 1350) ⊎ (6001 ≤ n)
+
+-- its R, of n persons, each counted once: document 02, ticket 7; of others it says nothing
 unfoldable pub R2020 : ℕ → Fraction
 R2020 n = cond (ltb n 400) (722 over 1000) (cond (leb n 1350) ((5000 * n + 25363817) over 37900000) ((769 * n + 3318000) over (800 * (n + 5000))))
 

@@ -28,11 +28,11 @@ abbrev Is : Fraction → ℕ → ℕ → Type 0
 Is f n d = ratioOf f .num * d ≡ ratioOf f .den * n
 
 pub passengers : Is (requiredOf (ship 2500 1500 200 0)) 3 4 × Is (markOf (ship 2500 1500 200 0)) 27 40
-unfolding requiredOf markOf passengerRequired persons passengerR passengerMark ratioOf _⊛_ _less_over_
+unfolding requiredOf markOf passengerRequired R persons passengerR passengerMark ratioOf _⊛_ _less_over_
 passengers = (refl, refl)
 
 pub passengers-of-2020 : Is (requiredOf (ship 2500 200 100 1)) 361 500 × Is (markOf (ship 2500 200 100 1)) 3249 5000 × Is (requiredOf (ship 2500 5000 4000 1)) 10239 11200
-unfolding requiredOf markOf passengerRequired R2020 passengerMark ratioOf _⊛_ _less_over_
+unfolding requiredOf markOf passengerRequired R persons passengerR R2020 passengerMark ratioOf _⊛_ _less_over_
 passengers-of-2020 = (refl, refl, refl)
 
 -- ---- the printed file, whose A and partial indices have the same ends

@@ -10,7 +10,7 @@ use borrow.Author.Tests.{leb-true, leb-false}
 use Rattle.laws.specs.Fraction.{Fraction, whole, Is, _≼_, _≺_}
 use Rattle.laws.specs.Rounding.{ceil}
 use Rattle.laws.proofs.Fraction.{is-over, ≈-sym, ≼-of-≈, ≼-trans, below-across, strictly-below-across}
-use Rattle.laws.proofs.FractionCompare.{≼-of-≺, across-below, across-strictly-below, below-then-strictly}
+use Rattle.laws.proofs.FractionCompare.{≼-of-≺, across-below, across-strictly-below, below-then-strictly, strictly-then-below}
 use Rattle.numbers.specs.Figures.{billionths}
 use Rattle.records.specs.declared.Ends.{Ends}
 use Rattle.records.specs.declared.Hull.{Hull}
@@ -116,6 +116,29 @@ fails-is-right rs h required mark p q e = fixed (verdict-by-ends (attainedOf (pa
     fixed (atDeepest f) = atDeepest (λ xs k. below-then-strictly (no-more-than-upper (rs .deepest) (h .0) xs k) f)
     fixed (atPartial f) = atPartial (λ xs k. below-then-strictly (no-more-than-upper (rs .partial) (h .1) xs k) f)
     fixed (atLight f) = atLight (λ xs k. below-then-strictly (no-more-than-upper (rs .light) (h .2) xs k) f)
+
+-- ---- of two R and two marks, where neither of the first is above: who meets the second meets the first, and who fails the first fails the second
+module _ (index : Ends) (ps : Trio) {required mark required′ mark′ : Fraction} (p : whole 0 ≼ required) (q : whole 0 ≼ mark) (up : required ≼ required′) (mark-up : mark ≼ mark′) where
+  abbrev lower : ByEnds index ps required mark (verdictOf index ps (ratioOf required) (ratioOf mark))
+  lower = verdict-by-ends index ps required mark p q
+
+  abbrev higher : ByEnds index ps required′ mark′ (verdictOf index ps (ratioOf required′) (ratioOf mark′))
+  higher = verdict-by-ends index ps required′ mark′ (≼-trans p up) (≼-trans q mark-up)
+
+  meets-lower : Meets index ps required′ mark′ → Meets index ps required mark
+  meets-lower m = record { attained = ≼-trans up (m .attained); atDeepest = ≼-trans mark-up (m .atDeepest); atPartial = ≼-trans mark-up (m .atPartial); atLight = ≼-trans mark-up (m .atLight) }
+
+  fails-higher : Fails index ps required mark → Fails index ps required′ mark′
+  fails-higher (attained f) = attained (strictly-then-below f up)
+  fails-higher (atDeepest f) = atDeepest (strictly-then-below f mark-up)
+  fails-higher (atPartial f) = atPartial (strictly-then-below f mark-up)
+  fails-higher (atLight f) = atLight (strictly-then-below f mark-up)
+
+  pub met-by-less : verdictOf index ps (ratioOf required′) (ratioOf mark′) ≡ 1 → verdictOf index ps (ratioOf required) (ratioOf mark) ≡ 1
+  met-by-less e = lower .one .1 (meets-lower (higher .one .0 e))
+
+  pub failed-by-more : verdictOf index ps (ratioOf required) (ratioOf mark) ≡ 2 → verdictOf index ps (ratioOf required′) (ratioOf mark′) ≡ 2
+  failed-by-more e = let (n, f) = lower .two .0 e in higher .two .1 (λ m. n (meets-lower m), fails-higher f)
 
 -- ---- with no rows every ship fails
 nothing-fails : {required mark : Fraction} → whole 0 ≺ required → whole 0 ≼ mark → verdictOf (attainedOf (partials [])) (partials []) (ratioOf required) (ratioOf mark) ≡ 2

@@ -5,7 +5,7 @@ use records::Ratio;
 use records::Trio;
 ghost use mathlib.Core.Path.{_≡_};
 ghost use Prim.Native.Nat.{_^_, _≤_};
-ghost use Rattle.solas.specs.Index.{R, passengerR, R2020};
+ghost use Rattle.solas.specs.Index.{R, passengerR, NoLogarithm, R2020};
 ghost use Rattle.numbers.specs.Ratio.{Proper, ratioOf};
 ghost use Rattle.verdicts.specs.Required.{Sized, requiredOf, markOf};
 ghost use Rattle.verdicts.specs.Verdict.{reaches, allReach, verdictOf};
@@ -42,9 +42,9 @@ fn passenger_required(length: u64, persons: u64) -> Ratio
     }
 }
 
-// R of a passenger ship with so many persons, by the rule of 2020.
+// R of a passenger ship with so many persons, by the rule of 2020, where that has no logarithm.
 fn required_of_2020(persons: u64) -> Ratio
-    requires { ⌜ persons ≤ 10 ^ 6 ⌝ }
+    requires { ⌜ (persons ≤ 10 ^ 6) × NoLogarithm persons ⌝ }
     ensures { λ r. ⌜ r ≡ ratioOf (R2020 persons) ⌝ }
 {
     if persons < 400 {

@@ -1,6 +1,7 @@
 -- `verdicts::required_of` meets its contract: R of a cargo ship, or of a passenger ship by its rule. Assumes nothing.
 use borrow.Author.Needs.{needs}
 use mathlib.Core.Path.{ap, sym, _∙_}
+use native.Mathlib.Omega.{arith}
 use Rattle.numbers.specs.Ratio.{ratioOf}
 use Rattle.verdicts.proofs.ByHull.{required-of-2020, earlier-required-of, cargo-required-of}
 use Rattle.verdicts.proofs.required_of.Statement.{statement}
@@ -16,7 +17,7 @@ add-required-of-2020 : tie.Need-add-required-of-2020
 add-required-of-2020 c = search needs
 
 required-of-2020-requires : tie.Need-required-of-2020-requires
-required-of-2020-requires c κs = search needs
+required-of-2020-requires c κs = let r = c .before in let s = r .before .before .before .before in (omega (arith, s .pre .lifeboats, s .pre .excess), s .pre .persons (r .if2 .taken))
 
 returns-2 : tie.Need-returns-2
 returns-2 c =

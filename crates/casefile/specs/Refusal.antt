@@ -103,7 +103,7 @@ oldHullBytes h = h .kind ∷ words (h .length ∷ h .breadth ∷ h .deepest ∷ 
 abbrev pub oldHullNumber : ℕ → ℕ
 oldHullNumber zones = cond (eqb zones 1) 3 4
 
--- whatever the ship is, for what was read then is a valid hull of the earlier rule; and whatever comes after line 1
+-- each that was accepted then is that of a valid hull of the earlier rule; whatever comes after line 1
 abbrev pub OldHullsRefused : Type 0
 OldHullsRefused = (h : Hull) (rest : List ℕ) → ValidHull h → h .kind ≡ 6 →
     let f = lineOf (oldHullBytes h) ++ rest in length f ≤ longestInput → reading f ≡ refused (oldHullNumber (h .zones)) 1

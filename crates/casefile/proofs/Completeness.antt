@@ -36,10 +36,10 @@ use Rattle.casefile.proofs.Chain.{OrderedFrom, from-start}
 
 -- ---- the line of some bytes
 
-abbrev closedLine : List ℕ → Line
+abbrev pub closedLine : List ℕ → Line
 closedLine bs = record { text = hex bs; closed = true }
 
-written-well : (bs : List ℕ) → Octets bs → 0 < length bs → badlyWritten (closedLine bs) ≡ false
+pub written-well : (bs : List ℕ) → Octets bs → 0 < length bs → badlyWritten (closedLine bs) ≡ false
 unfolding badlyWritten
 written-well bs o h = rw (proper-hex bs o h) refl
 

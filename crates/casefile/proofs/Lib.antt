@@ -23,6 +23,7 @@ pub mod EndFrames
 pub mod Refusal
 pub mod TableOrder
 pub mod Band
+pub mod OldHulls
 pub mod Kept
 pub mod Longest
 pub mod Groups

@@ -13,6 +13,7 @@ use Rattle.casefile.specs.Kept.{keptRow}
 use Rattle.casefile.specs.Reading.{Reading, refused, accepted, begin, reading}
 use Rattle.casefile.specs.Answer.{firstJudged, frameOf, judged}
 use Rattle.casefile.specs.Acceptance.{valuesFrom}
+use Rattle.casefile.specs.Refusal.{oldHullBytes, oldHullNumber}
 use Rattle.casefile.specs.Encode.{encode}
 use Rattle.casefile.proofs.LimitExamples.{found, survival, row, flooded}
 use Rattle.casefile.proofs.Examples.{hullLine, secondSetRow, endOfOne, case, read}
@@ -92,7 +93,10 @@ ferry-too-short : reading (lineOf (take 14 (hullBytes ferry))) ≡ refused 3 1
 unfolding read
 ferry-too-short = refl
 
-ferry-of-one-zone : reading (lineOf (take 14 (hullBytes ferry) ++ 1 ∷ []) ++ 48 ∷ 102 ∷ 48 ∷ 48 ∷ 48 ∷ 48 ∷ 10 ∷ []) ≡ accepted (case (record { kind = 6; length = 2000; breadth = 400; deepest = 1000; light = 500; lifeboats = 100; excess = 3; rule = 1; zones = 1; places = 0 ∷ 2000 ∷ replicate 19 0 }) [])
+abbrev undivided : Hull
+undivided = record { kind = 6; length = 2000; breadth = 400; deepest = 1000; light = 500; lifeboats = 100; excess = 3; rule = 1; zones = 1; places = 0 ∷ 2000 ∷ replicate 19 0 }
+
+ferry-of-one-zone : reading (lineOf (take 14 (hullBytes ferry) ++ 1 ∷ []) ++ 48 ∷ 102 ∷ 48 ∷ 48 ∷ 48 ∷ 48 ∷ 10 ∷ []) ≡ accepted (case undivided [])
 unfolding read
 ferry-of-one-zone = refl
 
@@ -108,6 +112,19 @@ no-rule-in-one-zone = refl
 no-rule-in-two-zones : reading (lineOf (take 13 (hullBytes ferry) ++ 2 ∷ 2 ∷ 88 ∷ [])) ≡ refused 4 1
 unfolding read
 no-rule-in-two-zones = refl
+
+-- they are the old hulls of these two ships, with the numbers that are promised of all such hulls
+old-ferries : (oldHullBytes undivided ≡ take 13 (hullBytes ferry) ++ 1 ∷ []) × (oldHullBytes ferry ≡ take 13 (hullBytes ferry) ++ 2 ∷ 2 ∷ 88 ∷ [])
+unfolding read oldHullBytes
+old-ferries = (refl, refl)
+
+old-of-one-zone : reading (lineOf (oldHullBytes undivided)) ≡ refused (oldHullNumber 1) 1
+unfolding read oldHullBytes
+old-of-one-zone = refl
+
+old-of-two-zones : reading (lineOf (oldHullBytes ferry)) ≡ refused (oldHullNumber 2) 1
+unfolding read oldHullBytes
+old-of-two-zones = refl
 
 -- the row without what it adds, and a byte short of it
 ferry-row-short : reading (ferryLine ++ lineOf (take 31 (rowBytes ferryResults)) ++ endOfOne) ≡ refused 3 2

@@ -1,19 +1,21 @@
 -- What is promised of refusals: which number and line a file gets, that it gets one answer only, and the order of the table. Assumes nothing.
 use Prim.Native.Nat.{ℕ, _+_, _-_, _≤_, _<_}
 use mathlib.Core.Path.{_≡_}
-use mathlib.Core.Bool.{true, false}
-use mathlib.Core.List.{List, [], _∷_, map, List·Memᴰ}
+use mathlib.Core.Bool.{true, false, cond}
+use mathlib.Core.List.{List, [], _∷_, _++_, map, List·Memᴰ}
 use mathlib.Core.Logic.{_↔_, _⊎_}
+use lib.Dec.{eqb}
 use lib.ListN.{length, getD, take}
 use Rattle.records.specs.declared.Hull.{Hull}
 use Rattle.lines.specs.Lines.{Line, lines}
-use Rattle.hexadecimal.specs.Hex.{pairs, badlyWritten}
+use Rattle.hexadecimal.specs.Hex.{pairs, badlyWritten, lineOf}
 use Rattle.casefile.specs.declared.Progress.{Progress}
 use Rattle.casefile.specs.Record.{Case}
-use Rattle.casefile.specs.Layout.{kindOf, fieldsOf, isRow, isEnd, hullOf}
+use Rattle.casefile.specs.Layout.{kindOf, fieldsOf, isRow, isEnd, hullOf, words, innerOf, personsOf}
 use Rattle.casefile.specs.Limits.{longestInput, sizesFit, aboard}
 use Rattle.casefile.specs.Table.{Check, wrongHullFrame, hullChecks, lineChecks}
 use Rattle.casefile.specs.Reading.{refused, accepted, Stage, begin, next, reading}
+use Rattle.casefile.specs.Valid.{ValidHull}
 use Rattle.casefile.specs.Answer.{numberOf, frameAt}
 
 -- ---- lines by their numbers, from 1 on
@@ -90,6 +92,21 @@ ThirteenExactly = (f : List ℕ) (l : ℕ) → (reading f ≡ refused 13 l) ↔ 
 
 abbrev pub BandIsNotTaken : Type 0
 BandIsNotTaken = (f : List ℕ) (c : Case) → reading f ≡ accepted c → c .hull .rule ≡ 1 → (aboard (c .hull) ≤ 1350) ⊎ (6001 ≤ aboard (c .hull))
+
+-- ---- a passenger ship's hull from before it said its rule
+
+-- its bytes: the zone count stood right after the persons
+unfoldable pub oldHullBytes : Hull → List ℕ
+oldHullBytes h = h .kind ∷ words (h .length ∷ h .breadth ∷ h .deepest ∷ h .light ∷ personsOf h) ++ h .zones ∷ words (innerOf h)
+
+-- of one zone it is too short; of more the zone count is read as the rule
+abbrev pub oldHullNumber : ℕ → ℕ
+oldHullNumber zones = cond (eqb zones 1) 3 4
+
+-- each that was accepted then is that of a valid hull of the earlier rule; whatever comes after line 1
+abbrev pub OldHullsRefused : Type 0
+OldHullsRefused = (h : Hull) (rest : List ℕ) → ValidHull h → h .kind ≡ 6 →
+    let f = lineOf (oldHullBytes h) ++ rest in length f ≤ longestInput → reading f ≡ refused (oldHullNumber (h .zones)) 1
 
 -- ---- one answer
 

@@ -48,6 +48,12 @@ static const char *const draughts[] = {"deepest", "partial", "light"};
 /* How a program ends by verdict. */
 static const int statuses[] = {[DAMINDEX_MEETS] = 0, [DAMINDEX_FAILS] = 2, [DAMINDEX_UNSETTLED] = 3};
 
+/* What a refusal's number means. A later library that fits may have numbers that this program does not know. */
+static const char *refusal_of(uint64_t number) {
+    const char *words = number < sizeof refusals / sizeof *refusals ? refusals[number] : NULL;
+    return words ? words : "a number that this program does not know";
+}
+
 static void tell_index(const char *name, const uint64_t ends[2]) {
     printf("%-2s %10" PRIu64 " to %10" PRIu64 " billionths\n", name, ends[0], ends[1]);
 }
@@ -99,7 +105,7 @@ int main(void) {
 
     uint64_t number = figures[DAMINDEX_NUMBER];
     if (number != 0) {
-        printf("refused, number %" PRIu64 " at line %" PRIu64 ": %s\n", number, figures[DAMINDEX_LINE], refusals[number]);
+        printf("refused, number %" PRIu64 " at line %" PRIu64 ": %s\n", number, figures[DAMINDEX_LINE], refusal_of(number));
         return 4;
     }
     printf("%s\n", verdicts[figures[DAMINDEX_VERDICT]]);

@@ -41,6 +41,7 @@ REFUSALS = {
     11: "the sheet is too short",
     13: "under its rule a ship of so many persons is not judged yet",
 }
+NOT_KNOWN = "a number that this program does not know"  # a later library that fits may have more of them
 
 STATUSES = {1: 0, 2: 2, 3: 3}
 CANNOT, REFUSED = 1, 4
@@ -110,7 +111,7 @@ def tell(told, shares, rows, of_passengers):
     """The answer in words, and the status that the program ends with."""
     number, line, verdict, _, *ends = told
     if number:
-        print("refused, number %d at line %d: %s" % (number, line, REFUSALS[number]))
+        print("refused, number %d at line %d: %s" % (number, line, REFUSALS.get(number, NOT_KNOWN)))
         return REFUSED
     print(VERDICTS[verdict])
     for name, lower, upper in zip(("A", "As", "Ap", "Al"), ends[::2], ends[1::2]):

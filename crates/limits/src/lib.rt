@@ -1,4 +1,4 @@
-// Document 01's limits on records, and document 02's of an opening and of passenger ships: of a hull (refusals 4 and 5) and of a row (refusal 7).
+// Document 01's limits on records, and document 02's of an opening and of passenger ships: of a hull (refusals 4, 13 and 5) and of a row (refusal 7).
 ghost use mathlib.Core.Path.{_≡_};
 ghost use mathlib.Core.Bool.{_&&_};
 ghost use Prim.Native.Nat.{_+_, _-_, _%_, _≤_};

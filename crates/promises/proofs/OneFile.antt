@@ -5,6 +5,7 @@ use mathlib.Core.List.{[], _∷_}
 use lib.IntN.{ℤ, pos}
 use Rattle.laws.specs.Fraction.{_less_over_, _≼?_, lesser, _⊹_, _⊛_}
 use Rattle.records.specs.declared.Finding.{Finding}
+use Rattle.records.specs.declared.Flooding.{Flooding}
 use Rattle.records.specs.Results.{found as alone}
 use Rattle.laws.specs.Rounding.{ceil}
 use Rattle.laws.specs.Lists.{tabulate}
@@ -17,7 +18,7 @@ use Rattle.solas.specs.Count.{added, taken}
 use Rattle.solas.specs.Height.{v, vAt, rowV}
 use Rattle.solas.specs.Survival.{k, s⁴, unlessImmersed}
 use Rattle.solas.specs.Passengers.{kOfPassengers, final⁴, intermediate⁴, sMom, together⁴}
-use Rattle.solas.specs.Index.{dp, R, partialMark, persons, passengerR, passengerMark}
+use Rattle.solas.specs.Index.{dp, R, partialMark, persons, passengerR, R2020, passengerMark}
 use Rattle.spans.specs.Rounded as rounded
 use Rattle.spans.specs.Span.{pEnds, PEnds}
 use Rattle.layers.specs.Layer.{G1Ends, G3Ends}
@@ -47,7 +48,7 @@ use Rattle.rows.specs.Standing.{stands}
 use Rattle.rows.specs.Work.{shareAt, addsAt, addsFrom, linesFrom}
 use Rattle.answers.specs.Answer.{partialsOf, figures, answer, answered}
 use Rattle.answers.specs.Report.{linesIn, report}
-use Rattle.promises.specs.OneFile.{printedCase, text, OneFileIsRead, OneFileInFull, twoSets, textOfTwoSets, TwoSetsInFull, passengerFile, textOfPassengers, PassengersInFull}
+use Rattle.promises.specs.OneFile.{printedCase, text, OneFileIsRead, OneFileInFull, twoSets, textOfTwoSets, TwoSetsInFull, passengerFile, textOfPassengers, PassengersInFull, underRule, textUnder, RulesInFull}
 
 pub file-read : OneFileIsRead
 unfolding reading readFrom lines firstHolds hullChecks rowChecks endChecks lineChecks wrongHullFrame wrongFrame wrongZones between sizesFit personsFit risingTo zonesFit headFits openingFits findingFits findingsFit floodingsFit resultsFit rowFits
@@ -140,3 +141,35 @@ passengers-printed = refl
 
 pub passengers-in-full : PassengersInFull
 passengers-in-full = ap report passengers-read ∙ passengers-printed
+
+-- ---- one ship under both rules
+
+abbrev caseUnder : ℕ → Case
+caseUnder rule =
+    record {
+      hull = record { kind = 6; length = 2400; breadth = 600; deepest = 1500; light = 1000; lifeboats = 90; excess = 30; rule = rule; zones = 1; places = 0 ∷ 2400 ∷ 0 ∷ 0 ∷ 0 ∷ 0 ∷ 0 ∷ 0 ∷ 0 ∷ 0 ∷ 0 ∷ 0 ∷ 0 ∷ 0 ∷ 0 ∷ 0 ∷ 0 ∷ 0 ∷ 0 ∷ 0 ∷ 0 ∷ [] };
+      rows =
+          record {
+            head = record { kind = 7; first = 1; count = 1; depth = 300; height = 14000 };
+            results =
+                let r = found 60 768 0 (pos 0) in
+                let w : Flooding = record { displacement = 300; moment = 6; lever = 50; range = 700; heel = 0; roro = 0 } in
+                record { findings = r ∷ r ∷ r ∷ []; floodings = w ∷ w ∷ w ∷ [] };
+          }
+          ∷ [];
+    }
+
+rules-read : (reading (underRule "0001") ≡ accepted (caseUnder 0)) × (reading (underRule "0101") ≡ accepted (caseUnder 1))
+unfolding reading readFrom lines firstHolds hullChecks rowChecks endChecks lineChecks wrongHullFrame wrongFrame wrongZones between sizesFit personsFit risingTo zonesFit headFits openingFits findingFits findingsFit floodingFits floodingsFit resultsFit rowFits
+    atTop closesGroup sameGroup sameLayer earlierGroup outOfOrder leavesOpen endsOpen takes frameLength placeOf hullOf headOf findingOf setOf floodingOf floodingsOf resultsOf digitOf pairOf pairs digitsOnly proper badlyWritten wordAt longAt signed tabulate
+rules-read = (refl, refl)
+
+rules-printed : (report (accepted (caseUnder 0)) ≡ textUnder "8101") × (report (accepted (caseUnder 1)) ≡ textUnder "8102")
+unfolding report answered answer figures partialsOf linesIn linesFrom addsFrom addsAt shareAt stands sameGroup sameLayer
+    rowEnds rowOf lowest highest sumsOf withinEnds added taken QEnds mixed c d PEnds GEnds pEnds partEnds G1Ends G3Ends minus plus rounded.endsOf billionthsOf portionOf halvesOf ceil touch P p G1 G3 _⊹_ _⊛_ _≼?_ _less_over_
+    rowVs rowV vAt v dp survivalsOf survivalAt passengerSurvival passengerMarks unlessImmersed together⁴ intermediate⁴ final⁴ sMom kOfPassengers lesser ratioOf scaledOf roundedOf rootDown rootUp withDigits addsOf rowAdds partials attainedOf requiredOf markOf passengerRequired persons passengerR R2020 passengerMark reaches allReach verdictOf
+    printed lineOf figuresFrame refusalFrame rowFrame rowLines markByte marksAt marksField endsField partialField partialsField bytes digit hex
+rules-printed = (refl, refl)
+
+pub rules-in-full : RulesInFull
+rules-in-full = (ap report (rules-read .0) ∙ rules-printed .0, ap report (rules-read .1) ∙ rules-printed .1)

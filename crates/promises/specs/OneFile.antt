@@ -87,3 +87,17 @@ textOfPassengers = line "810229b1d40029b30c8018f4dae018f66180347542a03476c94035a
 
 abbrev pub PassengersInFull : Type 0
 PassengersInFull = report (reading passengerFile) ≡ textOfPassengers
+
+-- ---- one ship under both rules: 24 m long, 6 m broad, 90 persons with a place in a lifeboat and 30 without, one zone, with survivals of seven tenths. The files differ in the
+-- rule's two digits, the answers in the verdict's: seven tenths are above R of the earlier rule and below 0.722
+abbrev pub underRule : String → List ℕ
+underRule rule =
+    lineWith "060960025805dc03e8005a001e" rule
+    ++ line "070101012c36b0003c030000000000003c030000000000003c0300000000000000012c00000006003202bc0000000000012c00000006003202bc0000000000012c00000006003202bc000000"
+    ++ line "0f0001"
+
+abbrev pub textUnder : String → List ℕ
+textUnder verdict = lineWith verdict "29b7a06029b9270029b7a06029b9270029b7a06029b9270029b7a06029b92700" ++ lineWith "823b9aca003b9aca00" "030303"
+
+abbrev pub RulesInFull : Type 0
+RulesInFull = (report (reading (underRule "0001")) ≡ textUnder "8101") × (report (reading (underRule "0101")) ≡ textUnder "8102")

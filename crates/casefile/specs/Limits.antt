@@ -32,8 +32,7 @@ shortestShip kind = cond (eqb kind 6) 2000 8000
 abbrev pub narrowestShip : ℕ → ℕ
 narrowestShip kind = cond (eqb kind 6) 400 1000
 
--- Ls to 19,800; B even, to 6,000; ds 1,000 to 30,000; dl 500 to ds with ds - dl a multiple of 5; persons "at most 10,000 each"; the rule's mark 0
--- or 1
+-- Ls to 19,800; B even, to 6,000; ds 1,000 to 30,000; dl 500 to ds with ds - dl a multiple of 5; persons "at most 10,000 each"; the rule "0 earlier, 1 2020"
 unfoldable pub sizesFit : Hull → Bool
 sizesFit h =
     between (shortestShip (h .kind)) 19800 (h .length)

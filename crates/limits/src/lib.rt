@@ -56,7 +56,7 @@ pub fn sizes_fit(h: Hull) -> bool
         & ((h.lifeboats <= 10000) & (h.excess <= 10000) & (h.rule <= 1))
 }
 
-// Refusal 13 is given where this does not hold.
+// Refusal 13 is given where this does not hold. Each count is held against 6,000 first, so that the sum cannot wrap.
 pub fn persons_fit(h: Hull) -> bool
     ensures { λ r. ⌜ r ≡ personsFit h ⌝ }
 {

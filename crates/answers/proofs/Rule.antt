@@ -1,13 +1,11 @@
 -- A passenger ship's rule decides its verdict alone, for nothing else that is worked out asks for it; and the rule whose R is not above asks for no more. Assumes nothing.
 use Prim.Native.Nat.{ℕ}
-use mathlib.Core.Path.{_≡_, refl, ap, ap₂}
+use mathlib.Core.Path.{_≡_, refl, ap}
 use mathlib.Core.List.{List, [], _∷_}
 use lib.Dec.{lit<}
 use borrow.Author.Tests.{eq-eqb}
-use Rattle.laws.specs.Fraction.{_over_, whole, _≼_}
-use Rattle.laws.proofs.Fraction.{≼-of-≈, ≼-trans}
-use Rattle.laws.proofs.FractionCompare.{≼-of-≺, ⊛-rises}
-use Rattle.laws.proofs.FractionRing.{⊛-comm}
+use Rattle.laws.specs.Fraction.{whole, _≼_}
+use Rattle.laws.proofs.FractionCompare.{≼-of-≺, rises-⊛}
 use Rattle.solas.specs.Index.{passengerMark}
 use Rattle.solas.proofs.Rules.{rules-compared}
 use Rattle.verdicts.specs.Required.{passengerRequired, requiredOf, markOf}
@@ -63,7 +61,7 @@ module _ (c : Case) (rule other : ℕ) (k : c .hull .kind ≡ 6) (up : passenger
 
   mark-up : markOf (under rule c .hull) ≼ markOf (under other c .hull)
   unfolding markOf passengerMark
-  mark-up = rw (eq-eqb (c .hull .kind) 6 k) (≼-trans (≼-of-≈ (⊛-comm (9 over 10) _)) (≼-trans (⊛-rises 9 (lit< tt) up) (≼-of-≈ (⊛-comm _ (9 over 10)))))
+  mark-up = rw (eq-eqb (c .hull .kind) 6 k) (rises-⊛ 9 (lit< tt) up)
 
   not-negative : (whole 0 ≼ requiredOf (under rule c .hull)) × (whole 0 ≼ markOf (under rule c .hull))
   not-negative = (required-of-not-negative (under rule c .hull), mark-of-not-negative (under rule c .hull))

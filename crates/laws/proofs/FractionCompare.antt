@@ -51,8 +51,12 @@ pub ⊛-rises : {f g : Fraction} (n : ℕ) {d : ℕ} → 0 < d → f ≼ g → f
         (u * n + v * 0) * (D′ * d) + (u′ * 0 + v′ * n) * (D * d) ≤ (u′ * n + v′ * 0) * (D * d) + (u * 0 + v * n) * (D′ * d)
     crossed u v D u′ v′ D′ h = omega (arith, mul-le-mul-right (n * d) h)
 
+-- the same from the left
+pub rises-⊛ : {f g : Fraction} (n : ℕ) {d : ℕ} → 0 < d → f ≼ g → (n over d) ⊛ f ≼ (n over d) ⊛ g
+rises-⊛ {f} {g} n {d} p l = ≼-trans (≼-of-≈ (⊛-comm (n over d) f)) (≼-trans (⊛-rises n p l) (≼-of-≈ (⊛-comm g (n over d))))
+
 pub times-rises : {f g : Fraction} (k : ℕ) → f ≼ g → whole k ⊛ f ≼ whole k ⊛ g
-times-rises {f} {g} k l = ≼-trans (≼-of-≈ (⊛-comm (whole k) f)) (≼-trans (⊛-rises k (lit< tt) l) (≼-of-≈ (⊛-comm g (whole k))))
+times-rises k l = rises-⊛ k (lit< tt) l
 
 -- whatever way what is not negative is written
 pub ⊛-keeps : {f g x : Fraction} → whole 0 ≼ x → f ≼ g → f ⊛ x ≼ g ⊛ x

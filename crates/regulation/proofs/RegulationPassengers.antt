@@ -115,9 +115,9 @@ unfolding regulation.partialMark passengerMark
 passenger-mark-is-02's r r′ e = ⊛-≈ (≈-refl (9 over 10)) e
 
 -- ---- resolution MSC.421(98)
-pub letters-of-2020 : (n : ℕ) → regulation.R2020 n ≈ R2020 n
+pub rule-of-2020-is-02's : RuleOf2020Is02's
 unfolding regulation.R2020 R2020
-letters-of-2020 n =
+rule-of-2020-is-02's n taken =
     let aboard = variable {ρ = n ∷ []} 0 in
     let some = quotient-by aboard (number 7580 1 tt) 7580 1 tt tt ⊹ᵗ number 66923 100000 tt in
     let many = number 1 1 tt ⊝ᵗ quotient (number 8525 10 tt ⊹ᵗ number 3875 100000 tt ⊛ᵗ aboard) (aboard ⊹ᵗ number 5000 1 tt) (X 0 :+ C 5000) (C 1) (omega arith) tt in
@@ -125,9 +125,6 @@ letters-of-2020 n =
     (cond-≈ (leb n 1350) (agree some (polynomial (C 5000 :* X 0 :+ C 25363817) (C 0) (C 37900000) (lit< tt)) tt)
     (agree many (polynomial (C 769 :* X 0 :+ C 3318000) (C 0) (C 800 :* (X 0 :+ C 5000)) (omega arith)) tt))
 
-pub rule-of-2020-is-02's : RuleOf2020Is02's
-rule-of-2020-is-02's n taken = letters-of-2020 n
-
 -- beside the earlier rule
 pub rules-compared-in-letters : RulesComparedInLetters
-rules-compared-in-letters = compared-alike (λ L n1 n2. ≈-sym (passenger-required-is-02's L n1 n2)) (λ n. ≈-sym (letters-of-2020 n)) rules-compared
+rules-compared-in-letters = compared-alike (λ L n1 n2. ≈-sym (passenger-required-is-02's L n1 n2)) (λ n taken. ≈-sym (rule-of-2020-is-02's n taken)) rules-compared

@@ -1,6 +1,6 @@
 -- The rule of 2020 beside the earlier one: where its R is above, and where it is not, by products of whole numbers. Assumes nothing.
 use Prim.Native.Nat.{ℕ, _+_, _-_, _*_, _≤_, _<_}
-use mathlib.Core.Logic.{_↔_}
+use mathlib.Core.Logic.{_↔_, inl, inr}
 use mathlib.Core.Path.{_≡_, ap}
 use native.Mathlib.Nat.{le-dest, mul-le-mul-left}
 use native.Mathlib.Omega.{arith}
@@ -9,7 +9,7 @@ use Rattle.laws.specs.Fraction.{Fraction, _less_over_, _≈_, _≼_, _≺_}
 use Rattle.laws.proofs.Choice.{split}
 use Rattle.laws.proofs.Fraction.{below-across, strictly-below-across, ≈-sym, ≼-of-≈, ≼-trans}
 use Rattle.laws.proofs.FractionCompare.{across-strictly-below, strictly-then-below, below-then-strictly}
-use Rattle.solas.specs.Index.{persons, passengerR, R2020}
+use Rattle.solas.specs.Index.{persons, passengerR, NoLogarithm, R2020}
 use Rattle.solas.specs.Rules.{Within, Compared, RulesCompared}
 use Rattle.solas.proofs.Required.{is-passenger-R, is-R2020-few, is-R2020-some, is-R2020-many}
 -- checked first, so that a definition that gives another number is refused there
@@ -95,22 +95,22 @@ rules-compared = record {
 alike : {f f′ g g′ : Fraction} → f ≈ f′ → g ≈ g′ → f ≺ g → f′ ≺ g′
 alike p q l = below-then-strictly (≼-of-≈ (≈-sym p)) (strictly-then-below l (≼-of-≈ q))
 
-module _ {earlier earlier′ : ℕ → ℕ → ℕ → Fraction} {later later′ : ℕ → Fraction} (e : (L n1 n2 : ℕ) → earlier L n1 n2 ≈ earlier′ L n1 n2) (l : (n : ℕ) → later n ≈ later′ n) where
-  above-too : (L n1 n2 n : ℕ) → earlier L n1 n2 ≺ later n → earlier′ L n1 n2 ≺ later′ n
-  above-too L n1 n2 n = alike (e L n1 n2) (l n)
+module _ {earlier earlier′ : ℕ → ℕ → ℕ → Fraction} {later later′ : ℕ → Fraction} (e : (L n1 n2 : ℕ) → earlier L n1 n2 ≈ earlier′ L n1 n2) (l : (n : ℕ) → NoLogarithm n → later n ≈ later′ n) where
+  above-too : (L n1 n2 n : ℕ) → NoLogarithm n → earlier L n1 n2 ≺ later n → earlier′ L n1 n2 ≺ later′ n
+  above-too L n1 n2 n t = alike (e L n1 n2) (l n t)
 
-  not-above-too : (L n1 n2 n : ℕ) → later n ≼ earlier L n1 n2 → later′ n ≼ earlier′ L n1 n2
-  not-above-too L n1 n2 n h = ≼-trans (≼-of-≈ (≈-sym (l n))) (≼-trans h (≼-of-≈ (e L n1 n2)))
+  not-above-too : (L n1 n2 n : ℕ) → NoLogarithm n → later n ≼ earlier L n1 n2 → later′ n ≼ earlier′ L n1 n2
+  not-above-too L n1 n2 n t h = ≼-trans (≼-of-≈ (≈-sym (l n t))) (≼-trans h (≼-of-≈ (e L n1 n2)))
 
   pub compared-alike : Compared earlier later → Compared earlier′ later′
   compared-alike c = record {
-    few = λ {L} {n1} {n2} w p. above-too L n1 n2 (n1 + n2) (c .few w p);
+    few = λ {L} {n1} {n2} w p. above-too L n1 n2 (n1 + n2) (inl p) (c .few w p);
     beyond = λ L n1 n2 p. (
-      λ h. c .beyond L n1 n2 p .0 (alike (≈-sym (e L n1 n2)) (≈-sym (l (n1 + n2))) h),
-      λ h. above-too L n1 n2 (n1 + n2) (c .beyond L n1 n2 p .1 h),
+      λ h. c .beyond L n1 n2 p .0 (alike (≈-sym (e L n1 n2)) (≈-sym (l (n1 + n2) (inr p))) h),
+      λ h. above-too L n1 n2 (n1 + n2) (inr p) (c .beyond L n1 n2 p .1 h),
     );
-    many = λ {L} {n1} {n2} w p q. above-too L n1 n2 (n1 + n2) (c .many w p q);
-    at-8113 = not-above-too 40000 0 8113 8113 (c .at-8113);
-    most = λ {L} {n1} {n2} w p. not-above-too L n1 n2 (n1 + n2) (c .most w p);
-    at-16304 = above-too 2000 10000 6304 16304 (c .at-16304);
+    many = λ {L} {n1} {n2} w p q. above-too L n1 n2 (n1 + n2) (inr p) (c .many w p q);
+    at-8113 = not-above-too 40000 0 8113 8113 (inr (leb→le _ _ tt)) (c .at-8113);
+    most = λ {L} {n1} {n2} w p. not-above-too L n1 n2 (n1 + n2) (inr (omega (arith, p))) (c .most w p);
+    at-16304 = above-too 2000 10000 6304 16304 (inr (leb→le _ _ tt)) (c .at-16304);
   }

@@ -36,7 +36,7 @@ persons n1 n2 = n1 + 2 * n2
 unfoldable pub passengerR : ℕ → ℕ → Fraction
 passengerR L n = (L + 250 * n + 1022500) over (L + 250 * n + 1522500)
 
--- the persons of whom the rule of 2020 has no logarithm: "The band between has a logarithm and is not taken yet"
+-- so many persons that the rule of 2020 has no logarithm of them
 abbrev pub NoLogarithm : ℕ → Type 0
 NoLogarithm n = (n ≤ 1350) ⊎ (6001 ≤ n)
 

@@ -7,7 +7,7 @@ use Rattle.laws.specs.Fraction.{Fraction}
 use Rattle.records.specs.declared.Hull.{Hull}
 use Rattle.solas.specs.Index.{R, partialMark, persons, passengerR, NoLogarithm, R2020, passengerMark}
 
--- R of a passenger ship by its own rule: for that of 2020 N "is the sum of both person counts"
+-- R of a passenger ship by its own rule
 unfoldable pub passengerRequired : Hull → Fraction
 passengerRequired h =
     cond (eqb (h .rule) 1) (R2020 (h .lifeboats + h .excess)) (passengerR (h .length) (persons (h .lifeboats) (h .excess)))

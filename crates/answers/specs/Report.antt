@@ -1,11 +1,12 @@
--- What any input is told beside its answer: the printed answer, and each row's survivals for a host. Assumes nothing.
+-- What any input is told beside its answer: the printed answer, and for a host each row, R with the mark of a partial index, and each group's share as numbers. Assumes nothing.
 use Prim.Native.Nat.{ℕ}
 use mathlib.Core.List.{List, []}
 use Rattle.casefile.specs.Reading.{Reading, refused, accepted}
 use Rattle.printing.specs.Printed.{RowLine, printed}
 use Rattle.rows.specs.Standing.{nowhere}
 use Rattle.rows.specs.Work.{linesFrom}
-use Rattle.listing.specs.Survivals.{survivalsFrom}
+use Rattle.listing.specs.Rows.{numbersFrom}
+use Rattle.listing.specs.Hull.{requiredNumbers, groupNumbers}
 use Rattle.answers.specs.Answer.{answered}
 
 -- what the lines of an accepted case's rows are printed from
@@ -17,7 +18,17 @@ linesIn (accepted c) = linesFrom (c .hull) nowhere (c .rows)
 unfoldable pub report : Reading → List ℕ
 report r = printed (answered r 1000) (linesIn r)
 
--- the survivals of an accepted case's rows, nine numbers each
-unfoldable pub survivalsIn : Reading → List ℕ
-survivalsIn (refused k l) = []
-survivalsIn (accepted c) = survivalsFrom (c .rows)
+-- an accepted case's rows, twenty numbers each
+unfoldable pub rowsIn : Reading → List ℕ
+rowsIn (refused k l) = []
+rowsIn (accepted c) = numbersFrom (c .hull) nowhere (c .rows)
+
+-- R and the mark of a partial index, numerator and denominator of each
+unfoldable pub requiredIn : Reading → List ℕ
+requiredIn (refused k l) = []
+requiredIn (accepted c) = requiredNumbers (c .hull)
+
+-- the share of each group of its zones, lower end and upper end
+unfoldable pub groupsIn : Reading → List ℕ
+groupsIn (refused k l) = []
+groupsIn (accepted c) = groupNumbers (c .hull)

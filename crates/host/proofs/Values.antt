@@ -7,7 +7,7 @@ pub of-three : numbered 2 3 4 ≡ 20304
 unfolding numbered
 of-three = refl
 
--- this version is 6.0.0
-pub of-this : version ≡ 60000
+-- this version is 7.0.0
+pub of-this : version ≡ 70000
 unfolding version numbered
 of-this = refl

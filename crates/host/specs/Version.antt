@@ -7,4 +7,4 @@ numbered major minor patch = 10000 * major + 100 * minor + patch
 
 -- this version
 unfoldable pub version : ℕ
-version = numbered 6 0 0
+version = numbered 7 0 0

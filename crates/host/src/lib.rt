@@ -1,15 +1,15 @@
-// The service for a host in another language: the printed answer, its twelve figures, or its rows' survivals and marks, on numbers and lent slices
-// alone, and the version.
+// The service for a host in another language: the printed answer, its twelve figures, its rows, R with the mark of a partial index, or the shares of its
+// zone groups, on numbers and lent slices alone, and the version.
 ghost use mathlib.Core.Path.{_≡_};
 ghost use lib.ListN.{length};
 ghost use Rattle.casefile.specs.Reading.{reading};
 ghost use Rattle.printing.specs.Written.{countIn, writtenIn};
-ghost use Rattle.answers.specs.Report.{report, survivalsIn};
+ghost use Rattle.answers.specs.Report.{report, rowsIn, requiredIn, groupsIn};
 ghost use Rattle.host.specs.Figures.{figureCount, figuresAfter, sheetBeside};
 ghost use Rattle.host.specs.Version.{version};
 
 // This version: the one place of it in code. The header, the shared object's name and the pkg-config file are held to it.
-const MAJOR: u32 = 6;
+const MAJOR: u32 = 7;
 
 const MINOR: u32 = 0;
 
@@ -47,11 +47,30 @@ pub extern "C" fn damindex_figures(input: &[u8], sheet: &mut [u64], figures: &mu
     12
 }
 
-// The survivals of the rows of any bytes that are accepted, nine numbers a row in front of those lent: at each draught the bottom, the top and the
-// byte of the marks. How many numbers that is: none, and nothing is written, where the bytes are refused or there is too little room.
+// The rows of any bytes that are accepted, twenty numbers a row in front of those lent: the ends of the share, and at each draught v, the bottom, the top,
+// the byte of the marks and the ends of what the row adds. How many numbers that is: none, and nothing is written, where the bytes are refused or there is
+// too little room.
 #[no_mangle]
 pub extern "C" fn damindex_rows(input: &[u8], rows: &mut [u64]) -> usize
-    ensures { λ r. ⌜ (r ≡ countIn (survivalsIn (reading (now (input .entry)))) (now (rows .entry))) × (now (rows .exit) ≡ writtenIn (survivalsIn (reading (now (input .entry)))) (now (rows .entry))) ⌝ }
+    ensures { λ r. ⌜ (r ≡ countIn (rowsIn (reading (now (input .entry)))) (now (rows .entry))) × (now (rows .exit) ≡ writtenIn (rowsIn (reading (now (input .entry)))) (now (rows .entry))) ⌝ }
 {
-    index::rowwise::survivals(input, rows)
+    index::rowwise::rows(input, rows)
+}
+
+// R and the mark of a partial index of any bytes that are accepted, numerator and denominator of each in front of those lent. How many numbers that is: none,
+// and nothing is written, where the bytes are refused or there is too little room.
+#[no_mangle]
+pub extern "C" fn damindex_required(input: &[u8], numbers: &mut [u64]) -> usize
+    ensures { λ r. ⌜ (r ≡ countIn (requiredIn (reading (now (input .entry)))) (now (numbers .entry))) × (now (numbers .exit) ≡ writtenIn (requiredIn (reading (now (input .entry)))) (now (numbers .entry))) ⌝ }
+{
+    index::hullwise::required(input, numbers)
+}
+
+// The share of each group of zones of any bytes that are accepted, down to half the breadth, lower end and upper end in front of those lent. How many numbers
+// that is: none, and nothing is written, where the bytes are refused or there is too little room.
+#[no_mangle]
+pub extern "C" fn damindex_groups(input: &[u8], numbers: &mut [u64]) -> usize
+    ensures { λ r. ⌜ (r ≡ countIn (groupsIn (reading (now (input .entry)))) (now (numbers .entry))) × (now (numbers .exit) ≡ writtenIn (groupsIn (reading (now (input .entry)))) (now (numbers .entry))) ⌝ }
+{
+    index::hullwise::groups(input, numbers)
 }

@@ -1,1 +1,2 @@
-pub mod Survivals
+pub mod Rows
+pub mod Hull

@@ -1,17 +1,24 @@
-// The survivals of a file's rows, nine numbers a row: at each draught the bottom, the top and the byte of the marks.
+// What a host is told as numbers: twenty for each row of a file; and by its hull R with the mark of a partial index, and each group's share.
 ghost use mathlib.Core.Path.{_≡_};
 ghost use mathlib.Core.List.{[], _∷_, _++_};
-ghost use Prim.Native.Nat.{_+_, _*_, _≤_};
+ghost use Prim.Native.Nat.{_+_, _*_, _^_, _≤_, _<_};
 ghost use lib.ListN.{length, drop};
 ghost use lib.Seq.{sets};
-ghost use Rattle.laws.specs.Lists.{Every};
-ghost use Rattle.indices.specs.Index.{Given};
-ghost use Rattle.casefile.specs.Record.{Row};
+ghost use Rattle.heights.specs.Height.{rowVs};
+ghost use Rattle.indices.specs.Index.{Share, RowWeights};
 ghost use Rattle.casefile.specs.Kept.{placeWidth, keptRows};
-ghost use Rattle.listing.specs.Survivals.{threeNumbers, survivalNumbers, survivalsFrom};
+ghost use Rattle.rows.specs.Standing.{nowhere};
+ghost use Rattle.rows.specs.Running.{Follow, Ready};
+ghost use Rattle.listing.specs.Rows.{sixNumbers, rowNumbers, numbersFrom};
 use printing::mark_byte;
+use records::Ends;
+use records::Hull;
 use records::Survival;
-use rows::survivals::survivals_at;
+use rows::Running;
+use rows::row::begin;
+use rows::row::enter;
+
+pub mod hull; // what the hull alone decides
 
 fn put_three(first: u64, second: u64, third: u64, out: &mut [u64], at: usize)
     requires { ⌜ at + 3 ≤ length (now out) ⌝ }
@@ -22,37 +29,70 @@ fn put_three(first: u64, second: u64, third: u64, out: &mut [u64], at: usize)
     out[at + 2] = third;
 }
 
-// A survival's three numbers.
-fn put_survival(s: Survival, out: &mut [u64], at: usize)
-    requires { ⌜ at + 3 ≤ length (now out) ⌝ }
-    ensures { λ _. ⌜ now (out .exit) ≡ sets (now (out .entry)) at (threeNumbers s) ⌝ }
+// A row's six numbers at one draught.
+fn put_draught(v: u64, s: Survival, adds: Ends, out: &mut [u64], at: usize)
+    requires { ⌜ at + 6 ≤ length (now out) ⌝ }
+    ensures { λ _. ⌜ now (out .exit) ≡ sets (now (out .entry)) at (sixNumbers v s adds) ⌝ }
 {
-    put_three(s.bottom, s.top, mark_byte(s.marks), out, at);
+    put_three(v, s.bottom, s.top, out, at);
+    put_three(mark_byte(s.marks), adds.lower, adds.upper, out, at + 3);
 }
 
-// A row's nine.
-fn put_survivals(ss: [Survival; 3], out: &mut [u64], at: usize)
-    requires { ⌜ at + 9 ≤ length (now out) ⌝ }
-    ensures { λ _. ⌜ now (out .exit) ≡ sets (now (out .entry)) at (survivalNumbers ss) ⌝ }
+// Its twenty, by its share, its v and its survival at each draught.
+fn put_row(share: Ends, vs: [u64; 3], ss: [Survival; 3], out: &mut [u64], at: usize)
+    requires { ⌜ Share share × RowWeights vs ss × (at + 20 ≤ length (now out)) ⌝ }
+    ensures { λ _. ⌜ now (out .exit) ≡ sets (now (out .entry)) at (rowNumbers share vs ss) ⌝ }
 {
-    let deepest = ss[0];
-    let partial = ss[1];
-    let light = ss[2];
-    put_survival(deepest, out, at);
-    put_survival(partial, out, at + 3);
-    put_survival(light, out, at + 6);
+    let adds = sums::row_adds(share, vs, ss);
+    let lower = adds.lower;
+    let upper = adds.upper;
+    let deepest = Ends {
+        lower: lower[0],
+        upper: upper[0],
+    };
+    let partial = Ends {
+        lower: lower[1],
+        upper: upper[1],
+    };
+    let light = Ends {
+        lower: lower[2],
+        upper: upper[2],
+    };
+    let first = ss[0];
+    let second = ss[1];
+    let third = ss[2];
+    out[at] = share.lower;
+    out[at + 1] = share.upper;
+    put_draught(vs[0], first, deepest, out, at + 2);
+    put_draught(vs[1], second, partial, out, at + 8);
+    put_draught(vs[2], third, light, out, at + 14);
 }
 
-// So many rows, as they are kept.
-pub fn list(kept: &[u8], rows: usize, out: &mut [u64])
-    requires { ⌜ (placeWidth * rows ≤ length (now kept)) × (9 * rows ≤ length (now out)) × Every (λ (r : Row). Given (r .results)) (keptRows rows (now kept) 0) ⌝ }
-    ensures { λ _. ⌜ now (out .exit) ≡ survivalsFrom (keptRows rows (now (kept .entry)) 0) ++ drop (9 * rows) (now (out .entry)) ⌝ }
+// Those of the row that was entered last, at these draughts.
+fn put_entered(s: Running, draughts: [u64; 3], out: &mut [u64], at: usize)
+    requires { ⌜ Share (s .part .share) × RowWeights (rowVs (s .standing .below) (s .standing .head .height) draughts) (s .survivals) × (at + 20 ≤ length (now out)) ⌝ }
+    ensures { λ _. ⌜ now (out .exit) ≡ sets (now (out .entry)) at (rowNumbers (s .part .share) (rowVs (s .standing .below) (s .standing .head .height) draughts) (s .survivals)) ⌝ }
 {
+    let standing = s.standing;
+    let head = standing.head;
+    let part = s.part;
+    let share = part.share;
+    let survivals = s.survivals;
+    let vs = heights::row_factors(standing.below, head.height, draughts);
+    put_row(share, vs, survivals, out, at);
+}
+
+// So many rows, as they are kept: twenty numbers each.
+pub fn list(kept: &[u8], rows: usize, h: Hull, t: &[u64], out: &mut [u64])
+    requires { ⌜ Ready h (now t) × ((h .deepest < 2 ^ 32) × (h .light < 2 ^ 32)) × (rows ≤ 500) × (placeWidth * rows ≤ length (now kept)) × (20 * rows ≤ length (now out)) × Follow h nowhere (keptRows rows (now kept) 0) ⌝ }
+    ensures { λ _. ⌜ now (out .exit) ≡ numbersFrom h nowhere (keptRows rows (now (kept .entry)) 0) ++ drop (20 * rows) (now (out .entry)) ⌝ }
+{
+    let draughts = heights::three_draughts(h.deepest, h.light);
+    let mut s = begin();
     let mut i: usize = 0;
     while i < rows {
-        let head = rowlines::kept::head_at(kept, i);
-        let ss = survivals_at(kept, i, head.kind);
-        put_survivals(ss, out, 9 * i);
+        s = enter(t, h, draughts, s, kept, i);
+        put_entered(s, draughts, out, 20 * i);
         i += 1;
     }
 }

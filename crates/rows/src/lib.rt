@@ -6,7 +6,7 @@ use records::Survival;
 use records::Trio;
 
 pub mod lines; // the rows in turn: their lines in a report
-mod row; // a row after those before it
+pub mod row; // a row after those before it
 pub mod sheet; // the rows in turn: their shares on the sheet
 pub mod survivals; // the survivals of a row as it is kept
 

@@ -31,7 +31,7 @@ fn adds(share: Ends, v: u64, s: Survival) -> Ends
 }
 
 // What a row adds at the three draughts, by its share, its v and its survival at each.
-fn row_adds(share: Ends, vs: [u64; 3], ss: [Survival; 3]) -> Trio
+pub fn row_adds(share: Ends, vs: [u64; 3], ss: [Survival; 3]) -> Trio
     requires { ⌜ Share share × RowWeights vs ss ⌝ }
     ensures { λ r. ⌜ r ≡ rowAdds share vs ss ⌝ }
 {

@@ -1,75 +1,62 @@
--- `listing::list` meets its contract: the numbers of the rows done, with those of the rows left, are those of all. Assumes nothing.
-use Prim.Native.Nat.{_-_}
-use mathlib.Core.Path.{ap}
 use borrow.Author.Needs.{needs}
-use native.Mathlib.Omega.{arith}
-use Rattle.records.specs.declared.RowHead.{RowHead}
-use Rattle.indices.specs.Index.{Given}
-use Rattle.casefile.specs.Record.{Row}
-use Rattle.listing.proofs.AsNumbers.{kept-each, AsNumbers, no-number, nine-more, all-numbers}
 use Rattle.listing.proofs.list.Statement.{statement}
 use Rattle.listing.proofs.list.Tie as tie
+use Rattle.listing.proofs.list.Reads as reads
+use Rattle.listing.proofs.list.Lts as lts
+use Rattle.heights.proofs.three_draughts.Reads as three-draughts-reads
+use Rattle.listing.proofs.put_entered.Reads as put-entered-reads
+use Rattle.rows.proofs.row.begin.Reads as begin-reads
+use Rattle.rows.proofs.row.enter.Reads as enter-reads
 
 abbrev Inv-loop : tie.InvT-loop
-Inv-loop kept rows out₀ i₀ out i = AsNumbers kept rows out₀ out i
+Inv-loop kept rows h t out₀ draughts s₀ i₀ out s i = ?
 
 abbrev μ-loop : tie.MeasureT-loop
-μ-loop kept rows out₀ i₀ out i = rows - i
+μ-loop kept rows h t out₀ draughts s₀ i₀ out s i = ?
 
+-- src/lib.rt:90:9
+three-draughts-requires : tie.Need-three-draughts-requires Inv-loop μ-loop
+three-draughts-requires c κs = search needs
+
+-- src/lib.rt:91:9
+begin-requires : tie.Need-begin-requires Inv-loop μ-loop
+begin-requires c κs = search needs
+
+-- src/lib.rt:93:5
 loop-holds : tie.Need-loop-holds Inv-loop μ-loop
-loop-holds c = let r = c .before .before in no-number (r .args .kept .now) (r .args .rows) (r .args .out .now)
+loop-holds c = search needs
 
-head-at-requires : tie.Need-head-at-requires Inv-loop μ-loop
-head-at-requires c κs = omega (arith, c .loop-test .taken, c .before .before .before .before .pre .0)
+-- src/lib.rt:94:9
+enter-requires : tie.Need-enter-requires Inv-loop μ-loop
+enter-requires c κs = search needs
 
-survivals-at-requires : tie.Need-survivals-at-requires Inv-loop μ-loop
-survivals-at-requires c κs =
-    let t = c .before in
-    let r = t .before .before .before .before in (
-      omega (arith, t .loop-test .taken, r .pre .0),
-      ap (λ (h : RowHead). h .kind) (c .head-at .ensures),
-      kept-each (λ (row : Row). Given (row .results)) (r .args .rows) (r .args .kept .now) (r .pre .2) _ (t .loop-test .taken),
-    )
+-- src/lib.rt:95:39
+mul-put-entered : tie.Need-mul-put-entered Inv-loop μ-loop
+mul-put-entered c = search needs
 
-mul-put-survivals : tie.Need-mul-put-survivals Inv-loop μ-loop
-mul-put-survivals c =
-    let t = c .before .before .before in
-    let r = t .before .before .before .before in
-    omega (arith, t .loop-test .taken, r .pre .1, t .before .loop .inv .long)
+-- src/lib.rt:95:9
+put-entered-requires : tie.Need-put-entered-requires Inv-loop μ-loop
+put-entered-requires c κs = search needs
 
-put-survivals-requires : tie.Need-put-survivals-requires Inv-loop μ-loop
-put-survivals-requires c κs =
-    let t = c .before .before .before in
-    let r = t .before .before .before .before in
-    omega (arith, t .loop-test .taken, r .pre .1, t .before .loop .inv .long)
-
+-- src/lib.rt:96:9
 add-i : tie.Need-add-i Inv-loop μ-loop
-add-i c =
-    let t = c .before .before .before .before .before .before in
-    let r = t .before .before .before .before in
-    omega (arith, t .loop-test .taken, r .pre .1, t .before .loop .inv .long)
+add-i c = search needs
 
+-- src/lib.rt:93:5
 loop-less : tie.Need-loop-less Inv-loop μ-loop
-loop-less c = omega (arith, c .before .before .before .before .before .before .loop-test .taken)
+loop-less c = search needs
 
+-- src/lib.rt:93:5
 loop-again : tie.Need-loop-again Inv-loop μ-loop
-loop-again c =
-    let put = c .before .before in
-    let survivals = put .before .before in
-    let t = survivals .before .before in
-    let l = t .before in
-    let r = l .before .before .before in
-    nine-more (r .args .kept .now) (r .args .rows) (r .args .out .now) (l .loop .i) (l .loop .inv) (t .loop-test .taken)
-    (survivals .survivals-at .ensures) (put .put-survivals .ensures)
+loop-again c = search needs
 
+-- src/lib.rt:86:1
 same-length : tie.Need-same-length Inv-loop μ-loop
-same-length c = c .before .loop .inv .long
+same-length c = search needs
 
+-- src/lib.rt:86:1
 returns : tie.Need-returns Inv-loop μ-loop
-returns c =
-    let l = c .before in
-    let r = l .before .before .before in
-    all-numbers (r .args .kept .now) (r .args .rows) (r .args .out .now) (l .loop .i) (l .loop .inv) (c .loop-test .left) (r .pre .1)
+returns c = search needs
 
 pub list-spec : {M : Type 1} → statement M
 list-spec =
@@ -77,11 +64,12 @@ list-spec =
     (tie.spec
     Inv-loop
     μ-loop
+    three-draughts-requires
+    begin-requires
     loop-holds
-    head-at-requires
-    survivals-at-requires
-    mul-put-survivals
-    put-survivals-requires
+    enter-requires
+    mul-put-entered
+    put-entered-requires
     add-i
     loop-less
     loop-again

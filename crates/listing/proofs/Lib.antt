@@ -1,0 +1,3 @@
+pub mod HullValues
+pub mod HullNumbers
+pub mod InGroups

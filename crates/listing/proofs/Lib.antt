@@ -1,3 +1,5 @@
+pub mod Values
+pub mod InNumbers
 pub mod HullValues
 pub mod HullNumbers
 pub mod InGroups

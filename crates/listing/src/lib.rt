@@ -5,11 +5,12 @@ ghost use Prim.Native.Nat.{_+_, _*_, _^_, _≤_, _<_};
 ghost use lib.ListN.{length, drop};
 ghost use lib.Seq.{sets};
 ghost use Rattle.heights.specs.Height.{rowVs};
-ghost use Rattle.indices.specs.Index.{Share, RowWeights};
+ghost use Rattle.indices.specs.Index.{Share, Weights, RowWeights, addsOf};
 ghost use Rattle.casefile.specs.Kept.{placeWidth, keptRows};
 ghost use Rattle.rows.specs.Standing.{nowhere};
 ghost use Rattle.rows.specs.Running.{Follow, Ready};
 ghost use Rattle.listing.specs.Rows.{sixNumbers, rowNumbers, numbersFrom};
+use hull::put_ends;
 use printing::mark_byte;
 use records::Ends;
 use records::Hull;
@@ -29,11 +30,12 @@ fn put_three(first: u64, second: u64, third: u64, out: &mut [u64], at: usize)
     out[at + 2] = third;
 }
 
-// A row's six numbers at one draught.
-fn put_draught(v: u64, s: Survival, adds: Ends, out: &mut [u64], at: usize)
-    requires { ⌜ at + 6 ≤ length (now out) ⌝ }
-    ensures { λ _. ⌜ now (out .exit) ≡ sets (now (out .entry)) at (sixNumbers v s adds) ⌝ }
+// A row's six numbers at one draught, by its share, its v and its survival there.
+fn put_draught(share: Ends, v: u64, s: Survival, out: &mut [u64], at: usize)
+    requires { ⌜ Share share × Weights v s × (at + 6 ≤ length (now out)) ⌝ }
+    ensures { λ _. ⌜ now (out .exit) ≡ sets (now (out .entry)) at (sixNumbers v s (addsOf share v (s .bottom) (s .top))) ⌝ }
 {
+    let adds = sums::adds(share, v, s);
     put_three(v, s.bottom, s.top, out, at);
     put_three(mark_byte(s.marks), adds.lower, adds.upper, out, at + 3);
 }
@@ -43,29 +45,13 @@ fn put_row(share: Ends, vs: [u64; 3], ss: [Survival; 3], out: &mut [u64], at: us
     requires { ⌜ Share share × RowWeights vs ss × (at + 20 ≤ length (now out)) ⌝ }
     ensures { λ _. ⌜ now (out .exit) ≡ sets (now (out .entry)) at (rowNumbers share vs ss) ⌝ }
 {
-    let adds = sums::row_adds(share, vs, ss);
-    let lower = adds.lower;
-    let upper = adds.upper;
-    let deepest = Ends {
-        lower: lower[0],
-        upper: upper[0],
-    };
-    let partial = Ends {
-        lower: lower[1],
-        upper: upper[1],
-    };
-    let light = Ends {
-        lower: lower[2],
-        upper: upper[2],
-    };
-    let first = ss[0];
-    let second = ss[1];
-    let third = ss[2];
-    out[at] = share.lower;
-    out[at + 1] = share.upper;
-    put_draught(vs[0], first, deepest, out, at + 2);
-    put_draught(vs[1], second, partial, out, at + 8);
-    put_draught(vs[2], third, light, out, at + 14);
+    let deepest = ss[0];
+    let partial = ss[1];
+    let light = ss[2];
+    put_ends(share, out, at);
+    put_draught(share, vs[0], deepest, out, at + 2);
+    put_draught(share, vs[1], partial, out, at + 8);
+    put_draught(share, vs[2], light, out, at + 14);
 }
 
 // Those of the row that was entered last, at these draughts.

@@ -21,7 +21,7 @@ fn product(share: u64, v: u64, s: u64) -> u64
 }
 
 // What a row adds at one draught: with the bottom at the lower end, and the top at the upper.
-fn adds(share: Ends, v: u64, s: Survival) -> Ends
+pub fn adds(share: Ends, v: u64, s: Survival) -> Ends
     requires { ⌜ Share share × Weights v s ⌝ }
     ensures { λ r. ⌜ r ≡ addsOf share v (s .bottom) (s .top) ⌝ }
 {
@@ -31,7 +31,7 @@ fn adds(share: Ends, v: u64, s: Survival) -> Ends
 }
 
 // What a row adds at the three draughts, by its share, its v and its survival at each.
-pub fn row_adds(share: Ends, vs: [u64; 3], ss: [Survival; 3]) -> Trio
+fn row_adds(share: Ends, vs: [u64; 3], ss: [Survival; 3]) -> Trio
     requires { ⌜ Share share × RowWeights vs ss ⌝ }
     ensures { λ r. ⌜ r ≡ rowAdds share vs ss ⌝ }
 {

@@ -1,62 +1,90 @@
+-- `listing::list` meets its contract: the numbers of the rows done, with those of the rows left, are those of all. Assumes nothing.
+use Prim.Native.Nat.{_-_, _*_}
+use mathlib.Core.Path.{_∙_, ap}
+use native.Mathlib.Omega.{arith}
+use lib.Seq.{sets}
+use Rattle.rows.specs.declared.Running.{Running}
+use Rattle.rows.specs.Running.{begun}
+use Rattle.rows.proofs.InTurn.{Reached, starts, may-enter, stands-there, goes-on}
+use Rattle.listing.proofs.InNumbers.{may-put, numbers-there, InNumbers, no-number, twenty-more, all-numbers}
 use borrow.Author.Needs.{needs}
 use Rattle.listing.proofs.list.Statement.{statement}
 use Rattle.listing.proofs.list.Tie as tie
-use Rattle.listing.proofs.list.Reads as reads
-use Rattle.listing.proofs.list.Lts as lts
-use Rattle.heights.proofs.three_draughts.Reads as three-draughts-reads
-use Rattle.listing.proofs.put_entered.Reads as put-entered-reads
-use Rattle.rows.proofs.row.begin.Reads as begin-reads
-use Rattle.rows.proofs.row.enter.Reads as enter-reads
 
 abbrev Inv-loop : tie.InvT-loop
-Inv-loop kept rows h t out₀ draughts s₀ i₀ out s i = ?
+Inv-loop kept rows h t out₀ draughts s₀ i₀ out s i = Reached h kept rows s i × InNumbers h kept rows out₀ out (s .standing) i
 
 abbrev μ-loop : tie.MeasureT-loop
-μ-loop kept rows h t out₀ draughts s₀ i₀ out s i = ?
+μ-loop kept rows h t out₀ draughts s₀ i₀ out s i = rows - i
 
--- src/lib.rt:90:9
 three-draughts-requires : tie.Need-three-draughts-requires Inv-loop μ-loop
 three-draughts-requires c κs = search needs
 
--- src/lib.rt:91:9
 begin-requires : tie.Need-begin-requires Inv-loop μ-loop
 begin-requires c κs = search needs
 
--- src/lib.rt:93:5
 loop-holds : tie.Need-loop-holds Inv-loop μ-loop
-loop-holds c = search needs
+loop-holds c =
+    let r = c .before .before .before .before .before in (
+      starts (r .args .h) (r .args .kept .now) (r .args .rows) (r .pre .5) (c .begin .ensures),
+      no-number (r .args .h) (r .args .kept .now) (r .args .rows) (r .args .out .now) (unfold begun in ap (λ (s : Running). s .standing) (c .begin .ensures)),
+    )
 
--- src/lib.rt:94:9
 enter-requires : tie.Need-enter-requires Inv-loop μ-loop
-enter-requires c κs = search needs
+enter-requires c κs =
+    let l = c .before in
+    let r = l .before .before .before .before .before .before in
+    may-enter (r .args .h) (r .args .kept .now) (r .args .rows) (l .loop .s) (l .loop .i) (l .loop .inv .0) (c .loop-test .taken) (r .pre .0) (l .before .before .three-draughts .ensures) (r .pre .2) (r .pre .3)
 
--- src/lib.rt:95:39
 mul-put-entered : tie.Need-mul-put-entered Inv-loop μ-loop
-mul-put-entered c = search needs
+mul-put-entered c =
+    let t = c .before .before in
+    let r = t .before .before .before .before .before .before .before in
+    omega (arith, t .loop-test .taken, r .pre .2)
 
--- src/lib.rt:95:9
 put-entered-requires : tie.Need-put-entered-requires Inv-loop μ-loop
-put-entered-requires c κs = search needs
+put-entered-requires c κs =
+    let enter = c .before in
+    let t = enter .before in
+    let l = t .before in
+    let r = l .before .before .before .before .before .before in
+    let more = t .loop-test .taken in
+    let step = enter .enter .ensures in
+    let asked = may-put (r .args .h) (r .args .kept .now) (r .args .rows) (l .loop .s) (l .loop .i) (l .loop .inv .0) more (r .pre .0 .shares) (step .0) (step .1) _ in
+    (asked .0, asked .1, omega (arith, more, r .pre .4, l .loop .inv .1 .long))
 
--- src/lib.rt:96:9
 add-i : tie.Need-add-i Inv-loop μ-loop
-add-i c = search needs
+add-i c =
+    let t = c .before .before .before .before .before in
+    let r = t .before .before .before .before .before .before .before in
+    omega (arith, t .loop-test .taken, r .pre .2)
 
--- src/lib.rt:93:5
 loop-less : tie.Need-loop-less Inv-loop μ-loop
-loop-less c = search needs
+loop-less c = omega (arith, c .before .before .before .before .before .loop-test .taken)
 
--- src/lib.rt:93:5
 loop-again : tie.Need-loop-again Inv-loop μ-loop
-loop-again c = search needs
+loop-again c =
+    let put = c .before .before in
+    let enter = put .before .before in
+    let t = enter .before in
+    let l = t .before in
+    let r = l .before .before .before .before .before .before in
+    let more = t .loop-test .taken in
+    let step = enter .enter .ensures in (
+      goes-on (r .args .h) (r .args .kept .now) (r .args .rows) (l .loop .s) (l .loop .i) (l .loop .inv .0) more (r .pre .0 .shares) (step .0) (step .1),
+      twenty-more (r .args .h) (r .args .kept .now) (r .args .rows) (r .args .out .now) (l .loop .s .standing) (l .loop .i) (l .loop .inv .1) more
+          (stands-there (r .args .h) (r .args .kept .now) (r .args .rows) (l .loop .s) (l .loop .i) (l .loop .inv .0) more (r .pre .0 .shares) (step .0) (step .1))
+          (put .put-entered .ensures ∙ ap (sets (l .loop .out) (20 * l .loop .i)) (numbers-there (r .args .h) (r .args .kept .now) (r .args .rows) (l .loop .s) (l .loop .i) (l .loop .inv .0) more (r .pre .0 .shares) (step .0) (step .1) (l .before .before .three-draughts .ensures))),
+    )
 
--- src/lib.rt:86:1
 same-length : tie.Need-same-length Inv-loop μ-loop
-same-length c = search needs
+same-length c = c .before .loop .inv .1 .long
 
--- src/lib.rt:86:1
 returns : tie.Need-returns Inv-loop μ-loop
-returns c = search needs
+returns c =
+    let l = c .before in
+    let r = l .before .before .before .before .before .before in
+    all-numbers (r .args .h) (r .args .kept .now) (r .args .rows) (r .args .out .now) (l .loop .s .standing) (l .loop .i) (l .loop .inv .1) (c .loop-test .left) (r .pre .4)
 
 pub list-spec : {M : Type 1} → statement M
 list-spec =

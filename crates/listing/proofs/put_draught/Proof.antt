@@ -1,39 +1,41 @@
+-- `listing::put_draught` meets its contract. Assumes nothing.
+use Rattle.listing.proofs.InNumbers.{six-put}
 use borrow.Author.Needs.{needs}
 use Rattle.listing.proofs.put_draught.Statement.{statement}
 use Rattle.listing.proofs.put_draught.Tie as tie
-use Rattle.listing.proofs.put_draught.Reads as reads
-use Rattle.listing.proofs.put_draught.Lts as lts
-use Rattle.listing.proofs.put_three.Reads as put-three-reads
-use Rattle.printing.proofs.mark_byte.Reads as mark-byte-reads
 
--- src/lib.rt:37:5
+adds-requires : tie.Need-adds-requires
+adds-requires c κs = search needs
+
 put-three-requires : tie.Need-put-three-requires
 put-three-requires c κs = search needs
 
--- src/lib.rt:38:15
 mark-byte-requires : tie.Need-mark-byte-requires
 mark-byte-requires c κs = search needs
 
--- src/lib.rt:38:64
 add-put-three : tie.Need-add-put-three
 add-put-three c = search needs
 
--- src/lib.rt:38:5
 put-three-requires-2 : tie.Need-put-three-requires-2
 put-three-requires-2 c κs = search needs
 
--- src/lib.rt:33:1
 same-length : tie.Need-same-length
 same-length c = search needs
 
--- src/lib.rt:33:1
 returns : tie.Need-returns
-returns c = search needs
+returns c =
+    let second = c .before .before in
+    let byte = second .before .before in
+    let first = byte .before .before .before in
+    let adds = first .before .before in
+    let r = adds .before .before in
+    six-put (r .args .v) (r .args .s) _ (r .args .at) (r .args .out .now) (adds .adds .ensures) (first .put-three .ensures) (byte .mark-byte .ensures) (second .put-three2 .ensures)
 
 pub put-draught-spec : {M : Type 1} → statement M
 put-draught-spec =
     tie.close
     (tie.spec
+    adds-requires
     put-three-requires
     mark-byte-requires
     add-put-three

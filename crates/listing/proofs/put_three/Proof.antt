@@ -4,7 +4,7 @@ use native.Mathlib.Omega.{arith}
 use lib.ListN.{set}
 use lib.Seq.{lt-length-set}
 use borrow.Author.Needs.{needs}
-use Rattle.listing.proofs.AsNumbers.{three-stores}
+use Rattle.listing.proofs.InNumbers.{three-stores}
 use Rattle.listing.proofs.put_three.Statement.{statement}
 use Rattle.listing.proofs.put_three.Tie as tie
 

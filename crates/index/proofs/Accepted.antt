@@ -2,12 +2,11 @@
 use Prim.Native.Nat.{ℕ, _*_, _/_, _^_, _≤_, _<_}
 use mathlib.Core.Path.{_≡_, refl, sym, _∙_, ap}
 use mathlib.Core.Bool.{true, false}
-use mathlib.Core.List.{List, [], _∷_, _++_}
+use mathlib.Core.List.{List, _++_}
 use native.Mathlib.Omega.{arith}
 use lib.Dec.{ltb}
 use lib.ListN.{length, drop}
 use borrow.Author.Tests.{lt-ltb, le-ltb}
-use Rattle.laws.specs.Lists.{Every}
 use Rattle.laws.proofs.Tests.{holds}
 use Rattle.records.specs.declared.Answer.{Answer}
 use Rattle.records.specs.declared.Ends.{Ends}
@@ -17,15 +16,15 @@ use Rattle.spans.specs.Hull.{Hulled}
 use Rattle.spans.specs.Table.{tableOf}
 use Rattle.records.specs.declared.Ratio.{Ratio}
 use Rattle.numbers.specs.Ratio.{ratioOf}
-use Rattle.indices.specs.Index.{partials, attainedOf, Given}
+use Rattle.indices.specs.Index.{partials, attainedOf}
 use Rattle.verdicts.specs.Required.{Sized, requiredOf, markOf}
 use Rattle.verdicts.specs.Verdict.{verdictOf}
 use Rattle.casefile.specs.declared.Judgement.{Judgement}
-use Rattle.casefile.specs.Record.{Row, Case}
+use Rattle.casefile.specs.Record.{Case}
 use Rattle.casefile.specs.Limits.{sizesFit, personsFit}
 use Rattle.casefile.specs.Reading.{Reading, refused, accepted, reading}
 use Rattle.casefile.specs.Answer.{judgementOf}
-use Rattle.casefile.specs.Valid.{ValidRow, Valid}
+use Rattle.casefile.specs.Valid.{Valid}
 use Rattle.casefile.specs.Kept.{placeWidth, keptRows, Keeps}
 use Rattle.casefile.proofs.Limits.{Sizes, sizes-are, outside-the-band}
 use Rattle.casefile.proofs.Refusal.{zero-accepts}
@@ -35,7 +34,7 @@ use Rattle.rows.specs.Standing.{nowhere}
 use Rattle.rows.specs.Work.{sharesFrom, addsFrom, numbers}
 use Rattle.rows.specs.Running.{Follow, Ready}
 use Rattle.answers.specs.Answer.{partialsOf, figures, answer, shares, refusal, answered, sheetAfter}
-use Rattle.answers.proofs.ValidCase.{hulled, rows-follow, results-given}
+use Rattle.answers.proofs.ValidCase.{hulled, rows-follow}
 use Rattle.answers.proofs.Shares.{share-small}
 use Rattle.index.specs.Kept.{keptCase}
 
@@ -67,14 +66,6 @@ module _ (kept : List ℕ) (h : Hull) (rows : ℕ) (valid : Valid (keptCase kept
     excess = omega (arith, sizes .excess);
     persons = outside-the-band h (holds (personsFit h) (valid .hull .persons));
   }
-
-  -- what is asked before its rows' survivals are told
-  pub rows-given : Every (λ (r : Row). Given (r .results)) (keptRows rows kept 0)
-  rows-given = each-given (keptRows rows kept 0) (valid .rows)
-    where
-      each-given : (rs : List Row) → Every (ValidRow h) rs → Every (λ (r : Row). Given (r .results)) rs
-      each-given [] v = tt
-      each-given (r ∷ rs) v = (results-given h r (v .0), each-given rs (v .1))
 
   -- what is asked before its rows are worked through, whatever room they need
   pub rows-asked : {Room : Type 0} {t : List ℕ} → t ≡ tableOf h → placeWidth * rows ≤ length kept → Room →

@@ -1,11 +1,11 @@
--- `index::rowwise::survivals` meets its contract: a refusal, too little room, or all numbers. Assumes nothing.
+-- `index::rowwise::rows` meets its contract: a refusal, too little room, or all numbers. Assumes nothing.
 use native.Mathlib.Omega.{arith}
 use Rattle.casefile.specs.Reading.{reading}
-use Rattle.index.proofs.Accepted.{few-rows, valid-case, rows-given}
+use Rattle.index.proofs.Accepted.{few-rows, valid-case}
 use Rattle.index.proofs.Reported.{refusal-lists-none, list-too-long, list-written}
 use borrow.Author.Needs.{needs}
-use Rattle.index.proofs.rowwise.survivals.Statement.{statement}
-use Rattle.index.proofs.rowwise.survivals.Tie as tie
+use Rattle.index.proofs.rowwise.rows.Statement.{statement}
+use Rattle.index.proofs.rowwise.rows.Tie as tie
 
 slice-aggregate-judge : tie.Need-slice-aggregate-judge
 slice-aggregate-judge c = search needs
@@ -31,17 +31,16 @@ returns-2 c =
     let r = judged .before .before .before .before in
     list-too-long (r .args .input .now) (judged .judge .ensures .0) (search needs) _ (judged .judge .ensures .1) (r .args .out .now) (c .if2 .taken)
 
-slice-aggregate-list : tie.Need-slice-aggregate-list
-slice-aggregate-list c = search needs
+slice-aggregate-put-rows : tie.Need-slice-aggregate-put-rows
+slice-aggregate-put-rows c = search needs
 
-list-requires : tie.Need-list-requires
-list-requires c κs =
-    let judged = c .before .before .before .before .before .before in
-    let r = judged .before .before .before .before in
-    let valid = valid-case (r .args .input .now) (judged .judge .ensures .0) (search needs) _ (judged .judge .ensures .1) in (
+put-rows-requires : tie.Need-put-rows-requires
+put-rows-requires c κs =
+    let judged = c .before .before .before .before .before .before .before in
+    let r = judged .before .before .before .before in (
+      valid-case (r .args .input .now) (judged .judge .ensures .0) (search needs) _ (judged .judge .ensures .1),
       omega (arith, few-rows (r .args .input .now) (judged .judge .ensures .0) (search needs) _ (judged .judge .ensures .1)),
-      omega (arith, c .before .before .if2 .left),
-      rows-given _ _ _ valid,
+      omega (arith, c .before .before .before .if2 .left),
     )
 
 same-length : tie.Need-same-length
@@ -49,13 +48,13 @@ same-length c = search needs
 
 returns-3 : tie.Need-returns-3
 returns-3 c =
-    let rowwise = c .before .before in
-    let judged = rowwise .before .before .before .before .before .before .before in
+    let put = c .before .before in
+    let judged = put .before .before .before .before .before .before .before .before in
     let r = judged .before .before .before .before in
-    list-written (r .args .input .now) (judged .judge .ensures .0) (search needs) _ (judged .judge .ensures .1) (r .args .out .now) (omega (arith, rowwise .before .before .before .if2 .left)) (rowwise .list .ensures)
+    list-written (r .args .input .now) (judged .judge .ensures .0) (search needs) _ (judged .judge .ensures .1) (r .args .out .now) (omega (arith, put .before .before .before .before .if2 .left)) (put .put-rows .ensures)
 
-pub survivals-spec : {M : Type 1} → statement M
-survivals-spec =
+pub rows-spec : {M : Type 1} → statement M
+rows-spec =
     tie.close
     (tie.spec
     slice-aggregate-judge
@@ -63,7 +62,7 @@ survivals-spec =
     returns
     mul-n
     returns-2
-    slice-aggregate-list
-    list-requires
+    slice-aggregate-put-rows
+    put-rows-requires
     same-length
     returns-3)

@@ -24,7 +24,7 @@ pub extern "C" fn probe_bottom(
 ) -> u64
     ensures { λ r. ⌜ r ≡ survivalOf kind (record { lever = lever; range = range; heel = heel; opening = opening; given = given }) .bottom ⌝ }
 {
-    survival::finding::survival(kind, lever, range, heel, opening, given).bottom
+    results::survival(kind, lever, range, heel, opening, given).bottom
 }
 
 // Its top.
@@ -39,7 +39,7 @@ pub extern "C" fn probe_top(
 ) -> u64
     ensures { λ r. ⌜ r ≡ survivalOf kind (record { lever = lever; range = range; heel = heel; opening = opening; given = given }) .top ⌝ }
 {
-    survival::finding::survival(kind, lever, range, heel, opening, given).top
+    results::survival(kind, lever, range, heel, opening, given).top
 }
 
 // The byte of its marks.
@@ -54,7 +54,7 @@ pub extern "C" fn probe_marks(
 ) -> u64
     ensures { λ r. ⌜ r ≡ markByte (survivalOf kind (record { lever = lever; range = range; heel = heel; opening = opening; given = given }) .marks) ⌝ }
 {
-    let s = survival::finding::survival(kind, lever, range, heel, opening, given);
+    let s = results::survival(kind, lever, range, heel, opening, given);
     printing::mark_byte(s.marks)
 }
 

@@ -7,11 +7,11 @@ ghost use Rattle.indices.specs.Index.{Given};
 ghost use Rattle.casefile.specs.Kept.{placeWidth, keptRow};
 use passengers::passenger_survivals;
 use records::Survival;
+use results::survivals;
+use results::worse_survivals;
 use rowlines::kept::first_at;
 use rowlines::kept::floodings_at;
 use rowlines::kept::second_at;
-use survival::finding::survivals;
-use survival::finding::worse_survivals;
 
 // Of the row at place i, which is of that kind: from its one set of results, from two at each draught the lower, or from what a passenger ship's row tells.
 pub fn survivals_at(kept: &[u8], i: usize, kind: u64) -> [Survival; 3]

@@ -17,8 +17,8 @@ use Rattle.solas.proofs.Survival.{s⁴-not-negative, s⁴-at-most-one, lost-if-
 use Rattle.numbers.specs.Ratio.{ratioOf}
 use Rattle.survival.specs.Marks.{foundMarks, unmarked, marksOf}
 use Rattle.survival.specs.Survival.{root, given, fourthOf, Sensible, factorOf, roundedOf, marked, survivalOf}
-use Rattle.survival.specs.declared.finding.Multiple.{Multiple}
-use Rattle.survival.specs.declared.finding.Roots.{Roots}
+use Rattle.survival.specs.declared.Multiple.{Multiple}
+use Rattle.survival.specs.declared.Roots.{Roots}
 use Rattle.survival.proofs.Values.{none}
 
 -- ---- s times n/d is at most s where n/d is at most one

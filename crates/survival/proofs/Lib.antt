@@ -1,5 +1,4 @@
 pub mod Factors
-pub mod Parts
 pub mod Bounds
 pub mod Values
 pub mod Telling

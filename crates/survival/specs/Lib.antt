@@ -1,4 +1,3 @@
-pub mod Parts
 pub mod Marks
 pub mod Survival
 pub mod Telling

@@ -18,8 +18,8 @@ use Rattle.solas.specs.Survival.{s⁴, unlessImmersed}
 use Rattle.solas.specs.Passengers.{final⁴, intermediate⁴, sMom, together⁴}
 use Rattle.numbers.specs.Ratio.{ratioOf}
 use Rattle.records.specs.declared.Ratio.{Ratio}
-use Rattle.survival.specs.declared.finding.Multiple.{Multiple}
-use Rattle.survival.specs.declared.finding.Roots.{Roots}
+use Rattle.survival.specs.declared.Multiple.{Multiple}
+use Rattle.survival.specs.declared.Roots.{Roots}
 use Rattle.survival.specs.Marks.{unmarked, marksOf, passengerMarks}
 
 -- the fourth root of a fraction, or so many ten-thousandths

@@ -1,2 +1,13 @@
-// Survival in proved code: s⁴ of a result as one whole number, its fourth root rounded both ways, the marks, and of two results the worse.
-pub mod finding; // the survival of a result, or of the worse of two, rounded both ways, with its marks
+// Theorems only: survival, its marks and which of two results counts are in specs/, what is proved of them in proofs/. What a survival is rounded by stands here.
+
+// 10¹⁶ times a fraction, rounded down and up.
+pub struct Multiple {
+    pub down: u64,
+    pub up: u64,
+}
+
+// A fourth root in ten-thousandths, rounded down and up.
+pub struct Roots {
+    pub bottom: u64,
+    pub top: u64,
+}

@@ -8,10 +8,10 @@ use Rattle.laws.specs.Fraction.{lesser, _⊛_}
 use Rattle.records.specs.declared.Finding.{Finding}
 use Rattle.records.specs.declared.Flooding.{Flooding}
 use Rattle.moments.specs.Held.{Rooted, Held}
-use Rattle.survival.specs.Parts.{InParts, parts}
+use Rattle.results.specs.Parts.{InParts, parts}
 use Rattle.survival.specs.Survival.{root, ends, fourthPower, roundedOf, Loaded}
 use Rattle.survival.specs.Passengers.{intOf, finalOf, momOf}
-use Rattle.survival.specs.declared.finding.Roots.{Roots}
+use Rattle.survival.specs.declared.Roots.{Roots}
 use Rattle.passengers.specs.declared.Caps.{Caps}
 use Rattle.passengers.specs.Numbers.{capsOf, fourthIn}
 use Rattle.passengers.proofs.Numbers.{Suits, caps-suit, final-parts, borne-ends, none-rooted, nothing-counts, held-asked, final-counts, lesser-counts}

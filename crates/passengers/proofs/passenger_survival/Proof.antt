@@ -16,7 +16,7 @@ use Rattle.solas.specs.Survival.{immersed}
 use Rattle.survival.specs.Marks.{passengerMarks}
 use Rattle.survival.specs.Survival.{root, ends, fourthPower, marked, passengerSurvival}
 use Rattle.survival.specs.Passengers.{intOf, finalOf, momOf}
-use Rattle.survival.specs.declared.finding.Roots.{Roots}
+use Rattle.survival.specs.declared.Roots.{Roots}
 use Rattle.survival.proofs.Passengers.{as-passenger, passenger-lost, passenger-dry}
 use Rattle.passengers.specs.declared.Caps.{Caps}
 use Rattle.passengers.specs.Numbers.{capsOf}

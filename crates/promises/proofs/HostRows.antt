@@ -61,8 +61,16 @@ module _ (c : Case) (i : ℕ) (r : Row) (l : i < length (c .rows)) (e : getD (c 
               top = own (4 + 6 * j) (omega arith) ∙ a .top ∙ ap (λ (x : Survival). x .top) (s ∙ ap at head);
               marks = own (5 + 6 * j) (omega arith) ∙ a .marks ∙ ap (λ (x : Survival). markByte (x .marks)) (s ∙ ap at head);
               adds =
-                  rw (seven, own 0 (lit< tt), own 1 (lit< tt), own (2 + 6 * j) (omega arith) ∙ a .v, own (3 + 6 * j) (omega arith) ∙ a .bottom, own (4 + 6 * j) (omega arith) ∙ a .top,
-                  own (6 + 6 * j) (omega arith) ∙ a .lower, own (7 + 6 * j) (omega arith) ∙ a .upper) refl;
+                  rw (
+                    seven,
+                    own 0 (lit< tt),
+                    own 1 (lit< tt),
+                    own (2 + 6 * j) (omega arith) ∙ a .v,
+                    own (3 + 6 * j) (omega arith) ∙ a .bottom,
+                    own (4 + 6 * j) (omega arith) ∙ a .top,
+                    own (6 + 6 * j) (omega arith) ∙ a .lower,
+                    own (7 + 6 * j) (omega arith) ∙ a .upper,
+                  ) refl;
             };
       }
 

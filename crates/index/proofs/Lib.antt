@@ -1,2 +1,3 @@
 mod Accepted
 mod Reported
+mod HullTold

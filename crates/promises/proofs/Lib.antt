@@ -7,6 +7,7 @@ pub mod WitnessSheet
 pub mod WitnessService
 pub mod WitnessSums
 pub mod WitnessBySolas
+pub mod WitnessHull
 pub mod CaseRows
 pub mod Numerators
 pub mod Weighed
@@ -37,3 +38,6 @@ pub mod VerdictBySolas
 pub mod Values
 pub mod OneFile
 pub mod Sizes
+pub mod GroupPlaces
+pub mod HostHull
+pub mod GroupSums

@@ -10,3 +10,4 @@ pub mod Values
 pub mod Sizes
 pub mod Sums
 pub mod VerdictBySolas
+pub mod HostHull

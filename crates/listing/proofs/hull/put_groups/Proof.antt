@@ -20,49 +20,49 @@ share-ends-requires : tie.Need-share-ends-requires Inv-loop μ-loop
 share-ends-requires c κs =
     let l = c .before .before in
     let r = l .before .before .before .before in
-    (r .pre .0, r .pre .1, group-is (r .args .h) (r .args .out .now) (l .loop .inv) (c .if1 .taken), omega arith, omega arith)
+    (r .pre .0, r .pre .1, group-is (r .args .h) (r .args .out .now) (l .loop .inv) (omega (arith, c .if1 .taken)), omega arith, omega arith)
 
 mul-put-ends : tie.Need-mul-put-ends Inv-loop μ-loop
 mul-put-ends c =
     let t = c .before .before in
     let l = t .before .before in
     let r = l .before .before .before .before in
-    omega (arith, room (r .args .h) (r .args .out .now) (l .loop .inv) (t .if1 .taken), few-groups (r .args .h .zones) (r .pre .0 .few))
+    omega (arith, room (r .args .h) (r .args .out .now) (l .loop .inv) (omega (arith, t .if1 .taken)), few-groups (r .args .h .zones) (r .pre .0 .few))
 
 put-ends-requires : tie.Need-put-ends-requires Inv-loop μ-loop
 put-ends-requires c κs =
     let t = c .before .before in
     let l = t .before .before in
     let r = l .before .before .before .before in
-    omega (arith, room (r .args .h) (r .args .out .now) (l .loop .inv) (t .if1 .taken), r .pre .2, l .loop .inv .put .long)
+    omega (arith, room (r .args .h) (r .args .out .now) (l .loop .inv) (omega (arith, t .if1 .taken)), r .pre .2, l .loop .inv .put .long)
 
 add-i : tie.Need-add-i Inv-loop μ-loop
 add-i c =
     let t = c .before .before .before .before .before in
     let l = t .before .before in
     let r = l .before .before .before .before in
-    omega (arith, room (r .args .h) (r .args .out .now) (l .loop .inv) (t .if1 .taken), few-groups (r .args .h .zones) (r .pre .0 .few))
+    omega (arith, room (r .args .h) (r .args .out .now) (l .loop .inv) (omega (arith, t .if1 .taken)), few-groups (r .args .h .zones) (r .pre .0 .few))
 
 add-if2 : tie.Need-add-if2 Inv-loop μ-loop
 add-if2 c =
     let t = c .before .before .before .before .before in
     let l = t .before .before in
     let r = l .before .before .before .before in
-    omega (arith, l .loop .inv .fits (t .if1 .taken), r .pre .0 .few)
+    omega (arith, l .loop .inv .fits (omega (arith, t .if1 .taken)), r .pre .0 .few)
 
 add-n : tie.Need-add-n Inv-loop μ-loop
 add-n c =
     let t = c .before .before .before .before .before .before .before in
     let l = t .before .before in
     let r = l .before .before .before .before in
-    omega (arith, l .loop .inv .fits (t .if1 .taken), r .pre .0 .few)
+    omega (arith, l .loop .inv .fits (omega (arith, t .if1 .taken)), r .pre .0 .few)
 
 loop-less : tie.Need-loop-less Inv-loop μ-loop
 loop-less c =
     let t = c .before .before .before .before .before .before .before in
     let l = t .before .before in
     let r = l .before .before .before .before in
-    omega (arith, room (r .args .h) (r .args .out .now) (l .loop .inv) (t .if1 .taken))
+    omega (arith, room (r .args .h) (r .args .out .now) (l .loop .inv) (omega (arith, t .if1 .taken)))
 
 loop-again : tie.Need-loop-again Inv-loop μ-loop
 loop-again c =
@@ -71,7 +71,7 @@ loop-again c =
     let t = share .before in
     let l = t .before .before in
     let r = l .before .before .before .before in
-    next-group (r .args .h) (r .args .out .now) (l .loop .inv) (t .if1 .taken) (share .share-ends .ensures) (put .put-ends .ensures) (c .if2 .taken)
+    next-group (r .args .h) (r .args .out .now) (l .loop .inv) (omega (arith, t .if1 .taken)) (share .share-ends .ensures) (put .put-ends .ensures) (c .if2 .taken)
 
 add-a : tie.Need-add-a Inv-loop μ-loop
 add-a c =
@@ -83,7 +83,7 @@ loop-less-2 c =
     let t = c .before .before .before .before .before .before .before in
     let l = t .before .before in
     let r = l .before .before .before .before in
-    omega (arith, room (r .args .h) (r .args .out .now) (l .loop .inv) (t .if1 .taken))
+    omega (arith, room (r .args .h) (r .args .out .now) (l .loop .inv) (omega (arith, t .if1 .taken)))
 
 loop-again-2 : tie.Need-loop-again-2 Inv-loop μ-loop
 loop-again-2 c =
@@ -92,7 +92,7 @@ loop-again-2 c =
     let t = share .before in
     let l = t .before .before in
     let r = l .before .before .before .before in
-    next-zone (r .args .h) (r .args .out .now) (l .loop .inv) (t .if1 .taken) (share .share-ends .ensures) (put .put-ends .ensures) (c .if2 .left)
+    next-zone (r .args .h) (r .args .out .now) (l .loop .inv) (omega (arith, t .if1 .taken)) (share .share-ends .ensures) (put .put-ends .ensures) (c .if2 .left)
 
 same-length : tie.Need-same-length Inv-loop μ-loop
 same-length c = c .before .before .loop .inv .put .long
@@ -101,7 +101,7 @@ returns : tie.Need-returns Inv-loop μ-loop
 returns c =
     let l = c .before .before in
     let r = l .before .before .before .before in
-    all-groups (r .args .h) (r .args .out .now) (l .loop .inv) (c .if1 .left) (r .pre .2)
+    all-groups (r .args .h) (r .args .out .now) (l .loop .inv) (omega (arith, c .if1 .left)) (r .pre .2)
 
 pub put-groups-spec : {M : Type 1} → statement M
 put-groups-spec =

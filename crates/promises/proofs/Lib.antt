@@ -21,7 +21,10 @@ pub mod Files
 pub mod Service
 pub mod Fits
 pub mod Marks
-pub mod Survivals
+pub mod WitnessHostRows
+pub mod OwnNumbers
+pub mod HostRows
+pub mod HostAdds
 pub mod OfSolas
 pub mod SurvivalsOfSolas
 pub mod LayerRows

@@ -3,7 +3,7 @@ pub mod Promises
 pub mod Sheet
 pub mod Service
 pub mod Printing
-pub mod Survivals
+pub mod HostRows
 pub mod OfSolas
 pub mod OneFile
 pub mod Values

@@ -12,6 +12,8 @@ use Rattle.rows.specs.Work.{numbers}
 use Rattle.listing.specs.Hull.{groupEnds, groupsAt, groupsFrom, groupNumbers}
 use Rattle.listing.proofs.HullNumbers.{length-at}
 use Rattle.promises.specs.HostHull.{begunBy, groupPlace}
+-- checked first, so that a place that is counted otherwise is refused at a number
+use Rattle.promises.proofs.WitnessHull.{groups-placed}
 
 -- ---- two numbers each
 

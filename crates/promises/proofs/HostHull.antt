@@ -35,7 +35,7 @@ use Rattle.promises.specs.Rows.{groupShare}
 use Rattle.promises.specs.HostHull.{RequiredOf, RequiredTells, GroupsTell, ShareBetween, GroupsEnclose, longestGroups, GroupsFit, RefusedTellsNothing}
 use Rattle.promises.proofs.GroupPlaces.{places-told}
 -- checked first, so that a sentence that is not so is refused at a number
-use Rattle.promises.proofs.WitnessHull.{required-told, groups-placed, pair-between, twenty-zones}
+use Rattle.promises.proofs.WitnessHull.{required-told, pair-between, twenty-zones}
 
 pub refused-tells-nothing : RefusedTellsNothing
 unfolding requiredIn groupsIn countIn writtenIn

@@ -1,5 +1,5 @@
 -- R, marks and groups' shares as a host gets them: a cargo ship of 99 m, a passenger ship under each rule, and the small ship of docs/ONE-HOLE.md. Assumes nothing.
-use Prim.Native.Nat.{ℕ, _*_, _/_}
+use Prim.Native.Nat.{ℕ}
 use mathlib.Core.Path.{_≡_, refl}
 use mathlib.Core.List.{[], _∷_}
 use Rattle.laws.specs.Fraction.{_less_over_, _⊹_, _⊛_}

@@ -1,7 +1,7 @@
 -- Where each group's numbers stand among those of all groups. Assumes nothing.
 use Prim.Native.Nat.{ℕ, zero, suc, _+_, _-_, _*_, _≤_, _<_}
 use mathlib.Core.Path.{_≡_, refl, _∙_, ap, ap₂}
-use mathlib.Core.List.{List, [], _∷_, _++_}
+use mathlib.Core.List.{List, [], _∷_}
 use native.Mathlib.Nat.{add-zero}
 use native.Mathlib.Omega.{arith}
 use lib.ListN.{length, getD, List·getD-append}
@@ -12,6 +12,8 @@ use Rattle.rows.specs.Work.{numbers}
 use Rattle.listing.specs.Hull.{groupEnds, groupsAt, groupsFrom, groupNumbers}
 use Rattle.listing.proofs.HullNumbers.{length-at}
 use Rattle.promises.specs.HostHull.{begunBy, groupPlace}
+-- checked first, so that a place that is counted otherwise is refused at a number
+use Rattle.promises.proofs.WitnessHull.{groups-placed}
 
 -- ---- two numbers each
 

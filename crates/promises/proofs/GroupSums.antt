@@ -1,11 +1,11 @@
 -- The lower ends of all groups' shares are together at most one, and the upper ends at least one: the exact shares are one. Assumes nothing.
 use Prim.Native.Nat.{ℕ, zero, suc, _+_, _-_, _/_, _^_, _≤_, _<_}
 use mathlib.Core.Path.{_≡_, refl, sym, _∙_, ap, ap₂}
-use mathlib.Core.List.{List, [], _∷_, _++_}
+use mathlib.Core.List.{List, [], _∷_}
 use native.Mathlib.Nat.{add-zero}
 use native.Mathlib.Omega.{arith}
 use lib.Dec.{lit<}
-use Rattle.laws.specs.Fraction.{Fraction, whole, Is, _≼_, upTo}
+use Rattle.laws.specs.Fraction.{Fraction, whole, Is, _≈_, _≼_, upTo}
 use Rattle.laws.specs.Sums.{sumOf, sumBelow}
 use Rattle.laws.proofs.Fraction.{is-over, is-one, numerators-below, ≈-refl, ≈-sym, ≼-of-≈, ≼-trans, ⊹-≼}
 use Rattle.laws.proofs.Sums.{sumOf-append, sumBelow-same}
@@ -113,12 +113,23 @@ module _ (h : Hull) (v : ValidHull h) where
   abbrev s : Ship
   s = shipOf h
 
-  one-in-all : overGroups (groupShare h) (s .m) ≼ whole 1
-  one-in-all = ?
+  all-one : overGroups (groupShare h) (h .zones) ≈ whole 1
+  unfolding groupShare allShares
+  all-one = total-is-one s (ship-sound (hulled h v)) (h .breadth / 2) (half h v)
 
   lower-at-most : groups (λ a n. groupEnds h a n .lower) (h .zones) ≤ 10 ^ 9
-  lower-at-most = ?
+  lower-at-most =
+      let each = groups-≼ s (λ a n. billionths (groupEnds h a n .lower)) (groupShare h) (λ a n g. between h v a n g .low) in
+      omega (arith, numerators-below (≼-trans each (≼-of-≈ all-one)) (in-billionths s (λ a n. groupEnds h a n .lower)) (is-one (lit< tt)))
+
+  upper-at-least : 10 ^ 9 ≤ groups (λ a n. groupEnds h a n .upper) (h .zones)
+  upper-at-least =
+      let each = groups-≼ s (groupShare h) (λ a n. billionths (groupEnds h a n .upper)) (λ a n g. between h v a n g .high) in
+      omega (arith, numerators-below (≼-trans (≼-of-≈ (≈-sym all-one)) each) (is-one (lit< tt)) (in-billionths s (λ a n. groupEnds h a n .upper)))
 
 pub groups-are-all : GroupsAreAll
 unfolding groupsIn
-groups-are-all f c e = ?
+groups-are-all f c e =
+    let h = c .hull in
+    let v = sound f c e .1 .hull in
+    rw (e, lower-together h, upper-together h) (lower-at-most h v, upper-at-least h v)

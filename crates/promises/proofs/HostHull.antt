@@ -1,28 +1,21 @@
 -- What a host gets of an accepted file's hull: the numbers of R and the mark, and of each group, whose exact share lies between its two. Assumes nothing.
-use Prim.Native.Nat.{ℕ, zero, suc, _+_, _-_, _*_, _/_, _^_, _≤_, _<_}
-use mathlib.Core.Path.{_≡_, refl, sym, _∙_, ap}
+use Prim.Native.Nat.{ℕ, _*_, _/_, _≤_}
+use mathlib.Core.Path.{_≡_, refl}
 use mathlib.Core.Bool.{true}
-use mathlib.Core.List.{List}
 use native.Mathlib.Nat.{le-of-eq}
 use native.Mathlib.Omega.{arith}
-use lib.Dec.{leb, lit<}
-use lib.ListN.{length, getD}
+use lib.Dec.{leb}
+use lib.ListN.{length}
 use borrow.Author.Tests.{le-leb}
-use Rattle.laws.specs.Fraction.{Fraction, whole, _over_, Is, _≈_, _≼_, _⊝_, upTo}
-use Rattle.laws.proofs.Fraction.{is-over, is-one, is-nothing, is-self, is-⊝, is-shifted, same, positive, numerators-below, ≈-sym, ≼-of-≈, ≼-trans, ⊹-≼}
+use Rattle.laws.specs.Fraction.{Fraction, whole, _over_, _≈_, _≼_, _⊝_}
+use Rattle.laws.proofs.Fraction.{is-over, is-nothing, is-self, is-⊝, is-shifted, same, positive, ≈-sym, ≼-of-≈, ≼-trans}
 use Rattle.laws.proofs.Tests.{holds}
-use Rattle.records.specs.declared.Ends.{Ends}
 use Rattle.records.specs.declared.Hull.{Hull}
-use Rattle.numbers.specs.Figures.{billionths, Between}
 use Rattle.numbers.specs.Ratio.{ratioOf}
 use Rattle.numbers.proofs.Ratios.{ratio-positive, is-ratio}
 use Rattle.solas.specs.Share.{share, rowShare}
-use Rattle.solas.specs.Count.{Group, groups}
-use Rattle.solas.specs.Total.{overGroups, allShares}
-use Rattle.solas.proofs.Promises.{total-is-one}
-use Rattle.solas.proofs.Total.{is-overGroups}
+use Rattle.solas.specs.Count.{Group}
 use Rattle.spans.specs.Hull.{shipOf, Hulled}
-use Rattle.spans.specs.Rounded.{Near}
 use Rattle.spans.proofs.Places.{ship-sound}
 use Rattle.chances.specs.Promises.{Row}
 use Rattle.chances.proofs.Row.{shares-enclosed, shares-near}
@@ -34,15 +27,15 @@ use Rattle.casefile.specs.Reading.{Reading, refused, accepted, reading}
 use Rattle.casefile.specs.Valid.{ValidHull}
 use Rattle.casefile.proofs.Limits.{sizes-are}
 use Rattle.casefile.proofs.Soundness.{sound}
-use Rattle.listing.specs.Hull.{requiredNumbers, groupEnds, groupNumbers}
+use Rattle.listing.specs.Hull.{requiredNumbers, groupEnds}
 use Rattle.listing.proofs.HullNumbers.{length-groups, few-groups}
 use Rattle.answers.specs.Report.{requiredIn, groupsIn}
 use Rattle.answers.proofs.ValidCase.{hulled}
 use Rattle.promises.specs.Rows.{groupShare}
-use Rattle.promises.specs.HostHull.{FractionAt, RequiredOf, RequiredTells, groupPlace, GroupAt, GroupsTell, ShareBetween, GroupsEnclose, GroupsAreAll, longestGroups, GroupsFit, RefusedTellsNothing}
+use Rattle.promises.specs.HostHull.{RequiredOf, RequiredTells, GroupsTell, ShareBetween, GroupsEnclose, longestGroups, GroupsFit, RefusedTellsNothing}
 use Rattle.promises.proofs.GroupPlaces.{places-told}
 -- checked first, so that a sentence that is not so is refused at a number
-use Rattle.promises.proofs.WitnessHull.{required-told, groups-placed, pair-between, twenty-zones}
+use Rattle.promises.proofs.WitnessHull.{required-told, pair-between, twenty-zones}
 
 pub refused-tells-nothing : RefusedTellsNothing
 unfolding requiredIn groupsIn countIn writtenIn

@@ -1,20 +1,23 @@
 -- What a host gets of an accepted file's hull: the numbers of R and the mark, and of each group, whose exact share lies between its two. Assumes nothing.
-use Prim.Native.Nat.{ℕ, _*_, _/_, _≤_}
+use Prim.Native.Nat.{ℕ, _*_, _/_, _^_, _≤_}
 use mathlib.Core.Path.{_≡_, refl}
 use mathlib.Core.Bool.{true}
 use native.Mathlib.Nat.{le-of-eq}
 use native.Mathlib.Omega.{arith}
-use lib.Dec.{leb}
+use lib.Dec.{leb, lit<}
 use lib.ListN.{length}
 use borrow.Author.Tests.{le-leb}
 use Rattle.laws.specs.Fraction.{Fraction, whole, _over_, _≈_, _≼_, _⊝_}
-use Rattle.laws.proofs.Fraction.{is-over, is-nothing, is-self, is-⊝, is-shifted, same, positive, ≈-sym, ≼-of-≈, ≼-trans}
+use Rattle.laws.proofs.Fraction.{is-over, is-nothing, is-self, is-⊝, is-shifted, same, positive, numerators-below, ≈-sym, ≼-of-≈, ≼-trans}
+use Rattle.laws.proofs.FractionCompare.{≈-of-both}
 use Rattle.laws.proofs.Tests.{holds}
 use Rattle.records.specs.declared.Hull.{Hull}
+use Rattle.numbers.specs.Figures.{billionths}
 use Rattle.numbers.specs.Ratio.{ratioOf}
 use Rattle.numbers.proofs.Ratios.{ratio-positive, is-ratio}
 use Rattle.solas.specs.Share.{share, rowShare}
 use Rattle.solas.specs.Count.{Group}
+use Rattle.solas.proofs.Promises.{no-share-negative}
 use Rattle.spans.specs.Hull.{shipOf, Hulled}
 use Rattle.spans.proofs.Places.{ship-sound}
 use Rattle.chances.specs.Promises.{Row}
@@ -32,7 +35,7 @@ use Rattle.listing.proofs.HullNumbers.{length-groups, few-groups}
 use Rattle.answers.specs.Report.{requiredIn, groupsIn}
 use Rattle.answers.proofs.ValidCase.{hulled}
 use Rattle.promises.specs.Rows.{groupShare}
-use Rattle.promises.specs.HostHull.{RequiredOf, RequiredTells, GroupsTell, ShareBetween, GroupsEnclose, longestGroups, GroupsFit, RefusedTellsNothing}
+use Rattle.promises.specs.HostHull.{RequiredOf, RequiredTells, GroupsTell, ShareBetween, GroupsEnclose, GroupsOfNoShare, longestGroups, GroupsFit, RefusedTellsNothing}
 use Rattle.promises.proofs.GroupPlaces.{places-told}
 -- checked first, so that a sentence that is not so is refused at a number
 use Rattle.promises.proofs.WitnessHull.{required-told, pair-between, twenty-zones}
@@ -88,6 +91,10 @@ module _ (h : Hull) (v : ValidHull h) where
     as-row : Row (shipOf h) a n 0 (h .breadth / 2)
     as-row = record { sound = ship-sound k; narrow = k .narrow; group = g; some = omega (arith, k .broad); rising = omega arith; deep = le-of-eq half }
 
+    not-negative : whole 0 ≼ groupShare h a n
+    unfolding groupShare rowShare
+    not-negative = ≼-trans (no-share-negative (shipOf h) (ship-sound k) a n 0 (h .breadth / 2) g (omega arith) (le-of-eq half)) (≼-of-≈ (nothing-less (share (shipOf h) a n (h .breadth / 2))))
+
     pub between : ShareBetween (groupEnds h a n .lower) (groupEnds h a n .upper) (groupShare h a n)
     unfolding groupEnds groupShare rowShare
     between =
@@ -103,3 +110,17 @@ pub groups-enclose : GroupsEnclose
 groups-enclose f c e a n g =
     let at = groups-tell f c e .1 a n g in
     rw (at .lower, at .upper) (between (c .hull) (sound f c e .1 .hull) a n g)
+
+-- nothing, by an end in billionths
+none-above : (n : ℕ) {f : Fraction} → whole 0 ≼ f → f ≼ billionths n → n ≡ 0 → f ≈ whole 0
+none-above n p h e = ≈-of-both (≼-trans h (≼-of-≈ (rw e (same {d = 10 ^ 9} (lit< tt) (is-over 0 (lit< tt)) (is-nothing (lit< tt)))))) p
+
+none-below : (n : ℕ) {f : Fraction} → billionths n ≼ f → f ≈ whole 0 → n ≡ 0
+none-below n h e = omega (arith, numerators-below (≼-trans h (≼-of-≈ e)) (is-over n {d = 10 ^ 9} (lit< tt)) (is-nothing (lit< tt)))
+
+pub groups-of-no-share : GroupsOfNoShare
+groups-of-no-share f c e a n g =
+    let at = groups-tell f c e .1 a n g in
+    let v = sound f c e .1 .hull in
+    let b = between (c .hull) v a n g in
+    rw (at .lower, at .upper) (none-above _ (not-negative (c .hull) v a n g) (b .high), none-below _ (b .low))

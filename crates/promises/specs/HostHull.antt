@@ -4,7 +4,7 @@ use Prim.Native.Nat.{ℕ, zero, suc, _+_, _-_, _*_, _^_, _≤_}
 use mathlib.Core.Path.{_≡_}
 use mathlib.Core.List.{List, [], _∷_}
 use lib.ListN.{length, getD}
-use Rattle.laws.specs.Fraction.{Fraction, _over_, _≈_, _≼_}
+use Rattle.laws.specs.Fraction.{Fraction, _over_, whole, _≈_, _≼_}
 use Rattle.records.specs.declared.Hull.{Hull}
 use Rattle.numbers.specs.Figures.{billionths}
 use Rattle.solas.specs.Count.{Group}
@@ -67,6 +67,12 @@ abbrev pub GroupsEnclose : Type 0
 GroupsEnclose = (f : List ℕ) (c : Case) → reading f ≡ accepted c → (a n : ℕ) → Group (shipOf (c .hull)) a n →
     let place = groupPlace (c .hull) a n in
     ShareBetween (getD (groupsIn (reading f)) place 0) (getD (groupsIn (reading f)) (place + 1) 0) (groupShare (c .hull) a n)
+
+-- where the upper end is 0 the group has no share, so that no row of it is asked for; and where it has none, the lower end is 0
+abbrev pub GroupsOfNoShare : Type 0
+GroupsOfNoShare = (f : List ℕ) (c : Case) → reading f ≡ accepted c → (a n : ℕ) → Group (shipOf (c .hull)) a n →
+    let place = groupPlace (c .hull) a n in
+    (getD (groupsIn (reading f)) (place + 1) 0 ≡ 0 → groupShare (c .hull) a n ≈ whole 0) × (groupShare (c .hull) a n ≈ whole 0 → getD (groupsIn (reading f)) place 0 ≡ 0)
 
 -- the lower ends of all groups together are at most one, and the upper ends at least one
 abbrev pub lowerEnds : List ℕ → ℕ

@@ -1,0 +1,1 @@
+def sheets(data, name): raise NotImplementedError

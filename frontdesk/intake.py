@@ -10,9 +10,9 @@ KINDS = "an .xlsx workbook, a folder with ship.csv, zones.csv and cases.csv, or 
 ZIP = (b"PK\x03\x04", b"PK\x05\x06", b"PK\x07\x08")
 
 
-def read(name, source, against=False, figures=None):
-    """The ship of a path, of a file's bytes, or of CSV files' bytes by name. Raises Mistakes; with the engine's figures at hand, Refused for a case file that the
-    library does not accept."""
+def read(name, source, against=False, refusal=None):
+    """The ship of a path, of a file's bytes, or of CSV files' bytes by name. Raises Mistakes; with refusal, which is asked for a file's
+    refusal number and line first, Refused for a case file that the library does not accept."""
     if isinstance(source, dict):
         return tables.read(source, name, against)
     if isinstance(source, (str, Path)):
@@ -20,7 +20,7 @@ def read(name, source, against=False, figures=None):
         if path.is_dir():
             return tables.read(path, name, against)
         source = content(path, name)
-    return read_bytes(name, bytes(source), against, figures)
+    return read_bytes(name, bytes(source), against, refusal)
 
 
 def content(path, name):
@@ -36,7 +36,7 @@ def content(path, name):
         raise of_the_file(name, "the file cannot be read (%s)." % fault.strerror) from None
 
 
-def read_bytes(name, data, against, figures):
+def read_bytes(name, data, against, refusal):
     if len(data) > LONGEST_FILE:
         raise of_the_file(name, "the file has more than %d MB; expected %s." % (LONGEST_FILE // 10**6, KINDS))
     if data.startswith(ZIP) or data.startswith(archive.OLE):
@@ -45,12 +45,12 @@ def read_bytes(name, data, against, figures):
         raise of_the_file(name, "the file is empty; expected %s." % KINDS)
     if not like_a_case_file(data):
         raise of_the_file(name, unlike(name, data))
-    return read_case(name, data, figures)
+    return read_case(name, data, refusal)
 
 
-def read_case(name, data, figures):
+def read_case(name, data, refusal):
     """The ship of a case file; whether it is one, the library judges."""
-    number, line = figures(data)[:2] if figures is not None else (0, 0)
+    number, line = refusal(data)[:2] if refusal is not None else (0, 0)
     if number:
         raise refusals.told(number, line, data, name=name)
     ship = casefile.parse(data, name)

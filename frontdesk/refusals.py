@@ -123,7 +123,7 @@ def zones_in_words(frame):
     if not 1 <= count <= 20:
         return "found %d zones; expected 1 to 20" % count
     if room != 2 * (count - 1):
-        return "found %d bytes after the zone count; expected %d, two for each inner bulkhead of %d zones" % (room, 2 * (count - 1), count)
+        return "found %d bytes after the zone count; expected %d, two for each inner bulkhead, as the zone count is %d" % (room, 2 * (count - 1), count)
     length, places = head.unpack_from(frame)[0], [0] + [int.from_bytes(frame[at:at + 2], "big") for at in range(head.size, len(frame), 2)]
     for before, place in zip(places, places[1:] + [length]):
         if place <= before:

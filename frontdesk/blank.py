@@ -1,11 +1,11 @@
-"""An empty workbook for a ship that is still to be entered: headings, units, notes, drop-downs, and every group of one, two and three zones in the file's order."""
+"""An empty workbook for a ship that is still to be entered: headings, units, notes, drop-downs, and the groups of up to three zones in the file's order."""
 
 from frontdesk.binding import bound
-from frontdesk.columns import (AFT, BEYOND, BREADTH, CASE, CASES, DEEPEST, DEPTH, FIRST, FLOODING, FORWARD, GIVEN, GROUP, HEIGHT, LENGTH, LIFEBOATS, LIGHT, NAME,
-                               OF_PART, OF_SHEET, PARTS, RULE, SECOND, SHIP, TYPE, ZONE, ZONE_NAME, ZONES)
+from frontdesk.columns import (AFT, BEYOND, BREADTH, CASE, CASES, DEEPEST, DEPTH, FIRST, FLOODING, FORWARD, GIVEN, GROUP, HEIGHT, LENGTH, LIFEBOATS, LIGHT,
+                               NAME, OF_PART, OF_SHEET, PARTS, RULE, SECOND, SHIP, TYPE, ZONE, ZONE_NAME, ZONES)
 from frontdesk.hullsheets import MOST_ZONES
 from frontdesk.mistakes import of_the_file
-from frontdesk.sheets import Sheet
+from frontdesk.sheets import laid_out
 from frontdesk.ship import CARGO, PASSENGER
 from frontdesk.units import plain
 
@@ -60,7 +60,8 @@ def book(zones, type=""):
 def blank_sheets(zones, type=""):
     ship = [column for column in OF_SHEET[SHIP] if not type or type in column.types]
     cases = [GROUP, DEPTH, HEIGHT, CASE, *(column for part in PARTS if not type or type in PARTS[part] for column in OF_PART[part])]
-    return {SHIP: laid_out(SHIP, ship, [{TYPE: type}]), ZONES: laid_out(ZONES, OF_SHEET[ZONES], [{ZONE: at, AFT: 0 if at == 1 else ""} for at in range(1, zones + 1)]),
+    return {SHIP: laid_out(SHIP, ship, [{TYPE: type}]),
+            ZONES: laid_out(ZONES, OF_SHEET[ZONES], [{ZONE: at, AFT: 0 if at == 1 else ""} for at in range(1, zones + 1)]),
             CASES: laid_out(CASES, cases, [{GROUP: group, DEPTH: DEPTH.word, HEIGHT: HEIGHT.word} for group in groups(zones)])}
 
 
@@ -69,10 +70,6 @@ def groups(zones):
     for first in range(1, zones + 1):
         for last in range(first, min(first + MOST_IN_A_GROUP, zones + 1)):
             yield str(first) if first == last else "%d-%d" % (first, last)
-
-
-def laid_out(name, columns, rows):
-    return Sheet(name, tuple(column.heading for column in columns), tuple((at, tuple(cells.get(column, "") for column in columns)) for at, cells in enumerate(rows, 2)))
 
 
 def notes(type=""):
@@ -86,7 +83,7 @@ def notes(type=""):
             rows += [(CASES, column.heading.rpartition(", ")[0] + ", ..", takes(column), described(column)) for column in columns if column.draught == 0]
     return rows + [("", "", "", line) for line in (
         "Rows may stand in any order; empty ones are passed over. Delete the groups that you do not enter: what is left out counts as not survived.",
-        "Add a row for each longitudinal bulkhead (b) and each watertight deck (H) that holds the water; the row stands for what lies between it and the row before.",
+        "Add a row for each longitudinal bulkhead (b) and each watertight deck (H) that holds the water; it stands for what lies beyond the row before.",
         "Enter numbers as they are: one that is finer than the limits' last place is an error, or is rounded against survival with --against.")]
 
 

@@ -28,7 +28,8 @@ def kinds(tally):
         for name, content in files.items():
             (place / name.upper()).write_bytes(content)
         for name, source, form in (("ship.xlsx", place / "ship.xlsx", "workbook"), ("other.dat", book, "workbook"),
-                                   ("a.case", str(place / "a.case"), "case file"), ("a.case", COASTER, "case file"), ("folder", place, "CSV files"), ("folder", files, "CSV files")):
+                                   ("a.case", str(place / "a.case"), "case file"), ("a.case", COASTER, "case file"),
+                                   ("folder", place, "CSV files"), ("folder", files, "CSV files")):
             ship = intake.read(name, source, refusal=refusal)
             tally.same((ship.source.form, ship.source.file), (form, name), "%s as %s" % (form, type(source).__name__))
         tally.same(casefile.write(intake.read("folder", place)), COASTER, "the folder's case file")
@@ -53,7 +54,8 @@ def refused(tally):
     for old, new, number, line, heading, words in (
             (b"\n", b"\r\n", 2, 1, "", "found a carriage return"), (b"a", b"A", 2, 2, "", 'found "A"'),
             (b"01210c", b"\xef\xbb\xbf01210c", 2, 1, "", "found a byte order mark"), (b"0f0029\n", b"", 10, 43, "", "found no end"),
-            (b"0f0029", b"0f0028", 6, 43, "", "found an end that counts 40 rows; expected 41"), (b"0f0029\n", b"0f0029\n00\n", 10, 44, "", "found a line after the end"),
+            (b"0f0029", b"0f0028", 6, 43, "", "found an end that counts 40 rows; expected 41"),
+            (b"0f0029\n", b"0f0029\n00\n", 10, 44, "", "found a line after the end"),
             (b"01210c", b"02210c", 3, 1, "", "found a line of kind 02; expected a hull"),
             (b"01210c", b"01110c", 4, 1, "Ls m", "found 43.64; expected 80 to 198 m")):
         try:

@@ -186,3 +186,8 @@ def opening(mm):
 def place_name(ship):
     """What the user counts a row by."""
     return "line" if ship.source.form == "case file" else "row"
+
+
+def checked(value):
+    """A figure of the closing check as text: ends with their unit, or what it is."""
+    return " to ".join(str(part) for part in value) if isinstance(value, tuple) else str(value)

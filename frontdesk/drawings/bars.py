@@ -2,7 +2,7 @@
 
 from typing import NamedTuple
 
-from frontdesk.drawings.pen import Drawing, scaled, width
+from .pen import Drawing, scaled, width
 
 LEFT, LONG, STEP, HEAD = 900, 7_600, 330, 60
 

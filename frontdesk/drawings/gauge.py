@@ -1,6 +1,6 @@
 """The four indices as bars against their marks, and their two ends under a glass."""
 
-from frontdesk.drawings.pen import Drawing, scaled
+from .pen import Drawing, scaled
 
 BILLION = 10**9
 LEFT, LONG = 1_250, 5_800  # where a bar begins, and how long an index of one is

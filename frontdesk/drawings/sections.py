@@ -2,8 +2,8 @@
 
 from typing import NamedTuple
 
-from frontdesk.drawings.pen import Drawing, scaled, width
-from frontdesk.drawings.triangle import shade
+from .pen import Drawing, scaled, width
+from .triangle import shade
 
 WIDE, HIGH, GAP, LEFT, HEAD = 2_600, 2_200, 500, 700, 420
 

@@ -2,8 +2,8 @@
 
 from typing import NamedTuple
 
-from frontdesk.drawings import views
-from frontdesk.drawings.pen import Drawing, fitted, scaled, width
+from . import views
+from .pen import Drawing, fitted, scaled, width
 
 LEFT, LONG, RIGHT = 900, 9_200, 1_500
 FOOT, HEAD = 400, 260

@@ -2,7 +2,7 @@
 
 from typing import NamedTuple
 
-from frontdesk.drawings.pen import apart, scaled, width
+from .pen import apart, scaled, width
 
 HIGH, GAP = 1_250, 520
 

@@ -1,0 +1,73 @@
+"""The four indices as bars against their marks, and their two ends under a glass."""
+
+from .pen import Drawing, scaled
+
+BILLION = 10**9
+LEFT, LONG = 1_250, 5_800  # where a bar begins, and how long an index of one is
+GLASS, GLASS_LONG = 7_750, 2_300
+HEAD, STEP = 420, 420
+STEPS = tuple(digit * 10**power for power in range(10) for digit in (1, 2, 5))
+
+
+def glass(ends, marks):
+    """How many billionths the glass takes in: the least round number that leaves room around the widest pair of ends."""
+    widest = max(upper - lower for lower, upper in ends)
+    return next(step for step in STEPS if 4 * step >= 5 * max(widest, 1))
+
+
+def drawn(entries, places):
+    """Entries are (letter, draught, lower, upper, mark as numerator and denominator, name of the mark, how it compares); places make text of billionths."""
+    drawing = Drawing("gauge", "The attained index and the partial indices against their marks", 11_400, HEAD + STEP * len(entries) + 60, least=720)
+    window = glass([entry[2:4] for entry in entries], [entry[4] for entry in entries])
+    _scale(drawing, len(entries), places(window))
+    for i, entry in enumerate(entries):
+        _bar(drawing, HEAD + i * STEP, entry, places)
+        _ends(drawing, HEAD + i * STEP, entry, window, places)
+    drawing.says = " ".join("%s%s lies between %s and %s; its mark is %s." % (e[0], e[1], places(e[2]), places(e[3]), e[5]) for e in entries)
+    return drawing
+
+
+def _scale(drawing, count, window):
+    foot = HEAD + STEP * count
+    for tenth in range(0, 11, 2):
+        x = LEFT + scaled(tenth, 10, LONG)
+        drawing.line(x, HEAD - 60, x, foot, "grid")
+        drawing.text(x, HEAD - 130, "1" if tenth == 10 else "0.%d" % tenth if tenth else "0", 115, "quiet", "middle")
+    drawing.text(GLASS + GLASS_LONG // 2, HEAD - 270, "the two ends under a glass", 115, "quiet", "middle")
+    drawing.text(GLASS + GLASS_LONG // 2, HEAD - 130, window + " from edge to edge", 115, "quiet", "middle")
+
+
+def _bar(drawing, top, entry, places):
+    letter, sub, lower, upper, (part, whole), mark, _ = entry
+    middle = top + STEP // 2
+    drawing.text(0, middle + 50, letter, 170, "symbol", sub=sub)
+    drawing.box(LEFT, middle - 75, LONG, 150, "empty")
+    reached = scaled(lower, BILLION, LONG)
+    drawing.box(LEFT, middle - 75, reached, 150, "kept")
+    at = scaled(part, whole, LONG)
+    if reached < at:
+        drawing.box(LEFT + reached, middle - 75, at - reached, 150, "short")
+    drawing.line(LEFT + at, middle - 135, LEFT + at, middle + 110, "mark")
+    drawing.text(LEFT + at + 45, middle - 98, mark, 110, "strong")
+
+
+def _ends(drawing, top, entry, window, places):
+    _, _, lower, upper, (part, whole), mark, compared = entry
+    middle = top + STEP // 2
+    drawing.box(GLASS, middle - 110, GLASS_LONG, 220, "empty")
+    start = 2 * lower - (window - (upper - lower))  # half billionths: the ends stand in the middle of the glass
+
+    def place(halves):
+        return GLASS + scaled(halves - start, 2 * window, GLASS_LONG)
+
+    left, right = place(2 * lower), place(2 * upper)
+    drawing.box(left, middle - 70, max(right - left, 10), 140, "between")
+    for x, turn in ((left, 50), (right, -50)):
+        drawing.line(x, middle - 70, x, middle + 70, "end")
+        drawing.line(x, middle - 70, x + turn, middle - 70, "end")
+        drawing.line(x, middle + 70, x + turn, middle + 70, "end")
+    at = 2 * part * BILLION // whole
+    if start < at < start + 2 * window:
+        drawing.line(place(at), middle - 135, place(at), middle + 135, "mark")
+    drawing.text(GLASS + GLASS_LONG + 90, middle - 15, places(upper - lower) + " apart", 110)
+    drawing.text(GLASS + GLASS_LONG + 90, middle + 105, compared, 110, "quiet")

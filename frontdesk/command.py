@@ -4,6 +4,7 @@ import argparse
 import os
 import signal
 import sys
+import traceback
 
 from . import engine, outputs
 from .mistakes import Mistake, Mistakes
@@ -48,7 +49,7 @@ def parser():
     commands = whole.add_subparsers(dest="command", metavar="COMMAND", required=True, title="commands")
 
     def command(name, about, does, more=STATUSES):
-        one = commands.add_parser(name, help=about, description=about[0].upper() + about[1:] + ".", epilog=more, **shape)
+        one = commands.add_parser(name, prog="desk " + name, help=about, description=about[0].upper() + about[1:] + ".", epilog=more, **shape)
         one.set_defaults(does=does)
         return one
 
@@ -69,7 +70,7 @@ def parser():
     one = command("new", "makes an empty workbook to fill in", new)
     one.add_argument("output", metavar="NAME.xlsx")
     one.add_argument("--zones", type=int, required=True, metavar="N", help="1 to 20")
-    one.add_argument("--type", choices=("cargo", "passenger"), default="cargo", help="%(default)s if it is not given")
+    one.add_argument("--type", choices=("cargo", "passenger"), default="", help="has the columns of that type alone")
     one = command("batch", "judges every ship below a folder", batch)
     one.add_argument("input", metavar="FOLDER")
     one.add_argument("-o", "--output", metavar="RESULTS.csv", required=True)
@@ -85,24 +86,24 @@ def add_against(one):
 def report(words):
     from . import enquiry, summary
 
+    free(words.input, words.output, words.csv, words.xlsx)
     answer = enquiry.asked(engine.load(), enquiry.named(words.input), given(words.input), words.against, words.licensed_slip)
-    written = []
+    contents = {words.output: answer.page} if words.output else {}
     if words.csv or words.xlsx:
         from . import exports
-    for path, content in (
-        (words.output, lambda: answer.page), (words.csv, lambda: exports.csv(answer.findings)), (words.xlsx, lambda: exports.xlsx(answer.findings))
-    ):  # fmt: skip
-        if path:
-            outputs.put(path, content())
-            written.append(path)
-    told = sys.stderr if outputs.STANDARD_OUTPUT in written else sys.stdout
-    print(summary.text(answer, written), file=told)
+
+        contents.update({words.csv: exports.commas(answer.findings)} if words.csv else {})
+        contents.update({words.xlsx: exports.workbook(answer.findings)} if words.xlsx else {})
+    for path, content in contents.items():
+        outputs.put(path, content)
+    print(summary.text(answer, contents), file=sys.stderr if outputs.STANDARD_OUTPUT in contents else sys.stdout)
     return answer.findings.status
 
 
 def case(words):
     from . import casefile, enquiry, intake
 
+    free(words.input, words.output)
     ship = intake.read(enquiry.named(words.input), given(words.input), words.against, refusal=engine.load().figures)
     outputs.put(words.output, casefile.write(ship))
     if ship.source.rounded:
@@ -111,15 +112,22 @@ def case(words):
 
 
 def table(words):
-    from . import commas, enquiry, intake, workbook
+    from . import binding, commas, enquiry, intake, tables
 
+    free(words.input, words.output)
     ship = intake.read(enquiry.named(words.input), given(words.input), refusal=engine.load().figures)
-    if words.output.lower().endswith((".xlsx", ".xlsm")):
-        outputs.put(words.output, workbook.written(ship))
-    else:
-        for name, content in commas.written(ship).items():
-            os.makedirs(words.output, exist_ok=True)
-            outputs.put(os.path.join(words.output, name), content)
+    sheets = tables.sheets_of(ship)
+    if words.output.lower().endswith(".xlsx"):
+        outputs.put(words.output, binding.bound(sheets))
+        return DONE
+    if os.path.splitext(words.output)[1] and not os.path.isdir(words.output):
+        raise stop("%s: a workbook's name ends in .xlsx, and any other is that of a folder for CSV files, without a dot." % words.output)
+    try:
+        os.makedirs(words.output, exist_ok=True)
+    except OSError as error:
+        raise outputs.cannot(words.output, error) from None
+    for name, content in commas.written(sheets).items():
+        outputs.put(os.path.join(words.output, name), content)
     return DONE
 
 
@@ -150,6 +158,16 @@ def serve(words):
     if not 0 <= words.port <= 65535:
         raise stop("--port %d: a port is 0 to 65535." % words.port)
     return page.run(engine.load(), words.port)
+
+
+def free(source, *outputs_asked):
+    """Stops where an output would be written over the input, or two outputs to one file."""
+    taken = [os.path.realpath(source)]
+    for path in outputs_asked:
+        if path and path != outputs.STANDARD_OUTPUT:
+            if os.path.realpath(path) in taken:
+                raise stop("%s is named twice: an output needs a file of its own." % path)
+            taken.append(os.path.realpath(path))
 
 
 def given(path):
@@ -191,4 +209,7 @@ def main(arguments=None):
         print("desk: there is not enough memory for this.", file=sys.stderr)
     except KeyboardInterrupt:
         return STOPPED
+    except Exception as defect:
+        traceback.print_exc()
+        print("desk: a defect of the desk, which stopped at %s. Nothing that it has not named is written." % type(defect).__name__, file=sys.stderr)
     return ERROR

@@ -39,7 +39,7 @@ def asked(engine, name, source, against=False, licensed_slip=False):
     if licensed_slip:
         from . import slip
 
-        slipped = slip.of(found)
+        slipped = slip.slip(found)
     return Answer(found, tuple(doubts.of(ship, found)), slipped)
 
 

@@ -2,7 +2,7 @@
 
 import struct
 
-from frontdesk.ship import CARGO, PASSENGER, Flooding, Result, Row, Ship, Source
+from frontdesk.ship import CARGO, PASSENGER, RULES, Flooding, Result, Row, Ship, Source
 
 LONGEST = 65_536  # bytes
 MOST_ROWS = 500
@@ -49,7 +49,7 @@ def ends(frames):
 
 
 def hull_of(frame):
-    """A hull's fields, or None where it is none, or too short or too long for its zones."""
+    """A hull's fields, or None where it is none, has another length than its zones ask for, or names no rule."""
     head = {CARGO_HULL: CARGO_HEAD, PASSENGER_HULL: PASSENGER_HEAD}.get(frame[0])
     if head is None or len(frame) < head.size:
         return None
@@ -61,7 +61,8 @@ def hull_of(frame):
     hull["bulkheads"] = struct.unpack(">%dH" % (zones - 1), places)
     if frame[0] == CARGO_HULL:
         return dict(hull, type=CARGO)
-    return dict(hull, type=PASSENGER, lifeboats=numbers[4], excess=numbers[5], rule=numbers[6])
+    lifeboats, excess, rule = numbers[4:7]
+    return dict(hull, type=PASSENGER, lifeboats=lifeboats, excess=excess, rule=rule) if rule < len(RULES) else None
 
 
 def row_of(frame, line):

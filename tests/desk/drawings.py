@@ -11,7 +11,7 @@ from frontdesk.drawings import bars, gauge, pen, sections, triangle  # noqa: E40
 from frontdesk.drawings.pen import Area, Box, Line  # noqa: E402
 from tally import Tally  # noqa: E402
 
-RANDOM = 40  # ships of each type
+RANDOM = 100  # ships of each type
 BILLION = 10**9
 tally = Tally()
 

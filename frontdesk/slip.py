@@ -117,10 +117,10 @@ class Slip:
         """Was this ship among those judged wrongly? In one sentence."""
         comes, held, proved = (SAID[verdict] for verdict in (self.as_it_comes.verdict, self.held.verdict, self.proved[0]))
         if comes != held:
-            return "It depends on what was done with chances below zero: taken as they come out, the ship %s; held at 0, it %s. It is proved that it %s." % (comes, held, proved)
+            return "It depends on what was done with chances below zero: taken as they come out, the ship %s; held at 0, it %s. The proved verdict is that it %s." % (comes, held, proved)
         if comes == proved:
             return "No: the ship %s, with the slip and without it." % proved
-        return "Yes: with the slip the ship %s. It is proved that it %s." % (comes, proved)
+        return "Yes: with the slip the ship %s. The proved verdict is that it %s." % (comes, proved)
 
 
 SAID = {MEETS: "meets", FAILS: "fails", UNSETTLED: "is unsettled"}

@@ -116,10 +116,8 @@ def cannot_read(folder):
 
 
 def rounds(folder):
-    for name in ("ro-pax-ferry", "ferry", "paper-carrier", "printed"):
+    for name in ("night-ferry", "paper-carrier", "printed"):
         case = EXAMPLES / (name + ".case")
-        if not case.exists():
-            continue
         book, sheets, back = folder / (name + ".xlsx"), folder / name, folder / "back.case"
         tally.same(desk("table", case, "-o", book), (0, "", ""), "%s: its workbook" % name)
         tally.same(desk("table", case, "-o", sheets), (0, "", ""), "%s: its CSV files" % name)
@@ -151,7 +149,7 @@ def blanks(folder):
     told("another ending", ["new", folder / "n.ods", "--zones", "3"], 2, "ends in .xlsx")
     told("zones in words", ["new", folder / "n.xlsx", "--zones", "three"], 2, "three")
     _, err = told("a workbook that is still empty", ["report", book], 2, "desk: ship, row 2")
-    tally.that(err.count("desk: ") == 1 and len(err.splitlines()) == 51 and err.endswith(" more\n"), "fifty mistakes, and how many more", err[-200:])
+    tally.that(err.count("desk: ") == 1 and len(err.splitlines()) > 20, "all that is missing at once", err)
     tally.same(desk("new", folder / "p.xlsx", "--zones", "3", "--type", "passenger")[0], 0, "a passenger ship's")
 
 

@@ -83,7 +83,7 @@ def cargo():
         ["1-2", "B/2", "top", "", *twelve, *empty, None, None, None],
         ["2", 2.5, 8, "wing tank", *twelve, *[0.09, 13, 4.25, "none"] * 3, None, None, None],
         ["2", 2.5, "top", "", *twelve, *empty, None, None, None],
-        ["2", "B/2", "top", "", *empty, *empty, 0.5, 0.25, 1],
+        ["2", "B/2", "top", "", *empty, *empty, 0.5, 0.25, 0.875],
         ["3", "B/2", "top", "fore peak", *twelve, *empty, None, None, None]]
     return Book([SHIP + [], ["Hare", "cargo", 90, 16, 7, 4]], [ZONES + [], [1, "aft peak", 0, 20.5], [2, "hold", 20.5, 80], [3, "fore peak", 80, 90]],
                 [PLACE + FIRST + SECOND + GIVEN, *cases])

@@ -125,13 +125,23 @@ def versions():
         ctypes.CDLL = real
 
 
+LIKE_LIBRARY = """#!/bin/sh
+cd "${0%%/*}" || exit 1
+echo made >>log
+if grep -q fails crates/one/src/lib.rt; then exit 1; fi
+rm -rf target/library
+mkdir -p target/library/lib
+cp %s target/library/lib/libdamindex.so
+"""
+
+
 def tree(folder):
     """A tree with code, and a script ./library that copies the library that is there, or fails where the code says so."""
     for name in ("crates.txt", "include/damindex.h", "crates/one/src/lib.rt", "bin/rt"):
         (folder / name).parent.mkdir(parents=True, exist_ok=True)
         (folder / name).write_text("")
     script = folder / "library"
-    script.write_text('#!/bin/sh\ncd "${0%%/*}" || exit 1\necho made >>log\ngrep -q fails crates/one/src/lib.rt && exit 1\nrm -rf target/library\nmkdir -p target/library/lib\ncp %s target/library/lib/libdamindex.so\n' % made)
+    script.write_text(LIKE_LIBRARY % made)
     for path in (script, folder / "bin/rt"):
         path.chmod(path.stat().st_mode | stat.S_IXUSR)
     return folder

@@ -84,7 +84,7 @@ def good(server, sheets, library):
         status, headers, download = server.ask("GET", path + "/download")
         tally.that(status == 200 and download == wanted, "%s: the download is the command line's report" % name)
         tally.that('attachment; filename="' in headers.get("Content-Disposition", "") and headers["Content-Disposition"].split('"')[1].endswith(".html"), "it has a file's name")
-        tally.that(page.replace(serve.BAR, "").replace(re.search(r"<nav class=\"bar\".*?</nav>\n?", page, re.S).group(), "") == wanted, "%s: the page is the same with a bar" % name)
+        tally.that(page.replace(serve.BAR, "").replace(re.search(r"<nav class=\"around\".*?</nav>\n?", page, re.S).group(), "") == wanted, "%s: the page is the same with a bar" % name)
         tally.that('href="%s/download"' % path in page and 'href="/"' in page, "the bar leads to the download and back")
         tally.same(server.ask("GET", path + "/case")[2].encode(), case, "%s: its case file" % name)
     page, _ = server.shown([("timber.case", case)], {"licensed-slip": "yes"})

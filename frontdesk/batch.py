@@ -80,8 +80,10 @@ class Part:
         except OSError as error:
             raise outputs.cannot(self.path, error) from None
 
-    def remove(self):
-        os.unlink(self.path)
+    def __enter__(self):
+        return self
+
+    def __exit__(self, *_):
         os.close(self.handle)
 
 
@@ -163,18 +165,18 @@ def run(folder, out, engine, stream=None):
     inputs = found(folder)
     if not inputs:
         raise of_the_file("", "%s has no workbook (.xlsx, .xlsm), no folder of CSV files (ship.csv, zones.csv, cases.csv) and no case file (.case)." % folder)
-    part = Part(out + ".part", engine.version)
-    lines = taken_over(folder, inputs, part.lines())
-    before, progress = len(lines), Progress(len(inputs), stream)
-    try:
-        judge(folder, inputs, lines, part, progress, engine)
-    except KeyboardInterrupt:
+    with Part(out + ".part", engine.version) as part:
+        lines = taken_over(folder, inputs, part.lines())
+        before, progress = len(lines), Progress(len(inputs), stream)
+        try:
+            judge(folder, inputs, lines, part, progress, engine)
+        except KeyboardInterrupt:
+            progress.clear()
+            stream.write("desk: stopped with %d of %d done, kept in %s; the same command goes on from there.\n" % (len(lines), len(inputs), part.path))
+            return 130
         progress.clear()
-        stream.write("desk: stopped with %s of %s done, kept in %s; the same command goes on from there.\n" % (len(lines), len(inputs), part.path))
-        return 130
-    progress.clear()
-    outputs.put(out, row_text(HEADINGS) + "".join(lines[number][1] for number in range(len(inputs))))
-    part.remove()
+        outputs.put(out, row_text(HEADINGS) + "".join(lines[number][1] for number in range(len(inputs))))
+        os.unlink(part.path)
     stream.write(closing(lines, before, time.monotonic() - begun, out))
     return 0
 

@@ -30,8 +30,8 @@ REPORT = re.compile(r"/report/([A-Za-z0-9_-]{20,60})(/download|/case)?")
 BUSY = b"HTTP/1.1 503 Service Unavailable\r\nContent-Type: text/plain\r\nConnection: close\r\n\r\nThe desk has its hands full: try again.\n"
 PAGE = "The front desk"
 BAR = """
-.bar { display: flex; flex-wrap: wrap; gap: .3rem 1.5rem; padding: .6rem 1.5rem; background: var(--panel); border-bottom: 1px solid var(--rule); }
-@media print { .bar { display: none; } }
+.around { display: flex; flex-wrap: wrap; gap: .3rem 1.5rem; margin: 0; padding: .6rem 1.5rem; background: var(--panel); }
+@media print { .around { display: none; } }
 """
 TOO_LARGE = "The upload has %s bytes, and at most %s are taken. A table of 500 cases has far less: is it the right file?"
 
@@ -240,7 +240,7 @@ def with_bar(page, token=""):
     """The same page with a bar above it, which leads back to the form and to the downloads; what is downloaded has none."""
     head, style, rest = page.partition("</style>")
     before, main, after = rest.partition("<main")
-    return head + BAR + style + before + report.environment().get_template("bar.html").render(token=token) + main + after
+    return head + BAR + style + before + report.environment().get_template("around.html").render(token=token) + main + after
 
 
 def attachment(name, ending):

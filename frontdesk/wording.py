@@ -151,14 +151,14 @@ def _open(index, ship):
 def extent(inner, row, below, ship):
     """How far in and how high the damages of a row reach."""
     if row.depth == ship.half_breadth:
-        deep = "to the centre line" if not inner else "from %s m in to the centre line" % metres(inner)
+        deep = "to the centre line" if not inner else "deeper than %s m" % metres(inner)
     else:
         deep = "up to %s m in" % metres(row.depth) if not inner else "%s to %s m in" % (metres(inner), metres(row.depth))
     if row.height >= ship.top:
         high = "over the whole height" if not below else "above %s m" % fine_metres(below)
     else:
         high = "up to %s m high" % fine_metres(row.height) if not below else "%s to %s m high" % (fine_metres(below), fine_metres(row.height))
-    return "%s, %s" % (deep, high)
+    return ("%s, %s" % (deep, high)).replace(" m", "\u00a0m")
 
 
 def why(case, i):

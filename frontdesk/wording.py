@@ -116,7 +116,7 @@ def sentence(findings):
         short = [index for index in findings.indices if index.verdict == FAILS]
         return [_short(index, findings.ship) for index in short] + _rest(findings, short)
     return [_open(index, findings.ship) for index in findings.indices if index.verdict == UNSETTLED] + [
-        "The proved ends do not decide it: take it as not shown. With a little more in hand at any case that loses, it will settle. On which side it lies now, "
+        "The proved ends do not decide it: take it as not shown. More survival in the cases that lose most may settle it. On which side it lies now, "
         "a second program that is not proved can tell (see “Do it again”)."
     ]
 

@@ -116,7 +116,7 @@ def sentence(findings):
         short = [index for index in findings.indices if index.verdict == FAILS]
         return [_short(index, findings.ship) for index in short] + _rest(findings, short)
     return [_open(index, findings.ship) for index in findings.indices if index.verdict == UNSETTLED] + [
-        "The proved ends do not decide it: take it as not shown. With a little more in hand at any case that loses, it will settle. On which side it lies now, "
+        "The proved ends do not decide it: take it as not shown. More survival in the cases that lose most may settle it. On which side it lies now, "
         "a second program that is not proved can tell (see “Do it again”)."
     ]
 
@@ -151,14 +151,14 @@ def _open(index, ship):
 def extent(inner, row, below, ship):
     """How far in and how high the damages of a row reach."""
     if row.depth == ship.half_breadth:
-        deep = "to the centre line" if not inner else "from %s m in to the centre line" % metres(inner)
+        deep = "to the centre line" if not inner else "deeper than %s m" % metres(inner)
     else:
         deep = "up to %s m in" % metres(row.depth) if not inner else "%s to %s m in" % (metres(inner), metres(row.depth))
     if row.height >= ship.top:
         high = "over the whole height" if not below else "above %s m" % fine_metres(below)
     else:
         high = "up to %s m high" % fine_metres(row.height) if not below else "%s to %s m high" % (fine_metres(below), fine_metres(row.height))
-    return "%s, %s" % (deep, high)
+    return ("%s, %s" % (deep, high)).replace(" m", "\u00a0m")
 
 
 def why(case, i):

@@ -58,8 +58,9 @@ def _value(drawing, middle, reached, at, text):
     """The lower end, cut off, within the end of its bar; behind it where the bar is short or the mark's stroke would go through, and there is room."""
     wide = width(text, 110) + 140
     crossed = reached - wide < at <= reached + 40
-    if reached < wide or (crossed and max(reached, at) + wide <= LONG):
-        drawing.text(LEFT + max(reached, at) + 80, middle + 38, text, 110)
+    behind = "at least " + text
+    if reached < wide or (crossed and max(reached, at) + width(behind, 110) + 140 <= LONG):
+        drawing.text(LEFT + max(reached, at) + 80, middle + 38, behind, 110)
     else:
         drawing.text(LEFT + (at if crossed else reached) - 70, middle + 38, text, 110, "on5", "end")
 

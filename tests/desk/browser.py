@@ -9,6 +9,7 @@ import subprocess
 import sys
 import tempfile
 import time
+from dataclasses import replace
 from pathlib import Path
 
 sys.path.insert(0, str(Path(__file__).resolve().parent))
@@ -94,7 +95,7 @@ def written(scratch):
     table = sheets["cases"]
     at = table.headings.index("range deg, partial")
     rows = [(number, tuple(1605 if (number, place) == (14, at) else cell for place, cell in enumerate(cells))) for number, cells in table.rows]
-    bad["cases"] = table._replace(rows=tuple(rows)) if hasattr(table, "_replace") else type(table)(table.name, table.headings, tuple(rows))
+    bad["cases"] = replace(table, rows=tuple(rows))
     files["hundredths.xlsx"] = binding.bound(bad)
     for name, content in files.items():
         (scratch / name).write_bytes(content)

@@ -202,7 +202,8 @@ def main(arguments=None):
     except ModuleNotFoundError as missing:
         if missing.name not in PACKAGES:
             raise
-        print("desk: %s is not installed. On Debian: apt-get install %s; elsewhere pyproject.toml names what is needed." % PACKAGES[missing.name], file=sys.stderr)
+        print("desk: %s is not installed. On Debian: apt-get install %s; elsewhere pyproject.toml names what is needed."
+                % PACKAGES[missing.name], file=sys.stderr)
     except OSError as error:
         print("desk: %s: %s." % (error.filename or "desk", outputs.reason(error)), file=sys.stderr)
     except MemoryError:

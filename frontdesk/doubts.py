@@ -132,7 +132,7 @@ def levers(entered):
         if longest > LARGEST_LEVER:
             far.append((row, longest))
     if far:
-        text = "A lever of %s m: the largest in any of the project's examples is 1.03 m, and 0.12 m (0.20 m with a ro-ro space) is all that counts. Is it in metres?"
+        text = "A lever of %s m: the largest of all examples is 1.03 m, and no more than 0.12 m counts (0.20 m with a ro-ro space). Is it in metres?"
         yield gathered(text % cut(far[0][1], 3, 1000), [row for row, _ in far])
 
 

@@ -4,7 +4,8 @@ const fault = (what, element) => faults.push(what + (element ? ": " + element.ou
 const all = (query, inside = document) => Array.from(inside.querySelectorAll(query));
 const visible = new Map();
 const shown = element => {
-  if (!visible.has(element)) visible.set(element, element.checkVisibility({checkOpacity: true, checkVisibilityCSS: true}) && element.getBoundingClientRect().width > 1);
+  if (!visible.has(element)) visible.set(element, element.checkVisibility({checkOpacity: true, checkVisibilityCSS: true})
+      && element.getBoundingClientRect().width > 1);
   return visible.get(element);
 };
 
@@ -41,7 +42,8 @@ for (const table of all("table")) {
   const widest = Math.max(0, ...Array.from(table.rows).map(columns));
   for (const row of table.rows) if (columns(row) > widest) fault("a row that is too long", row);
 }
-for (const area of all(".scroll")) if (area.scrollWidth > area.clientWidth + 1 && area.tabIndex < 0) fault("an area that scrolls and cannot be reached by keys", area);
+for (const area of all(".scroll")) if (area.scrollWidth > area.clientWidth + 1 && area.tabIndex < 0)
+    fault("an area that scrolls and cannot be reached by keys", area);
 const drawings = all("svg").filter(svg => svg.getAttribute("role") === "img");
 for (const svg of all("svg")) {
   if (svg.getAttribute("aria-hidden") === "true" || svg.closest("[aria-hidden=true]")) continue;
@@ -55,7 +57,8 @@ for (const svg of all("svg")) {
 const page = document.scrollingElement;
 if (page.scrollWidth > page.clientWidth + 1) {
   const scrolls = element => element && (getComputedStyle(element).overflowX !== "visible" || scrolls(element.parentElement));
-  const wide = all("body *").filter(element => shown(element) && element.getBoundingClientRect().right > page.clientWidth + 1 && !scrolls(element.parentElement));
+  const wide = all("body *").filter(element => shown(element) && element.getBoundingClientRect().right > page.clientWidth + 1
+      && !scrolls(element.parentElement));
   fault("the page is wider than the window by " + (page.scrollWidth - page.clientWidth), wide.pop());
 }
 for (const element of all("body *")) {
@@ -70,13 +73,15 @@ for (const svg of drawings) {
   const frame = svg.getBoundingClientRect();
   const texts = all("text", svg).filter(text => text.textContent.trim()).map(text => ({text, box: text.getBoundingClientRect()}));
   for (const {text, box} of texts)
-    if (box.left < frame.left - 1 || box.right > frame.right + 1 || box.top < frame.top - 2 || box.bottom > frame.bottom + 2) fault("a text outside of its drawing", text);
+    if (box.left < frame.left - 1 || box.right > frame.right + 1 || box.top < frame.top - 2 || box.bottom > frame.bottom + 2)
+        fault("a text outside of its drawing", text);
   for (let i = 0; i < texts.length; i++)
     for (let k = i + 1; k < texts.length; k++) {
       const one = texts[i].box, other = texts[k].box;
       const across = Math.min(one.right, other.right) - Math.max(one.left, other.left);
       const down = Math.min(one.bottom, other.bottom) - Math.max(one.top, other.top);
-      if (across > 0.5 && down > 0.3 * Math.min(one.height, other.height)) fault("two texts on each other: " + texts[i].text.textContent + " / " + texts[k].text.textContent, texts[i].text);
+      if (across > 0.5 && down > 0.3 * Math.min(one.height, other.height))
+          fault("two texts on each other: " + texts[i].text.textContent + " / " + texts[k].text.textContent, texts[i].text);
     }
 }
 
@@ -107,7 +112,8 @@ const filled = new Map();
 const shapes = svg => {
   if (!filled.has(svg)) {
     const found = all("rect, polygon, path, circle, ellipse", svg).filter(shape => !shape.closest("defs, pattern, clipPath"));
-    filled.set(svg, found.map(shape => ({shape, area: shape.getBoundingClientRect(), fill: parts(getComputedStyle(shape).fill)})).filter(({fill}) => opaque(fill)));
+    filled.set(svg, found.map(shape => ({shape, area: shape.getBoundingClientRect(), fill: parts(getComputedStyle(shape).fill)}))
+        .filter(({fill}) => opaque(fill)));
   }
   return filled.get(svg);
 };
@@ -116,7 +122,8 @@ const beneath = (text, svg) => {
   let found = null;
   const x = box.left + box.width / 2, y = box.top + box.height / 2;
   for (const {shape, area, fill} of shapes(svg)) {
-    if (x < area.left || x > area.right || y < area.top || y > area.bottom || !(shape.compareDocumentPosition(text) & Node.DOCUMENT_POSITION_FOLLOWING)) continue;
+    if (x < area.left || x > area.right || y < area.top || y > area.bottom
+        || !(shape.compareDocumentPosition(text) & Node.DOCUMENT_POSITION_FOLLOWING)) continue;
     if (shape.isPointInFill(new DOMPoint(x, y).matrixTransform(shape.getScreenCTM().inverse()))) found = fill;
   }
   return found || behind(svg);

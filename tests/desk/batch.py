@@ -102,9 +102,11 @@ def content(folder, found):
         same = [int(text.replace(".", "")) for text in ends] == list(told[4:]) and line["verdict"] == lines.VERDICTS[told[2]] and int(line["rows"]) == told[3]
         same = same and (int(line["R numerator"]), int(line["R denominator"])) == (r, of)
         same = same and 0 <= Fraction(line["R"]) - Fraction(r, of) < Fraction(1, BILLION)
-        for name, at, mark in (("A", 4, Fraction(r, of)), ("As", 6, Fraction(part, part_of)), ("Ap", 8, Fraction(part, part_of)), ("Al", 10, Fraction(part, part_of))):
+        for name, at, mark in (("A", 4, Fraction(r, of)), ("As", 6, Fraction(part, part_of)),
+                ("Ap", 8, Fraction(part, part_of)), ("Al", 10, Fraction(part, part_of))):
             wanted, cell = margin(told[at], told[at + 1], mark), line["margin " + name]
-            same = same and (cell == "" if wanted is None else cell != "" and Fraction(cell) == wanted and cell.startswith("-") == (told[at + 1] < mark * BILLION))
+            same = same and (cell == "" if wanted is None else cell != "" and Fraction(cell) == wanted
+                    and cell.startswith("-") == (told[at + 1] < mark * BILLION))
         wrong += not same
     tally.same(wrong, 0, "lines that are not the library's")
 
@@ -177,14 +179,16 @@ def resumed(folder, out, before):
     tally.that(0 < kept < len(before), "some lines are kept")
     with open(part, "ab") as there:
         there.write(b"part 5/ship-005.case,meets,0.1")  # cut off in the middle
-    changed = next(line["file"] for line in csv.DictReader(io.StringIO(",".join(lines.HEADINGS) + ",stamp\n" + part.read_text(errors="surrogateescape").split("\n", 1)[1]))
+    changed = next(line["file"] for line in csv.DictReader(
+            io.StringIO(",".join(lines.HEADINGS) + ",stamp\n" + part.read_text(errors="surrogateescape").split("\n", 1)[1]))
                    if line["file"].startswith("part") and line["verdict"] != "error")  # fmt: skip
     (folder / changed).write_bytes((ROOT / "examples/printed.case").read_bytes())
     handed, share_out = counted_work()
     status, said, found = run(folder, out)
     batch.crew.share_out = share_out
     tally.same(status, 0, "the run that goes on")
-    tally.that(len(before) - kept <= len(handed) <= len(before) - kept + 10, "it does what was not done, what has changed and what could not be read", len(handed), kept)
+    tally.that(len(before) - kept <= len(handed) <= len(before) - kept + 10,
+            "it does what was not done, what has changed and what could not be read", len(handed), kept)
     tally.that("from a run before" in said, "it says how many lines were taken over", said)
     tally.same([line for line in found if line["file"] != changed], [line for line in before if line["file"] != changed], "the result is the same")
     tally.same(next(line["A lower"] for line in found if line["file"] == changed), "0.874789561", "but for the file that was changed")
@@ -214,7 +218,8 @@ def ended(folder, out, before):
     _, _, found = run(folder, out)
     lines.Lines.judged = judged
     differ = [line for line, old in zip(found, before) if line != old]
-    tally.that(len(found) == len(before) and [line["file"][-13:] for line in differ] == ["ship-101.case"], "the other files of a process that is ended have their lines", differ[:3])
+    tally.that(len(found) == len(before) and [line["file"][-13:] for line in differ] == ["ship-101.case"],
+            "the other files of a process that is ended have their lines", differ[:3])
     tally.that(differ and "was ended" in differ[0]["error"], "what happened to it is told", differ[:1])
 
 
@@ -234,11 +239,13 @@ def from_outside(folder, out):
         pass  # the terminal's other end is closed
     os.close(ours)
     tally.same(ran.wait(), 0, "on a terminal")
-    tally.that(b" of 412, " in shown and b" a second, " in shown and b" left" in shown and b"\rdesk: [" in shown, "a terminal gets a progress bar", shown[-300:])
+    tally.that(b" of 412, " in shown and b" a second, " in shown and b" left" in shown and b"\rdesk: [" in shown,
+            "a terminal gets a progress bar", shown[-300:])
     (folder / "none").mkdir()
     for what, words, said in (
         ("an empty folder", [folder / "none", "-o", out], b"has no workbook"), ("no folder", [folder / "nowhere", "-o", out], b"is no folder"),
-        ("a result that is a folder", [folder, "-o", folder], b"to a file"), ("a result in no folder", [folder, "-o", folder / "nowhere" / "r.csv"], b"cannot be written"),
+        ("a result that is a folder", [folder, "-o", folder], b"to a file"),
+                ("a result in no folder", [folder, "-o", folder / "nowhere" / "r.csv"], b"cannot be written"),
     ):  # fmt: skip
         ran = subprocess.run([str(ROOT / "desk"), "batch", *map(str, words)], stderr=subprocess.PIPE, check=False)
         tally.that(ran.returncode == 2 and said in ran.stderr and b"Traceback" not in ran.stderr, what, ran.stderr)

@@ -9,6 +9,7 @@ import subprocess
 import sys
 import tempfile
 import time
+from dataclasses import replace
 from pathlib import Path
 
 sys.path.insert(0, str(Path(__file__).resolve().parent))
@@ -88,12 +89,13 @@ def written(scratch):
     """The files that are sent."""
     ferry = casefile.parse((EXAMPLES / (FERRY + ".case")).read_bytes())
     sheets = tables.sheets_of(ferry)
-    files = {"ferry.xlsx": binding.bound(sheets), "not a workbook.xlsx": b"nothing of the kind", "large.xlsx": b"PK\x03\x04" + b"\0" * 5_000_000, **commas.written(sheets)}
+    files = {"ferry.xlsx": binding.bound(sheets), "not a workbook.xlsx": b"nothing of the kind", "large.xlsx": b"PK\x03\x04" + b"\0" * 5_000_000,
+            **commas.written(sheets)}
     bad = dict(sheets)
     table = sheets["cases"]
     at = table.headings.index("range deg, partial")
     rows = [(number, tuple(1605 if (number, place) == (14, at) else cell for place, cell in enumerate(cells))) for number, cells in table.rows]
-    bad["cases"] = table._replace(rows=tuple(rows)) if hasattr(table, "_replace") else type(table)(table.name, table.headings, tuple(rows))
+    bad["cases"] = replace(table, rows=tuple(rows))
     files["hundredths.xlsx"] = binding.bound(bad)
     for name, content in files.items():
         (scratch / name).write_bytes(content)
@@ -118,7 +120,8 @@ def uploads(browser):
     tally.that("0.487529" in text, "a case file: its report", text[:300])
     download(browser)
     text = browser.send(scratch / "hundredths.xlsx")
-    tally.that('cases, row 14, "range deg, partial": ' in text and "1605" in text and "hundredths" in text, "a bad table is told by sheet, row and heading", text)
+    tally.that('cases, row 14, "range deg, partial": ' in text and "1605" in text and "hundredths" in text,
+            "a bad table is told by sheet, row and heading", text)
     browser.audit("the page of a bad table")
     browser.look(NARROW, "dark")
     browser.audit("the page of a bad table, narrow and dark")
@@ -139,7 +142,8 @@ def download(browser):
     saved, until = folder / "printed.html", time.monotonic() + 10
     while not saved.exists() and time.monotonic() < until:
         time.sleep(0.05)
-    tally.that(saved.exists() and "Another file" not in saved.read_text() and "0.874789561" in saved.read_text(), "the report is downloaded", list(folder.glob("*")))
+    tally.that(saved.exists() and "Another file" not in saved.read_text() and "0.874789561" in saved.read_text(),
+            "the report is downloaded", list(folder.glob("*")))
 
 
 def keyboard(driver, steps, what):
@@ -159,11 +163,13 @@ def keyboard(driver, steps, what):
 def reports(browser):
     """The reports of ships that fail, meet and are unsettled, light, dark, narrow and on paper."""
     for name, looks in (
-        (FERRY, ("light", "dark", "narrow", "paper")), ("container-ship", ("light", "narrow", "paper")), ("reefer", ("light", "dark")), ("printed", ("light", "narrow")),
+        (FERRY, ("light", "dark", "narrow", "paper")), ("container-ship", ("light", "narrow", "paper")), ("reefer", ("light", "dark")),
+                ("printed", ("light", "narrow")),
         ("day-boat", ("light", "narrow")),
     ):  # fmt: skip
         page = browser.scratch / (name + ".html")
-        subprocess.run([str(ROOT / "desk"), "report", str(EXAMPLES / (name + ".case")), "-o", str(page), "--licensed-slip"], stdout=subprocess.DEVNULL, check=False)
+        subprocess.run([str(ROOT / "desk"), "report", str(EXAMPLES / (name + ".case")), "-o", str(page), "--licensed-slip"],
+                stdout=subprocess.DEVNULL, check=False)
         browser.look()
         browser.driver.get(page.as_uri())
         browser.driver.execute_script("for (const part of document.querySelectorAll('details')) part.open = true")
@@ -185,8 +191,10 @@ FAULTY = """<!DOCTYPE html><html><head><title> </title></head><body style="backg
 <svg role="img" viewBox="0 0 100 40" width="400"><title>t</title><desc>d</desc><rect width="100" height="40" fill="#666"/><text x="10" y="20">first</text>
 <text x="14" y="22">second</text></svg><script></script></main></body></html>"""
 FOUND = (
-    "no language", "no title", "headings of the first level: 2", "a heading that skips a level", "something that is loaded or run", "an id twice: p", "a link that leads nowhere",
-    "a link without text", "aria-labelledby of nothing", "an input without a label", "a button without text", "a table without a caption", "a table without headings",
+    "no language", "no title", "headings of the first level: 2", "a heading that skips a level", "something that is loaded or run", "an id twice: p",
+            "a link that leads nowhere",
+    "a link without text", "aria-labelledby of nothing", "an input without a label", "a button without text", "a table without a caption",
+            "a table without headings",
     "a heading of a table without its scope", "an area that scrolls and cannot be reached", "a drawing that is not said to be one", "a drawing without a title",
     "a drawing without a description", "the page is wider than the window", "text that is cut off", "a text outside of its drawing", "two texts on each other",
     "contrast 3.5", "contrast 3.66",
@@ -224,7 +232,8 @@ def pictures(browser, folder):
     browser.look()
     browser.driver.get(page.as_uri())
     folder.mkdir(parents=True, exist_ok=True)
-    for name, first, last in (("report.png", "main > :first-child", "main > figure"), ("zones.png", "#zones, [aria-labelledby=zones]", "#zones, [aria-labelledby=zones]")):
+    for name, first, last in (("report.png", "main > :first-child", "main > figure"),
+            ("zones.png", "#zones, [aria-labelledby=zones]", "#zones, [aria-labelledby=zones]")):
         ends = browser.driver.execute_script(
             "const f = document.querySelector(arguments[0]), l = document.querySelector(arguments[1]);"
             "return f && l ? [f.getBoundingClientRect().top + scrollY, l.getBoundingClientRect().bottom + scrollY] : null", first, last)

@@ -3,6 +3,7 @@
 import dataclasses
 import os
 import re
+import resource
 import shutil
 import signal
 import subprocess
@@ -23,7 +24,8 @@ tally = Tally()
 
 def desk(*words, stdin=None, program=(str(ROOT / "desk"),), **more):
     """Exit status, standard output and standard error."""
-    run = subprocess.run([*program, *map(str, words)], input=stdin, stdin=None if stdin is not None else subprocess.DEVNULL, stdout=subprocess.PIPE, stderr=subprocess.PIPE, **more)
+    run = subprocess.run([*program, *map(str, words)], input=stdin, stdin=None if stdin is not None else subprocess.DEVNULL,
+            stdout=subprocess.PIPE, stderr=subprocess.PIPE, **more)
     return run.returncode, run.stdout.decode(), run.stderr.decode()
 
 
@@ -50,7 +52,8 @@ def helps():
 
 def statuses(folder):
     for name, status, words in (
-        ("printed", 0, "printed.case meets the required index."), ("timber-carrier", 1, "does not meet"), ("reefer", 3, "unsettled"), ("container-ship", 0, "Warning: ")
+        ("printed", 0, "printed.case meets the required index."), ("timber-carrier", 1, "does not meet"), ("reefer", 3, "unsettled"),
+                ("container-ship", 0, "Warning: ")
     ):  # fmt: skip
         found, out, err = desk("report", EXAMPLES / (name + ".case"))
         tally.same(found, status, "%s: exit status" % name)
@@ -104,6 +107,13 @@ def cannot_write(folder):
     told("two outputs to one file", ["report", case, "-o", folder / "one", "--csv", folder / "one"], 2, "is named twice")
     kept.unlink()
     tally.same(sorted(folder.iterdir()), there, "nothing is left behind")
+    old = folder / "old.html"
+    old.write_text("old")
+    told("a disk that is full in the middle", ["report", case, "-o", old], 2, "old.html cannot be written: file too large.",
+         preexec_fn=lambda: resource.setrlimit(resource.RLIMIT_FSIZE, (20_000, 20_000)))  # fmt: skip
+    tally.same(old.read_text(), "old", "what was there before is left as it was")
+    old.unlink()
+    tally.same(sorted(folder.iterdir()), there, "nothing is left behind in the middle either")
     if os.path.exists("/dev/full"):
         told("a full device", ["report", case, "-o", "/dev/full"], 2, "/dev/full cannot be written: no space left on device.")
 
@@ -115,7 +125,8 @@ def cannot_read(folder):
     _, err = told("a folder without sheets", ["case", folder / "empty"], 2)
     tally.same(err.count("desk: "), 1, "the program's name stands before the first mistake alone")
     unforeseen()
-    told("a library that is not there", ["report", EXAMPLES / "printed.case"], 2, "There is no file /none/lib.so.", env={**os.environ, "DAMINDEX_LIBRARY": "/none/lib.so"})
+    told("a library that is not there", ["report", EXAMPLES / "printed.case"], 2, "There is no file /none/lib.so.",
+            env={**os.environ, "DAMINDEX_LIBRARY": "/none/lib.so"})
 
 
 def unforeseen():
@@ -130,7 +141,8 @@ def unforeseen():
         enquiry.asked(engine.load(), "coaster.xlsx", b"")
         tally.that(False, "rows out of order are refused")
     except Mistakes as mistakes:
-        tally.that(re.fullmatch(r"cases, row \d+: the library refuses .*refusal 8, line 3 .*a defect of the desk\.", str(mistakes)), "an unforeseen refusal", mistakes)
+        tally.that(re.fullmatch(r"cases, row \d+: the library refuses .*refusal 8, line 3 .*a defect of the desk\.", str(mistakes)),
+                "an unforeseen refusal", mistakes)
     finally:
         enquiry.intake.read = read
 
@@ -194,13 +206,15 @@ def surroundings(folder):
     told("an old Python", [], 2, "desk: this is Python 3.9, and 3.11 or later is asked for.", program=["/usr/bin/python3", "-I", "-c", old, str(ROOT / "desk")])
 
     def without(package):
-        return ["/usr/bin/python3", "-I", "-c", "import sys; sys.dont_write_bytecode = True; sys.modules[%r] = None; sys.path.insert(0, %r); from frontdesk.command import main; "
+        return ["/usr/bin/python3", "-I", "-c",
+                "import sys; sys.dont_write_bytecode = True; sys.modules[%r] = None; sys.path.insert(0, %r); from frontdesk.command import main; "
                 "sys.exit(main())" % (package, str(ROOT))]  # fmt: skip
 
     told("no Jinja2", ["report", case, "-o", folder / "j.html"], 2, "Jinja2 is not installed", "python3-jinja2", "pyproject.toml", program=without("jinja2"))
     tally.same(desk("report", case, program=without("jinja2"))[0], 0, "no Jinja2: the verdict alone")
     told("no openpyxl, a workbook", ["report", folder / "printed.xlsx"], 2, "openpyxl", "python3-openpyxl", program=without("openpyxl"))
-    told("no openpyxl, the case table as a workbook", ["report", case, "--xlsx", folder / "o.xlsx"], 2, "openpyxl", "python3-openpyxl", program=without("openpyxl"))
+    told("no openpyxl, the case table as a workbook", ["report", case, "--xlsx", folder / "o.xlsx"], 2, "openpyxl", "python3-openpyxl",
+            program=without("openpyxl"))
     tally.same(desk("report", folder / "paper-carrier", "-o", folder / "o.html", program=without("openpyxl"))[0], 1, "no openpyxl: CSV files")
     names = (ROOT / "packages.txt").read_text()
     tally.that("python3-openpyxl" in names and "python3-jinja2" in names, "packages.txt names both")

@@ -101,16 +101,19 @@ def entries(coaster, bulk):
     tally.same([doubt.text for doubt in doubted(lost) if "degree" in doubt.text], [], "where every case is lost there is no range to doubt")
     at = first.place - 2
     far = with_row(coaster, at, results=(first.results[0]._replace(lever=2_001), *first.results[1:]))
-    warns("a lever far above all others", far, "A lever of 2.001 m", "cases, row %d" % first.place, with_row(coaster, at, results=(first.results[0]._replace(lever=2_000), *first.results[1:])))
+    warns("a lever far above all others", far, "A lever of 2.001 m", "cases, row %d" % first.place,
+            with_row(coaster, at, results=(first.results[0]._replace(lever=2_000), *first.results[1:])))
     ferry = ship_of("night-ferry")
     stage = ferry.rows[3].floodings
-    warns("a lever of an intermediate stage", with_row(ferry, 3, floodings=(stage[0], stage[1]._replace(lever=5_000), stage[2])), "A lever of 5.000 m", "cases, row 5", ferry)
+    warns("a lever of an intermediate stage", with_row(ferry, 3, floodings=(stage[0], stage[1]._replace(lever=5_000), stage[2])),
+            "A lever of 5.000 m", "cases, row 5", ferry)
     same = small(rows=[replace(given(zone, 1, 1_000, 18_500, zone + 1), given=(), results=(Result(100, 1_500, 0, 500),) * 3) for zone in range(1, 5)])
     warns("equal results", same, "All 4 rows have the same results", "cases, row 2", with_row(same, 3, results=(Result(100, 1_500, 0, 501),) * 3))
     tally.same([doubt.text for doubt in doubted(replace(same, rows=same.rows[:3])) if "All" in doubt.text], [], "three rows may be equal")
     none = changed(coaster, lambda result: result._replace(opening=NO_OPENING))
     afloat = next(row for row in coaster.rows if any(result.lever for result in row.results))
-    some = with_row(none, afloat.place - 2, results=tuple(result._replace(opening=29_999 if result.lever else NO_OPENING) for result in none.rows[afloat.place - 2].results))
+    some = with_row(none, afloat.place - 2, results=tuple(result._replace(opening=29_999 if result.lever else NO_OPENING)
+            for result in none.rows[afloat.place - 2].results))
     warns("no opening", none, "No row has an opening", "cases, row %d" % afloat.place, some)
     upright = changed(bulk, lambda result: result._replace(heel=0))
     wing = next(row for row in bulk.rows if row.depth < bulk.half_breadth and any(result.lever for result in row.results))
@@ -140,7 +143,8 @@ def examples():
     for name, data in BY_NAME.items():
         ship = casefile.parse(data, name)
         found = doubted(ship)
-        tally.same(["less than one" in doubt.text and "and 31 more" in doubt.text for doubt in found], [True] if name == "container-ship" else [], "%s: its doubts" % name)
+        tally.same(["less than one" in doubt.text and "and 31 more" in doubt.text for doubt in found],
+                [True] if name == "container-ship" else [], "%s: its doubts" % name)
     plain = replace(ship_of("coaster"), light=5_400, source=Source())
     tally.same([str(doubt)[:30] for doubt in doubted(plain)], ["line 1: The light draught is t"], "a case file has lines and no sheets")
 

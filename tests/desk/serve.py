@@ -62,7 +62,8 @@ def form(files, fields=()):
     parts = []
     for name, content in files:
         name = name.replace('"', "%22")
-        parts.append(b'Content-Disposition: form-data; name="file"; filename="%s"\r\nContent-Type: application/octet-stream\r\n\r\n%s' % (name.encode(), content))
+        parts.append(b'Content-Disposition: form-data; name="file"; filename="%s"\r\nContent-Type: application/octet-stream\r\n\r\n%s'
+                % (name.encode(), content))
     parts += [b'Content-Disposition: form-data; name="%s"\r\n\r\n%s' % (name.encode(), text.encode()) for name, text in dict(fields).items()]
     body = b"".join(b"--%s\r\n%s\r\n" % (mark.encode(), part) for part in parts) + b"--%s--\r\n" % mark.encode()
     return "multipart/form-data; boundary=" + mark, body
@@ -83,8 +84,10 @@ def good(server, sheets, library):
         wanted = enquiry.asked(library, name, source).page
         status, headers, download = server.ask("GET", path + "/download")
         tally.that(status == 200 and download == wanted, "%s: the download is the command line's report" % name)
-        tally.that('attachment; filename="' in headers.get("Content-Disposition", "") and headers["Content-Disposition"].split('"')[1].endswith(".html"), "it has a file's name")
-        tally.that(page.replace(serve.BAR, "").replace(re.search(r"<nav class=\"around\".*?</nav>\n?", page, re.S).group(), "") == wanted, "%s: the page is the same with a bar" % name)
+        tally.that('attachment; filename="' in headers.get("Content-Disposition", "")
+                and headers["Content-Disposition"].split('"')[1].endswith(".html"), "it has a file's name")
+        tally.that(page.replace(serve.BAR, "").replace(re.search(r"<nav class=\"around\".*?</nav>\n?", page, re.S).group(), "") == wanted,
+                "%s: the page is the same with a bar" % name)
         tally.that('href="%s/download"' % path in page and 'href="/"' in page, "the bar leads to the download and back")
         tally.same(server.ask("GET", path + "/case")[2].encode(), case, "%s: its case file" % name)
     page, _ = server.shown([("timber.case", case)], {"licensed-slip": "yes"})
@@ -104,7 +107,8 @@ def wrong(server, sheets, library):
     for what, files, source in (
         ("no workbook at all", [("notes.docx", b"\x00\x01 nothing")], b"\x00\x01 nothing"), ("a bad table", list(bad.items()), bad),
         ("a workbook cut off", [("cut.xlsx", book[:3000])], book[:3000]), ("an empty file", [("empty.case", b"")], b""),
-        ("a refused case file", [("bad.case", b"01\n")], b"01\n"), ("a PDF", [("a.pdf", b"%PDF-1.4")], b"%PDF-1.4"), ("one CSV file", [("ship.csv", bad["ship.csv"])], bad["ship.csv"]),
+        ("a refused case file", [("bad.case", b"01\n")], b"01\n"), ("a PDF", [("a.pdf", b"%PDF-1.4")], b"%PDF-1.4"),
+                ("one CSV file", [("ship.csv", bad["ship.csv"])], bad["ship.csv"]),
     ):  # fmt: skip
         name = files[0][0] if len(files) == 1 else "CSV files"
         try:
@@ -159,7 +163,8 @@ def refused(server):
 def huge_is_not_read(server):
     """An upload that says it has a gigabyte is answered before it comes."""
     with socket.create_connection(("127.0.0.1", server.port), timeout=10) as plain:
-        plain.sendall(b"POST /report HTTP/1.1\r\nHost: 127.0.0.1:%d\r\nContent-Type: multipart/form-data; boundary=x\r\nContent-Length: 1000000000\r\n\r\n" % server.port)
+        plain.sendall(b"POST /report HTTP/1.1\r\nHost: 127.0.0.1:%d\r\nContent-Type: multipart/form-data; boundary=x\r\nContent-Length: 1000000000\r\n\r\n"
+                % server.port)
         begun, answer = time.monotonic(), plain.recv(1 << 16)
         tally.that(answer.startswith(b"HTTP/1.1 413") and time.monotonic() - begun < 5, "too large is told before it is read", answer[:60])
 
@@ -203,7 +208,8 @@ def gone(server):
     path = server.send([("container.case", (EXAMPLES / "container-ship.case").read_bytes())])[1]["Location"]
     kind, body = form([("a.case", b"01\n" * 300_000)])
     for request in (b"GET %s HTTP/1.1\r\nHost: 127.0.0.1:%d\r\n\r\n" % (path.encode(), server.port),
-                    b"POST /report HTTP/1.1\r\nHost: 127.0.0.1:%d\r\nContent-Type: %s\r\nContent-Length: %d\r\n\r\n" % (server.port, kind.encode(), len(body)) + body[:200_000]):  # fmt: skip
+                    b"POST /report HTTP/1.1\r\nHost: 127.0.0.1:%d\r\nContent-Type: %s\r\nContent-Length: %d\r\n\r\n"
+                            % (server.port, kind.encode(), len(body)) + body[:200_000]):  # fmt: skip
         for _ in range(4):
             with socket.create_connection(("127.0.0.1", server.port), timeout=10) as plain:
                 plain.setsockopt(socket.SOL_SOCKET, socket.SO_LINGER, b"\1\0\0\0\0\0\0\0")

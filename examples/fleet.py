@@ -168,8 +168,8 @@ BULKHEAD_DECK = 9.0
 UNDER_THE_GARAGE = {"decks": (BULKHEAD_DECK,), "garage": BULKHEAD_DECK}
 LOWER_HOLD = {**UNDER_THE_GARAGE, "tanks": (5.04,), "hold": "lower hold", "vehicles": True, "permeability": VEHICLES}
 
-RO_PAX_FERRY = Ship(
-    name="ro-pax-ferry", what="ro-ro passenger ferry, 158.4 m", verdict="fails", heeled="boats", turned=("heeling moments", "ro-ro marks"),
+FERRY = Ship(
+    name="ferry", what="ro-ro passenger ferry, 158.4 m", verdict="fails", heeled="boats", turned=("heeling moments", "ro-ro marks"),
     shows="A reaches R, and the ship fails all the same: at the deepest draught As is below 0.9 R, for its ro-ro space and for its boats",
     length=158.4, breadth=25.2, depth=13.8, deepest=6.0, light=5.2, block=0.6, gm=(2.6, 3.4, 3.8), vents=14.56,
     people=People(in_lifeboats=960, in_excess=120, passengers=1000, side=26.0, boats=4, boat=16.0, davit=15.4),
@@ -257,6 +257,6 @@ NIGHT_FERRY_2020 = NIGHT_FERRY._replace(
 )
 
 FLEET = (
-    COASTER, BULK_CARRIER, CONTAINER_SHIP, HEAVY_LIFT, TIMBER_CARRIER, REEFER, LIVESTOCK_CARRIER, PAPER_CARRIER, RO_PAX_FERRY, DAY_BOAT, CRUISE_SHIP,
+    COASTER, BULK_CARRIER, CONTAINER_SHIP, HEAVY_LIFT, TIMBER_CARRIER, REEFER, LIVESTOCK_CARRIER, PAPER_CARRIER, FERRY, DAY_BOAT, CRUISE_SHIP,
     NIGHT_FERRY, NIGHT_FERRY_2020,
 )

@@ -12,7 +12,7 @@ HERE = Path(__file__).resolve().parent
 ROOT = HERE.parent
 sys.path[:0] = [str(HERE), str(ROOT / "tests")]
 
-from fleet import CRUISE_SHIP, DAY_BOAT, FLEET, NIGHT_FERRY, NIGHT_FERRY_2020, PAPER_CARRIER, RO_PAX_FERRY  # noqa: E402
+from fleet import CRUISE_SHIP, DAY_BOAT, FERRY, FLEET, NIGHT_FERRY, NIGHT_FERRY_2020, PAPER_CARRIER  # noqa: E402
 from independent import answer, reading  # noqa: E402
 from independent.regulation import group_share, marks, row_s_fourth, s_final_fourth, s_fourth, s_intermediate_fourth, s_mom  # noqa: E402
 from heeling import MOMENTS, displacement, greatest, moment  # noqa: E402
@@ -300,7 +300,7 @@ def rule_faults():
 
 def counted():
     """What README.md counts of the passenger ships beside its tables, in its own words."""
-    rows = reading(made(RO_PAX_FERRY)).rows
+    rows = reading(made(FERRY)).rows
     marked = [row for row in rows if all(stage.roro for stage in row.stages)]
     yield f"has {len(rows)} rows, and {len(marked)} of them have the ro-ro mark, at all three draughts"
     yield f"The other {sum(not any(stage.roro for stage in row.stages) for row in rows)} go by 120 mm and 16 degrees."

@@ -2,14 +2,14 @@
 
 from .answering import Answer, answer, answer_to_case
 from .casefile import Case, Hull, Refusal, Result, Row, Stage, reading
-from .printing import exact_text, figures, printed, row_numbers, rows_text, total_text
+from .printing import exact_text, figures, group_numbers, groups_text, printed, required_of, required_text, row_numbers, rows_text, total_text
 from .rounding import Ends
 from .settling import settled_text
 
 __all__ = [
     "Answer", "Case", "Ends", "Hull", "Refusal", "Result", "Row", "Stage",
-    "answer", "answer_to_case", "exact_text", "figures", "judge", "printed", "reading", "row_numbers", "rows_text", "run", "settled_text",
-    "total_text",
+    "answer", "answer_to_case", "exact_text", "figures", "group_numbers", "groups_text", "judge", "printed", "reading", "required_of",
+    "required_text", "row_numbers", "rows_text", "run", "settled_text", "total_text",
 ]
 
 

@@ -6,7 +6,7 @@ from pathlib import Path
 
 sys.path.insert(0, str(Path(__file__).resolve().parent.parent))
 
-from independent import answer, exact_text, figures, printed, reading, rows_text, settled_text, total_text  # noqa: E402
+from independent import answer, exact_text, figures, groups_text, printed, reading, required_text, rows_text, settled_text, total_text  # noqa: E402
 
 
 def whole_number(text):
@@ -24,7 +24,9 @@ def arguments():
     form = parser.add_mutually_exclusive_group()
     form.add_argument("--exact", action="store_true", help="the exact figures as fractions")
     form.add_argument("--figures", action="store_true", help="the answer as decimal numbers, one a line")
-    form.add_argument("--rows", action="store_true", help="each row's bottom, top and mark byte at the three draughts, a row a line")
+    form.add_argument("--rows", action="store_true", help="each row's share, and at the three draughts v, bottom, top, mark byte and what it adds, a row a line")
+    form.add_argument("--required", action="store_true", help="R, and the mark of a partial index, numerator and denominator a line")
+    form.add_argument("--groups", action="store_true", help="the share of every group of the hull down to B/2, a group a line")
     form.add_argument("--settle", action="store_true", help="whether an unsettled ship meets or fails, with the roots to more places")
     form.add_argument("--total", action="store_true", help="the total chance of the listed groups, and the groups that are not listed")
     return parser.parse_args()
@@ -45,6 +47,10 @@ def main():
         text = settled_text(reading(data))
     elif asked.total:
         text = total_text(reading(data))
+    elif asked.required:
+        text = required_text(reading(data))
+    elif asked.groups:
+        text = groups_text(reading(data))
     elif asked.rows:
         text = rows_text(answer(data))
     elif asked.figures:

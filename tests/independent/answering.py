@@ -1,9 +1,9 @@
-"""The answer to a case file: refusal or verdict, the ends of A, As, Ap and Al, and each row's share and survivals."""
+"""The answer to a case file: refusal or verdict, the ends of A, As, Ap and Al, and each row's share, heights, survivals and what it adds."""
 
 from typing import NamedTuple, Tuple
 
 from .casefile import Refusal, reading
-from .regulation import EARLIER_RULE, NO_MARKS, Marks, draughts, marks, passenger_marks, passenger_s_fourth, s_fourth, survival_marks
+from .regulation import EARLIER_RULE, NO_MARKS, Marks, draughts, marks, passenger_marks, passenger_s_fourth, row_v, s_fourth, survival_marks
 from .rounding import BILLION, Ends, added_ends, attained_ends, share_ends, sum_ends, survival_ends
 
 MEETS, FAILS, UNSETTLED = 1, 2, 3
@@ -18,7 +18,8 @@ class Survival(NamedTuple):
 
 
 class Answer(NamedTuple):
-    """Number and line of a refusal, verdict, the ends of A, As, Ap, Al, the rows' shares and their survivals by draught; zeros at a refusal."""
+    """Number and line of a refusal, verdict, the ends of A, As, Ap, Al, the rows' shares, and by draught their survivals, their v and what they add;
+    zeros and no rows at a refusal."""
 
     number: int
     line: int
@@ -26,6 +27,8 @@ class Answer(NamedTuple):
     ends: Tuple[Ends, ...]
     shares: Tuple[Ends, ...]
     survivals: Tuple[Tuple[Survival, ...], ...]
+    heights: Tuple[Tuple[int, ...], ...] = ()
+    added: Tuple[Tuple[Ends, ...], ...] = ()
 
     @property
     def rows(self):
@@ -60,11 +63,9 @@ def row_survival(row, draught):
     return lower_survival(row.results[draught], row.second[draught])
 
 
-def partial_ends(case, shares, survivals, draught):
-    """Height and survival: a partial index, the sum of what the rows add at one draught."""
-    d = draughts(case.hull.ds, case.hull.dl)[draught]
-    rows = zip(case.rows, shares, survivals)
-    return sum_ends([added_ends(share, row, d, three[draught].ends) for row, share, three in rows])
+def row_added(row, share, survivals, depths):
+    """Height and survival: what a row adds at each of the three draughts."""
+    return tuple(added_ends(share, row, d, survival.ends) for d, survival in zip(depths, survivals))
 
 
 def verdict_of(ends, L, persons=None, rule=EARLIER_RULE):
@@ -80,9 +81,12 @@ def answer_to_case(case):
     """Height and survival: the answer of an accepted file."""
     shares = tuple(share_ends(case.hull, row) for row in case.rows)
     survivals = tuple(tuple(row_survival(row, draught) for draught in range(3)) for row in case.rows)
-    partials = tuple(partial_ends(case, shares, survivals, draught) for draught in range(3))
+    depths = draughts(case.hull.ds, case.hull.dl)
+    heights = tuple(tuple(row_v(row, d) for d in depths) for row in case.rows)
+    added = tuple(row_added(row, share, three, depths) for row, share, three in zip(case.rows, shares, survivals))
+    partials = tuple(sum_ends([three[draught] for three in added]) for draught in range(3))
     ends = (attained_ends(*partials),) + partials
-    return Answer(0, 0, verdict_of(ends, case.hull.L, case.hull.persons, case.hull.rule), ends, shares, survivals)
+    return Answer(0, 0, verdict_of(ends, case.hull.L, case.hull.persons, case.hull.rule), ends, shares, survivals, heights, added)
 
 
 def answer(data, sheet=None):

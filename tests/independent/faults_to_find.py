@@ -130,8 +130,19 @@ FIGURES = [
     ("an immersed opening marks the lever too", "Marks(lever < 120, reach < 1_600, heel > 2_500,",
      "Marks(lever < 120 or opening < 0, reach < 1_600, heel > 2_500,"),
     ("the opening is marked where nothing else is", " opening < 0)", " opening < 0 and heel <= 2_500)"),
-    ("R changes its form a centimetre too late", "L > 10_000", "L > 10_001"),
+    ("R changes its form a centimetre too late", "if L > 10_000:", "if L > 10_001:"),
     ("a partial index must reach the whole of R", "(R(L), R(L) / 2, ", "(R(L), R(L), "),
+    # R as numbers, and the groups
+    ("R is reduced", "whole = required_denominator(L, persons, rule)", "whole = required.denominator"),
+    ("the mark of a partial index is reduced", "part = whole * (2 if persons is None else 10)", "part = partial.denominator"),
+    ("a passenger ship's mark is of twice R's denominator", "(2 if persons is None else 10)", "2"),
+    ("R of 2020 is of 758 millions", "37_900_000 if N", "758_000_000 if N"),
+    ("R of many persons is of 100,000 times what it is divided by", "800 * (N + 5_000)\n\n\ndef required_numbers", "100_000 * (N + 5_000)\n\n\ndef required_numbers"),
+    ("R as numbers changes its form a centimetre too late", "L + 15_200 if L > 10_000 else", "L + 15_200 if L > 10_001 else"),
+    ("groups come by their number of zones first", "[(a, n) for a in range(1, zones + 1) for n in range(1, zones - a + 2)]",
+     "[(a, n) for n in range(1, zones + 1) for a in range(1, zones - n + 2)]"),
+    ("the whole ship is no group", "for n in range(1, zones - a + 2)]", "for n in range(1, zones - a + 2) if n < zones]"),
+    ("groups of three zones are the longest", "for n in range(1, zones - a + 2)]", "for n in range(1, min(zones - a, 2) + 2)]"),
 ]
 
 ENDS = [
@@ -159,8 +170,11 @@ ENDS = [
     ("subtracted spans are rounded like the added", "lower -= q.upper\n            upper -= q.lower",
      "lower -= q.lower\n            upper -= q.upper"),
     ("a share is held at 0 after every term", "lower -= q.upper", "lower = max(lower - q.upper, 0)"),
-    ("a share's lower end is not held at 0", "max(lower, 0), min(", "lower, min("),
-    ("a share's upper end is not held at 10⁹", "min(upper, BILLION)", "upper"),
+    ("a share's lower end is not held at 0", "max(lower, 0), min(upper, BILLION))\n\n\ndef group", "lower, min(upper, BILLION))\n\n\ndef group"),
+    ("a share's upper end is not held at 10⁹", "min(upper, BILLION))\n\n\ndef group", "upper)\n\n\ndef group"),
+    ("a group's subtracted spans are rounded like the added", "hull.L, hull.B)[::sign]", "hull.L, hull.B)"),
+    ("a group's share goes down to B", "Q_ends(span, hull.B // 2,", "Q_ends(span, hull.B,"),
+    ("a group's lower end is not held at 0", "lower + sign * near, upper + sign * far\n    return Ends(max(lower, 0)", "lower + sign * near, upper + sign * far\n    return Ends(lower"),
     # Height and survival
     ("top is one above bottom at an exact root too", "bottom if reaches else bottom + 1", "bottom + 1"),
     ("a row's lower end is rounded after v too", "share.lower * height * survival.lower, whole",
@@ -190,7 +204,10 @@ ANSWER = [
      "survival_ends(s_fourth(*result))._replace(upper=survival_ends(s_fourth(*result[:3], 0)).upper)"),
     ("the marks of a row are those of the first", "(row_survival(row, draught) for draught in range(3))",
      "(row_survival(row, draught)._replace(marks=row_survival(case.rows[0], draught).marks) for draught in range(3))"),
-    ("every partial index stands at the deepest draught", "case.hull.dl)[draught]", "case.hull.dl)[0]"),
+    ("every partial index stands at the deepest draught", "depths = draughts(case.hull.ds, case.hull.dl)", "depths = draughts(case.hull.ds, case.hull.ds)"),
+    ("v is that of the deepest draught", "row_v(row, d) for d in depths", "row_v(row, depths[0]) for d in depths"),
+    ("v is not less that of the row below", "row_v(row, d) for d in depths", "row_v(row._replace(H_below=None), d) for d in depths"),
+    ("what a row adds is that of the first", "row_added(row, share, three, depths) for row", "row_added(case.rows[0], share, three, depths) for row"),
     ("the verdict meets by upper ends", "all(end.lower >= mark", "all(end.upper >= mark"),
     ("the verdict fails only where all fall short", "any(end.upper < mark", "all(end.upper < mark"),
     ("a sheet of just two numbers a row is short", "sheet < 2 * len(read.rows)", "sheet <= 2 * len(read.rows)"),
@@ -213,11 +230,28 @@ TEXT = [
     ("the draughts come light first", "for survival in survivals)", "for survival in survivals[::-1])"),
     ("the first row's marks are repeated", "row_line(*row) for row in zip(answer.shares, answer.survivals)",
      "row_line(share, answer.survivals[0]) for share in answer.shares"),
-    ("the nine numbers have top before bottom", "(survival.ends.lower, survival.ends.upper, mark", "(survival.ends.upper, survival.ends.lower, mark"),
-    ("the nine numbers have the marks first", "(survival.ends.lower, survival.ends.upper, mark_byte(survival.marks))",
-     "(mark_byte(survival.marks), survival.ends.lower, survival.ends.upper)"),
-    ("the nine numbers come draught by draught", "for three in answer.survivals for survival in three",
-     "for draught in range(3) for survival in [three[draught] for three in answer.survivals]"),
+    ("a row's numbers have top before bottom", "survival.ends.lower, survival.ends.upper, mark", "survival.ends.upper, survival.ends.lower, mark"),
+    ("a row's numbers have the marks first", "[height, survival.ends.lower, survival.ends.upper, mark_byte(survival.marks), ",
+     "[mark_byte(survival.marks), height, survival.ends.lower, survival.ends.upper, "),
+    ("a row's numbers have v last", "[height, survival.ends.lower, survival.ends.upper, mark_byte(survival.marks), added.lower, added.upper]",
+     "[survival.ends.lower, survival.ends.upper, mark_byte(survival.marks), added.lower, added.upper, height]"),
+    ("a row adds its upper end before its lower", "added.lower, added.upper]", "added.upper, added.lower]"),
+    ("a row adds its lower end twice", "added.lower, added.upper]", "added.lower, added.lower]"),
+    ("a row's share stands after its draughts", """\
+        told += share
+        for height, survival, added in zip(*threes):
+            told += [height, survival.ends.lower, survival.ends.upper, mark_byte(survival.marks), added.lower, added.upper]
+""", """\
+        for height, survival, added in zip(*threes):
+            told += [height, survival.ends.lower, survival.ends.upper, mark_byte(survival.marks), added.lower, added.upper]
+        told += share
+"""),
+    ("the draughts of a row's numbers come light first", "in zip(*threes):", "in list(zip(*threes))[::-1]:"),
+    ("a row's numbers are ten a line", "ROW_NUMBERS = 20", "ROW_NUMBERS = 10"),
+    ("R as numbers has no eye for the persons", "required_numbers(read.hull.L, read.hull.persons, read.hull.rule)", "required_numbers(read.hull.L)"),
+    ("R as numbers has no eye for the rule", "required_numbers(read.hull.L, read.hull.persons, read.hull.rule)", "required_numbers(read.hull.L, read.hull.persons)"),
+    ("groups come with their upper end first", "for end in group_share_ends(read.hull, a, n)]", "for end in group_share_ends(read.hull, a, n)[::-1]]"),
+    ("a listed group's share alone is told", "for a, n in groups(len(read.hull.zones)) for end", "for a, n in dict.fromkeys(row.group for row in read.rows) for end"),
     ("the total takes in groups that are not listed", "(shares[group] for group in listed)", "(shares[group] for group in shares)"),
     ("groups of no share are told as missing", "if share and (a, n) not in listed", "if (a, n) not in listed"),
     ("a group is told as missing though it is listed", "if share and (a, n) not in listed", "if share"),

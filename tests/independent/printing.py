@@ -1,12 +1,14 @@
-"""The text of an answer: the lines of the program damindex, the bare figures and rows, and the exact figures and total for reading."""
+"""The text of an answer: the lines of the program damindex, the numbers that the library lends, and the exact figures and total for reading."""
 
 from fractions import Fraction
 from math import floor
 
 from .casefile import Refusal
-from .regulation import WHOLE_SURVIVAL, WHOLE_V, draughts, group_share, marks as index_marks, row_s_fourth, row_share, row_v
+from .regulation import WHOLE_SURVIVAL, WHOLE_V, draughts, group_share, groups, marks as index_marks, required_numbers, row_s_fourth, row_share, row_v
+from .rounding import group_share_ends
 
 DRAUGHTS = ("deepest", "partial", "light")
+ROW_NUMBERS = 20
 
 
 def mark_byte(marks):
@@ -37,17 +39,49 @@ def figures(answer):
 
 
 def row_numbers(answer):
-    """The rows' survivals, nine numbers a row: bottom, top and mark byte at the deepest, the partial and the light draught; none at a refusal."""
-    return [number for three in answer.survivals for survival in three
-            for number in (survival.ends.lower, survival.ends.upper, mark_byte(survival.marks))]
+    """Twenty numbers a row: its share's ends, and at the deepest, the partial and the light draught v, bottom, top and mark byte of its survival, and the
+    ends of what it adds; none at a refusal."""
+    told = []
+    for share, *threes in zip(answer.shares, answer.heights, answer.survivals, answer.added):
+        told += share
+        for height, survival, added in zip(*threes):
+            told += [height, survival.ends.lower, survival.ends.upper, mark_byte(survival.marks), added.lower, added.upper]
+    return told
 
 
 def rows_text(answer):
-    """The rows' survivals for reading, a row's nine numbers a line."""
+    """The rows' numbers for reading, a row's twenty a line."""
     if answer.number:
         return f"refused {answer.number} at line {answer.line}\n"
     told = row_numbers(answer)
-    return "".join(" ".join(map(str, told[at:at + 9])) + "\n" for at in range(0, len(told), 9))
+    return "".join(" ".join(map(str, told[at:at + ROW_NUMBERS])) + "\n" for at in range(0, len(told), ROW_NUMBERS))
+
+
+def required_of(read):
+    """R's numerator and denominator, then those of the mark of a partial index; nothing at a refusal."""
+    return [] if isinstance(read, Refusal) else list(required_numbers(read.hull.L, read.hull.persons, read.hull.rule))
+
+
+def required_text(read):
+    """R and the mark of a partial index for reading, numerator and denominator a line."""
+    if isinstance(read, Refusal):
+        return f"refused {read.number} at line {read.line}\n"
+    return "{} {}\n{} {}\n".format(*required_of(read))
+
+
+def group_numbers(read):
+    """The ends of every group's share, two numbers a group; nothing at a refusal."""
+    if isinstance(read, Refusal):
+        return []
+    return [end for a, n in groups(len(read.hull.zones)) for end in group_share_ends(read.hull, a, n)]
+
+
+def groups_text(read):
+    """Every group for reading, a line each: its first zone, how many it has, and the ends of its share."""
+    if isinstance(read, Refusal):
+        return f"refused {read.number} at line {read.line}\n"
+    ends = group_numbers(read)
+    return "".join(f"{a} {n} {lower} {upper}\n" for (a, n), lower, upper in zip(groups(len(read.hull.zones)), ends[::2], ends[1::2]))
 
 
 def exact_survival(row, draught):
@@ -97,8 +131,7 @@ def total_text(read):
     """Shares: what the listed groups come to together, and the groups of any share that are not listed, one a line."""
     if isinstance(read, Refusal):
         return f"refused {read.number} at line {read.line}\n"
-    zones = len(read.hull.zones)
-    shares = {(a, n): group_share(read.hull, a, n) for a in range(1, zones + 1) for n in range(1, zones - a + 2)}
+    shares = {(a, n): group_share(read.hull, a, n) for a, n in groups(len(read.hull.zones))}
     listed = {row.group for row in read.rows}
     lines = [f"total {with_decimal(sum((shares[group] for group in listed), Fraction(0)))}"]
     lines += [f"not listed: group ({a}, {n}) share {with_decimal(share)}"

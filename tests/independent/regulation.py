@@ -142,6 +142,11 @@ def row_share(hull, row):
     return sum((sign * Q(span, b, hull.L, hull.B) for sign, span, b in terms), Fraction(0))
 
 
+def groups(zones):
+    """Shares: every group (a, n) of a ship of so many zones, by its first zone and then by how many it has."""
+    return [(a, n) for a in range(1, zones + 1) for n in range(1, zones - a + 2)]
+
+
 def group_share(hull, a, n):
     """Shares: the exact share of group (a, n) over its full depth, at b = B/2."""
     return sum(sign * Q(span, hull.B // 2, hull.L, hull.B) for sign, span in group_terms(hull.zones, a, n))
@@ -277,3 +282,22 @@ def marks(L, persons=None, rule=EARLIER_RULE):
         return (R(L), R(L) / 2, R(L) / 2, R(L) / 2)
     required = passenger_R_of_2020(*persons) if rule == RULE_OF_2020 else passenger_R(L, *persons)
     return (required,) + 3 * (required * Fraction(9, 10),)
+
+
+def required_denominator(L, persons=None, rule=EARLIER_RULE):
+    """What R is a fraction of, before anything is cancelled: in 01's two forms, in 02's form of the earlier rule, and in the three of the rule of 2020 the
+    least that makes its decimals whole, 7,580 counted in."""
+    if persons is None:
+        return L + 15_200 if L > 10_000 else L * (L + 2_400) + 128_000_000
+    if rule == EARLIER_RULE:
+        return L + 250 * (persons[0] + 2 * persons[1]) + 1_522_500
+    N = sum(persons)
+    return 1_000 if N < 400 else 37_900_000 if N <= 1_350 else 800 * (N + 5_000)
+
+
+def required_numbers(L, persons=None, rule=EARLIER_RULE):
+    """R and the mark of a partial index, numerator and denominator of each: the mark's is twice R's or ten times, and nothing is cancelled."""
+    required, partial, *_ = marks(L, persons, rule)
+    whole = required_denominator(L, persons, rule)
+    part = whole * (2 if persons is None else 10)
+    return int(required * whole), whole, int(partial * part), part

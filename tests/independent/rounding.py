@@ -4,7 +4,7 @@ from functools import lru_cache
 from typing import NamedTuple
 
 from .regulation import (
-    C, G1, G3, KEPT, P, WHOLE_SURVIVAL, WHOLE_V, ends_touched, is_short, p, row_terms, row_v,
+    C, G1, G3, KEPT, P, WHOLE_SURVIVAL, WHOLE_V, ends_touched, group_terms, is_short, p, row_terms, row_v,
 )
 
 BILLION = 10**9
@@ -130,6 +130,15 @@ def share_ends(hull, row):
         else:
             lower -= q.upper
             upper -= q.lower
+    return Ends(max(lower, 0), min(upper, BILLION))
+
+
+def group_share_ends(hull, a, n):
+    """Shares: the ends of group (a, n) over its full depth, those of a row down to B/2 with no layer before it."""
+    lower = upper = 0
+    for sign, span in group_terms(hull.zones, a, n):
+        near, far = Q_ends(span, hull.B // 2, hull.L, hull.B)[::sign]
+        lower, upper = lower + sign * near, upper + sign * far
     return Ends(max(lower, 0), min(upper, BILLION))
 
 

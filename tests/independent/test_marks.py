@@ -3,11 +3,11 @@
 import unittest
 from itertools import product
 
-from independent import answer, reading, row_numbers, rows_text, run
+from independent import answer, reading, run
 from independent.answering import row_survival
 from independent.printing import mark_byte
 from independent.regulation import NO_MARKS, Marks, s_fourth, survival_marks
-from independent.test_printing import PRINTED_CASE, program
+from independent.test_printing import PRINTED_CASE, survival_numbers
 from independent.writing import file_of, given_row, hull_line, lever_row, whole_file
 
 HULL = hull_line(9_900, 1_600, 6_000, 4_000, [])
@@ -109,27 +109,20 @@ class Bytes(unittest.TestCase):
 
 
 class Rows(unittest.TestCase):
-    """Nine numbers a row."""
+    """Bottom, top and mark byte among a row's numbers."""
 
     def test_printed_case(self):
-        self.assertEqual(row_numbers(answer(PRINTED_CASE)), 3 * [5_000, 5_000, 3] + 3 * [0, 0, 0] + 3 * [10_000, 10_000, 0])
+        self.assertEqual(survival_numbers(answer(PRINTED_CASE)), 3 * [5_000, 5_000, 3] + 3 * [0, 0, 0] + 3 * [10_000, 10_000, 0])
 
     def test_draughts_in_order(self):
         data = rows_of(((60, 800, 0, 0), (120, 1_600, 2_995, 0), (120, 1_600, 0, 0)), (1, 2, 3))
-        self.assertEqual(row_numbers(answer(data)), [7_071, 7_072, 3, 1_000, 1_000, 4, 10_000, 10_000, 0, 1, 1, 0, 2, 2, 0, 3, 3, 0])
+        self.assertEqual(survival_numbers(answer(data)), [7_071, 7_072, 3, 1_000, 1_000, 4, 10_000, 10_000, 0, 1, 1, 0, 2, 2, 0, 3, 3, 0])
 
     def test_immersed_opening_leaves_nothing(self):
         data = rows_of(((60, 800, 0, -1), (120, 1_600, 2_995, 0), (120, 1_600, 0, -1)))
-        self.assertEqual(row_numbers(answer(data)), [0, 0, 11, 1_000, 1_000, 4, 0, 0, 8])
+        self.assertEqual(survival_numbers(answer(data)), [0, 0, 11, 1_000, 1_000, 4, 0, 0, 8])
 
     def test_nothing_of_a_refused_file_or_of_no_rows(self):
-        self.assertEqual(row_numbers(answer(b"")), [])
-        self.assertEqual(row_numbers(answer(PRINTED_CASE, 5)), [])
-        self.assertEqual(row_numbers(answer(file_of([HULL, "0f0000"]))), [])
-
-    def test_command_line(self):
-        wanted = b"5000 5000 3 5000 5000 3 5000 5000 3\n0 0 0 0 0 0 0 0 0\n10000 10000 0 10000 10000 0 10000 10000 0\n"
-        self.assertEqual(program("--rows", data=PRINTED_CASE), wanted)
-        self.assertEqual(rows_text(answer(PRINTED_CASE)).encode("ascii"), wanted)
-        self.assertEqual(program("--rows", data=rows_of((SAFE, OPENING, SAFE))), b"10000 10000 0 0 0 8 10000 10000 0\n")
-        self.assertEqual(program("--rows"), b"refused 10 at line 1\n")
+        self.assertEqual(survival_numbers(answer(b"")), [])
+        self.assertEqual(survival_numbers(answer(PRINTED_CASE, 5)), [])
+        self.assertEqual(survival_numbers(answer(file_of([HULL, "0f0000"]))), [])

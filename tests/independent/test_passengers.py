@@ -4,14 +4,14 @@ import unittest
 from fractions import Fraction
 from itertools import product
 
-from independent import Result, Stage, answer, figures, letters, reading, row_numbers, run, settled_text
+from independent import Result, Stage, answer, figures, letters, reading, run, settled_text
 from independent.answering import FAILS, MEETS, UNSETTLED, passenger_survival, verdict_of
 from independent.printing import mark_byte
 from independent.regulation import (
     final_caps, marks, passenger_R, passenger_marks, passenger_s_fourth, row_s_fourth, s_final_fourth, s_intermediate_fourth, s_mom,
 )
 from independent.rounding import Ends, survival_ends
-from independent.test_printing import PRINTED_ANSWER, program
+from independent.test_printing import PRINTED_ANSWER, program, survival_numbers
 from independent.writing import hull_line, lever_row, passenger_hull_line, passenger_row, whole_file
 
 HULL = passenger_hull_line(9_900, 1_600, 6_000, 4_000, (400, 600), [1_500, 5_000])
@@ -235,17 +235,17 @@ class Answers(unittest.TestCase):
     def test_file_in_full(self):
         self.assertEqual(run(FILE_IN_FULL), ANSWER_IN_FULL)
         self.assertEqual(ANSWER_IN_FULL.replace(b"020002", b"030303"), PRINTED_ANSWER)
-        self.assertEqual(row_numbers(answer(FILE_IN_FULL)), [5_000, 5_000, 2, 5_000, 5_000, 0, 5_000, 5_000, 2] + 3 * [0, 0, 0] + 3 * [10_000, 10_000, 0])
+        self.assertEqual(survival_numbers(answer(FILE_IN_FULL)), [5_000, 5_000, 2, 5_000, 5_000, 0, 5_000, 5_000, 2] + 3 * [0, 0, 0] + 3 * [10_000, 10_000, 0])
         self.assertIn(b"R 3581/4831\npartial mark 32229/48310\n", program("--exact", data=FILE_IN_FULL))
 
     def test_draughts_have_their_own(self):
         data = one_zone(moved_by(1_000), (SAFE, CALM._replace(lever=25, reach=350)), (SAFE._replace(heel=1_100), CALM._replace(roro=1)))
-        self.assertEqual(row_numbers(answer(data)), [1_000, 1_000, 0, 7_071, 7_072, 0, 7_071, 7_072, 4])
+        self.assertEqual(survival_numbers(answer(data)), [1_000, 1_000, 0, 7_071, 7_072, 0, 7_071, 7_072, 4])
         self.assertEqual(answer(data).ends[1:], (Ends(100_000_000, 100_000_000), Ends(707_100_000, 707_200_000), Ends(707_100_000, 707_200_000)))
 
     def test_each_draught_has_its_own_roro_mark(self):
         for three in product((0, 1), repeat=3):
-            told = row_numbers(answer(one_zone(*((Result(150, 1_800, 0, 0), CALM._replace(roro=roro)) for roro in three))))
+            told = survival_numbers(answer(one_zone(*((Result(150, 1_800, 0, 0), CALM._replace(roro=roro)) for roro in three))))
             self.assertEqual(told[2::3], [3 * roro for roro in three])
             self.assertEqual(told[::3], [9_064 if roro else 10_000 for roro in three])
 
@@ -260,13 +260,13 @@ class Answers(unittest.TestCase):
         rows = [passenger_row(1, 1, 800, H, (SAFE._replace(heel=heel),) * 3, (stage,) * 3) for H, heel, stage in zip((1, 2, TOP), (0, 701, 700), stages)]
         data = whole_file(THREE_QUARTERS, rows)
         self.assertEqual([line[18:] for line in run(data).decode("ascii").splitlines()[1:]], ["000000", "040404", "000000"])
-        self.assertEqual(row_numbers(answer(data))[::9], [10_000, 0, 8_408])
+        self.assertEqual(survival_numbers(answer(data))[::9], [10_000, 0, 8_408])
 
     def test_shares_are_those_of_a_cargo_ship(self):
         heads = ((1, 1, 300, 9_000), (1, 1, 300, TOP), (1, 1, 800, TOP), (1, 2, 800, TOP), (1, 3, 800, TOP), (2, 2, 800, TOP))
         passengers = answer(with_rows(*(passenger_row(*head, (SAFE,) * 3, (CALM,) * 3) for head in heads)))
         cargo = answer(whole_file(CARGO_HULL, [lever_row(*head, ((120, 1_600, 0, 0),) * 3) for head in heads]))
-        self.assertEqual((passengers.shares, passengers.ends, passengers.survivals), (cargo.shares, cargo.ends, cargo.survivals))
+        self.assertEqual(passengers[3:], cargo[3:])
 
     def test_short_ship(self):
         hull = passenger_hull_line(2_000, 400, 1_000, 500, (0, 0), [300, 1_000, 1_001])
@@ -290,7 +290,7 @@ class Answers(unittest.TestCase):
         self.assertEqual([line.split("s^4 ")[1] for line in lines[1:4]], ["81/256", "2401/13122", "1/4"])
         self.assertIn("R 3/4", lines)
         self.assertIn("partial mark 27/40", lines)
-        self.assertEqual(program("--rows", data=data), b"7500 7500 0 6540 6541 2 7071 7072 0\n")
+        self.assertEqual(survival_numbers(answer(data)), [7_500, 7_500, 0, 6_540, 6_541, 2, 7_071, 7_072, 0])
 
     def test_settled(self):
         result, stage = moved_by(7_500)

@@ -5,7 +5,7 @@ import sys
 import unittest
 from pathlib import Path
 
-from independent import answer, figures, reading, run, total_text
+from independent import answer, figures, reading, row_numbers, run, total_text
 from independent.writing import end_line, file_of, given_row, hull_line, lever_row, whole_file
 
 PROGRAM = Path(__file__).resolve().parent
@@ -31,6 +31,12 @@ def program(*words, data=b""):
     """What the command writes for these words and this input."""
     done = subprocess.run([sys.executable, str(PROGRAM), *words], input=data, capture_output=True, check=True)
     return done.stdout
+
+
+def survival_numbers(told):
+    """Bottom, top and mark byte at each draught, row after row, out of the rows' twenty numbers."""
+    numbers = row_numbers(told)
+    return [numbers[row + 2 + 6 * draught + place] for row in range(0, len(numbers), 20) for draught in range(3) for place in (1, 2, 3)]
 
 
 class Printed(unittest.TestCase):

@@ -4,13 +4,13 @@ import unittest
 from fractions import Fraction
 from itertools import product
 
-from independent import answer, reading, row_numbers, run
+from independent import answer, reading, run
 from independent.answering import FAILS, MEETS, UNSETTLED, lower_survival, result_survival
 from independent.printing import mark_byte
 from independent.regulation import row_s_fourth, s_fourth
 from independent.rounding import Ends
 from independent.settling import figures_of, settled
-from independent.test_printing import program
+from independent.test_printing import program, survival_numbers
 from independent.writing import given_row, hull_line, lever_row, two_sets_row, whole_file
 
 HULL = hull_line(9_900, 1_600, 6_000, 4_000, [])
@@ -107,8 +107,8 @@ class Rows(unittest.TestCase):
 
     def test_each_draught_by_itself(self):
         first, second = (HALF, SAFE, IMMERSED), (SAFE, BY_LEVER, HALF)
-        self.assertEqual(row_numbers(answer(rows_of((first, second)))), [5_000, 5_000, 3, 8_408, 8_409, 1, 0, 0, 8])
-        self.assertEqual(row_numbers(answer(rows_of((second, first)))), [5_000, 5_000, 3, 8_408, 8_409, 1, 0, 0, 8])
+        self.assertEqual(survival_numbers(answer(rows_of((first, second)))), [5_000, 5_000, 3, 8_408, 8_409, 1, 0, 0, 8])
+        self.assertEqual(survival_numbers(answer(rows_of((second, first)))), [5_000, 5_000, 3, 8_408, 8_409, 1, 0, 0, 8])
 
     def test_sets_that_are_equal(self):
         results = (HALF, BY_LEVER, IMMERSED)
@@ -148,7 +148,7 @@ class Exact(unittest.TestCase):
         data = rows_of(((NEAR_RANGE, SAFE, HALF), (NEAR_LEVER, BY_RANGE, IMMERSED)))
         lines = program("--exact", data=data).decode().splitlines()
         self.assertEqual([line.split("s^4 ")[1] for line in lines[1:4]], ["119/120", "1/2", "0"])
-        self.assertEqual(program("--rows", data=data), b"9979 9980 1 8408 8409 2 0 0 8\n")
+        self.assertEqual(survival_numbers(answer(data)), [9_979, 9_980, 1, 8_408, 8_409, 2, 0, 0, 8])
 
     def test_settled_by_the_lower_set(self):
         ship = hull_line(10_400, 1_600, 6_000, 4_000, [])

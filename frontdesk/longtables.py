@@ -12,7 +12,7 @@ DASH = "–"
 
 
 def survival(ten_thousandths):
-    return "1" if ten_thousandths == SURVIVALS else cut(ten_thousandths, 4, SURVIVALS)
+    return {0: "0", SURVIVALS: "1"}.get(ten_thousandths) or cut(ten_thousandths, 4, SURVIVALS)
 
 
 def held_by(found):
@@ -76,16 +76,16 @@ def _flooding(flooding):
 
 
 def _entered(row, i, kinds, passenger):
-    """What a row has at a draught, a dash where the column is of other rows."""
+    """What a row has at a draught, nothing where the column is of other rows."""
     cells = []
     if kinds - {3}:
-        cells += _result(row.results[i]) if row.results else [DASH] * 4
+        cells += _result(row.results[i]) if row.results else [""] * 4
     if 5 in kinds:
-        cells += _result(row.results[3 + i]) if len(row.results) == 6 else [DASH] * 4
+        cells += _result(row.results[3 + i]) if len(row.results) == 6 else [""] * 4
     if passenger:
         cells += _flooding(row.floodings[i])
     if 3 in kinds:
-        cells.append(survival(row.given[i]) if row.given else DASH)
+        cells.append(survival(row.given[i]) if row.given else "")
     return cells
 
 

@@ -16,7 +16,7 @@ def gauged(findings):
     for index in findings.indices:
         mark = "R" if not index.draught else wording.mark_name(findings.ship)
         compared = "%s %s" % (mark, names.get(index.verdict, "lies between them"))
-        entries.append((*wording.LETTERS[index.name], *index.ends, (index.mark.numerator, index.mark.denominator), mark, compared))
+        entries.append((*wording.LETTERS[index.name], index.draught or "all three", *index.ends, (index.mark.numerator, index.mark.denominator), mark, compared))
     return gauge.drawn(entries, wording.billionths)
 
 
@@ -39,6 +39,11 @@ def worst_groups(findings):
     return sorted(losing, key=lambda group: (-group.whole.loss.lower, -group.whole.loss.upper, group.first, group.count))[:WORST]
 
 
+def with_share(findings):
+    """Groups that are listed or surely have a share. Of the others the upper end is some billionths or 0, and they may have none."""
+    return [group for group in findings.groups if group.listed or group.surely]
+
+
 def thousandths(ends):
     """A share as a drawing has it: at least so many thousandths."""
     return "<0.1" if ends.lower < BILLION // 10_000 else cut(ends.lower, 1, BILLION // 1000)
@@ -47,7 +52,7 @@ def thousandths(ends):
 def zoned(findings):
     ship = findings.ship
     ranks = {(group.first, group.count): RANKS[i] for i, group in enumerate(worst_groups(findings))}
-    cells, shown = [], [group for group in findings.groups if group.share.upper]
+    cells, shown = [], with_share(findings)
     for group in shown:
         kept = group.whole.kept or 0
         share = "share at least %s" % wording.billionths(group.share.lower)
@@ -55,7 +60,7 @@ def zoned(findings):
         cells.append(triangle.Group(group.first, group.count, thousandths(group.share), kept, group.listed, ranks.get((group.first, group.count), ""), tip))
     levels = []
     for count in findings.counts:
-        if count.share.upper:
+        if any(group.listed or group.surely for group in count.groups):
             kept = count.whole.kept
             levels.append(triangle.Level(count.zones, thousandths(count.share), "%d%% survives" % kept if count.listed and kept is not None else "not listed"))
     drawing = triangle.drawn(ship.places, cells, levels, _views(findings), ship.zone_names)
@@ -92,7 +97,7 @@ def _views(findings):
 def levelled(findings):
     entries = []
     for count in findings.counts:
-        if not count.share.upper:
+        if not any(group.listed or group.surely for group in count.groups):
             continue
         worth, missing = count.whole, 10 * count.missing_most
         parts = []
@@ -102,7 +107,7 @@ def levelled(findings):
         if missing:
             parts.append("%s not listed" % wording.most(missing))
         kept = worth.adds.lower
-        entries.append(bars.Bar("1 zone" if count.zones == 1 else "%d zones" % count.zones, kept, max(worth.chance.upper - kept, 0), missing, ", ".join(parts)))
+        entries.append(bars.Bar("1 zone" if count.zones == 1 else "%d zones" % count.zones, kept, worth.loss.upper, missing, ", ".join(parts)))
     return bars.drawn(entries)
 
 

@@ -21,7 +21,7 @@ def environment():
     made = Environment(loader=FileSystemLoader(TEMPLATES), autoescape=True, undefined=StrictUndefined, trim_blocks=True, lstrip_blocks=True)
     made.filters.update(
         billionths=wording.billionths, tenths=wording.tenths, most=wording.most, least=wording.least, metres=wording.metres, fine_metres=wording.fine_metres,
-        grouped=wording.grouped, counted=wording.counted, place=tenths, shape=lambda shape: SHAPES[type(shape)], going_on=wording.going_on,
+        grouped=wording.grouped, symbols=wording.symbols, counted=wording.counted, place=tenths, shape=lambda shape: SHAPES[type(shape)], going_on=wording.going_on,
         thousandths=lambda count: cut(count, 9, BILLION),
     )
     made.globals.update(wording=wording, draughts=DRAUGHTS, style=(TEMPLATES / "style.css").read_text())
@@ -41,7 +41,8 @@ def page(findings, doubts=(), slip=None):
         gauge=pictures.gauged(findings), zones=pictures.zoned(findings) if findings.groups else None, levels=pictures.levelled(findings),
         sections=pictures.sectioned(findings, begins), losses=losses(findings, begins), causes=causes(findings), lost_in_all=findings.total.whole.loss.upper,
         outcomes=longtables.outcomes(findings), inputs=longtables.inputs(findings), headings=longtables.headings(ship),
-        counts=[count for count in findings.counts if count.share.upper], shown=[group for group in findings.groups if group.share.upper],
+        counts=[count for count in findings.counts if any(group.listed or group.surely for group in count.groups)], shown=pictures.with_share(findings),
+        missing=missing(findings), doubtful=[group for group in findings.missing if not group.surely],
         meets=MEETS, fails=FAILS, unsettled=UNSETTLED,
     )
 
@@ -66,6 +67,15 @@ def losses(findings, begins):
                           "bar": lost * 1000 // greatest if greatest else 0})
         listed.append({"rank": rank, "case": case, "extent": wording.extent(inner, case.row, below, findings.ship), "lines": lines, "running": running})
     return listed
+
+
+def missing(findings):
+    """Groups that surely have a share and are not listed, by number of zones."""
+    by_count = {}
+    for group in findings.missing:
+        if group.surely:
+            by_count.setdefault(group.count, []).append(group)
+    return [{"count": count, "groups": groups, "most": sum(group.share.upper for group in groups)} for count, groups in sorted(by_count.items())]
 
 
 def causes(findings):

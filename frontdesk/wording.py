@@ -1,6 +1,9 @@
 """Findings in words: the verdict's sentence, a group's zones, how far a damage reaches, why a survival is below one."""
 
+import re
 from fractions import Fraction
+
+from markupsafe import Markup, escape
 
 from . import reasons
 from .decimals import BILLION, cut, exact, lifted, text_of
@@ -11,6 +14,7 @@ VERDICTS = {MEETS: ("meets", "Meets the required index"), FAILS: ("fails", "Does
 SHORT = {MEETS: "meets", FAILS: "fails", UNSETTLED: "unsettled"}
 LETTERS = {"A": ("A", ""), "As": ("A", "s"), "Ap": ("A", "p"), "Al": ("A", "l")}
 PLACES = 6  # of a figure in a sentence
+VERDICT_CHECK = "the ends against R and the marks"  # the one check whose figures are verdicts
 
 
 def metres(cm):
@@ -147,7 +151,7 @@ def _open(index, ship):
 def extent(inner, row, below, ship):
     """How far in and how high the damages of a row reach."""
     if row.depth == ship.half_breadth:
-        deep = "to the centre line" if not inner else "deeper than %s m, to the centre line" % metres(inner)
+        deep = "to the centre line" if not inner else "from %s m in to the centre line" % metres(inner)
     else:
         deep = "up to %s m in" % metres(row.depth) if not inner else "%s to %s m in" % (metres(inner), metres(row.depth))
     if row.height >= ship.top:
@@ -188,6 +192,18 @@ def place_name(ship):
     return "line" if ship.source.form == "case file" else "row"
 
 
-def checked(value):
-    """A figure of the closing check as text: ends with their unit, or what it is."""
-    return " to ".join(str(part) for part in value) if isinstance(value, tuple) else str(value)
+def checked(check):
+    """Both figures of a closing check as text: ends as decimals, a verdict in words, counts as they are."""
+    if isinstance(check.summed, tuple):
+        return [" to ".join(map(billionths, value)) if isinstance(value, tuple) else billionths(value) for value in (check.summed, check.proved)]
+    if check.what == VERDICT_CHECK:
+        return [SHORT.get(value, str(value)) for value in (check.summed, check.proved)]
+    return [grouped(check.summed), grouped(check.proved)]
+
+
+SYMBOL = re.compile(r"\b(A|R)([spl]?)\b")
+
+
+def symbols(text):
+    """A sentence of the desk's own with its letters as the trade sets them."""
+    return Markup(SYMBOL.sub(lambda found: "<i>%s%s</i>" % (found[1], "<sub>%s</sub>" % found[2] if found[2] else ""), str(escape(text))))

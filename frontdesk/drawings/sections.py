@@ -2,10 +2,10 @@
 
 from typing import NamedTuple
 
-from .pen import Drawing, scaled, width
+from .pen import Drawing, apart, scaled, width
 from .triangle import shade
 
-WIDE, HIGH, GAP, LEFT, HEAD = 2_600, 2_200, 500, 700, 420
+WIDE, HIGH, GAP, LEFT, HEAD = 2_700, 1_900, 450, 700, 300
 
 
 class Case(NamedTuple):
@@ -65,18 +65,13 @@ def _water(drawing, left, level, highest):
 
 
 def _depths(drawing, left, cases, half, texts):
-    edge = left - 400
     depths = sorted({case.outer for case in cases})
-    last = left + WIDE - width(texts["b", half], 100)
-    for depth in depths:
-        x = left + scaled(depth, half, WIDE)
-        text = texts["b", depth]
-        if depth == half:
-            drawing.text(left + WIDE, HEAD + HIGH + 160, text, 100, "quiet", "end")
-        elif x - width(text, 100) // 2 > edge + 50 and x + width(text, 100) // 2 + 50 < last:
-            drawing.line(x, HEAD + HIGH, x, HEAD + HIGH + 45, "tick")
-            drawing.text(x, HEAD + HIGH + 160, text, 100, "quiet", "middle")
-            edge = x + width(text, 100) // 2
+    least = max(width(texts["b", depth], 100) for depth in depths) + 60
+    depths = depths[-(WIDE // least):]  # more do not fit: those by the shell stay without a text
+    wanted = [left + scaled(depth, half, WIDE) for depth in depths]
+    for depth, x, at in zip(depths, wanted, apart(wanted, least, left - 200, left + WIDE - least // 3)):
+        drawing.line(x, HEAD + HIGH, at, HEAD + HIGH + 60, "tick")
+        drawing.text(at, HEAD + HIGH + 160, texts["b", depth], 100, "quiet", "middle")
     drawing.text(left + WIDE // 2, HEAD + HIGH + 310, "m in from the shell", 100, "quiet", "middle")
 
 

@@ -38,12 +38,11 @@ def shade(kept):
 def drawn(places, groups, levels, ship_views, names=()):
     """Places are bulkheads in cm from aft to forward; groups without a share are not among those given."""
     tallest = max((group.count for group in groups), default=1)
-    step = 430 if tallest <= 9 else 360 if tallest <= 13 else 300
+    step = 460 if tallest <= 9 else 380 if tallest <= 13 else 320
     ground = HEAD + step * tallest + FOOT
     drawing = Drawing("zones", "Zone diagram: the groups of zones over the ship's length", LEFT + LONG + RIGHT, 0, least=900)
     across = [LEFT + scaled(place, places[-1], LONG) for place in places]
-    for group in groups:
-        _cell(drawing, group, across, ground, step)
+    _cells(drawing, groups, across, ground, step)
     _levels(drawing, groups, levels, across, ground, step)
     foot = _zones(drawing, across, ground, names)
     drawing.high = views.under(drawing, across, places, foot, ship_views)
@@ -63,28 +62,46 @@ def corners(group, across, ground, step):
     return knot(i, j - 1), knot(i, j), knot(i + 1, j), knot(i + 1, j - 1)
 
 
-def _cell(drawing, group, across, ground, step):
-    outline = corners(group, across, ground, step)
-    look = "kept%d" % shade(group.kept) if group.listed else "missing"
-    drawing.area(outline, look + (" worst" if group.rank else ""), group.tip)
+def _cells(drawing, groups, across, ground, step):
+    """Fillings, then the outlines of missing groups, each edge once, then figures, and the worst on top of all."""
+    outlines = {group: corners(group, across, ground, step) for group in groups}
+    edges = set()
+    for group, outline in outlines.items():
+        drawing.area(outline, "kept%d" % shade(group.kept) if group.listed else "hollow", group.tip)
+        if not group.listed:
+            edges |= {tuple(sorted(edge)) for edge in zip(outline, outline[1:] + outline[:1])}
+    for (x1, y1), (x2, y2) in sorted(edges):
+        drawing.line(x1, y1, x2, y2, "edge")
+    for group, outline in outlines.items():
+        _figures(drawing, group, outline, ground, step)
+    for group, outline in outlines.items():
+        if group.rank:
+            _worst(drawing, group, outline, step)
+
+
+def _figures(drawing, group, outline, ground, step):
+    """Share and per cent in the middle of the cell, in the greater size that fits, or the share alone."""
     single = group.count == 1
     left, right = (outline[0][0], outline[-1][0]) if single else (outline[0][0], outline[2][0])
     middle = (left + right) // 2 if single else (outline[1][0] + outline[3][0]) // 2
     centre = ground - FOOT // 2 if single else outline[0][1]
-    room = right - left if single else (right - left) * (step - 120) // step
+    room = right - left if single else (right - left) * (step - 100) // step
     ink = "on%d" % shade(group.kept) if group.listed else "quiet"
-    figures = [(group.share, 105, ink + " strong" if group.listed else ink)] if width(group.share, 105, True) + 20 <= room else []
-    kept = "%d%%" % group.kept if group.listed else ""
-    if kept and width(kept, 95) + 20 <= room:
-        figures.append((kept, 95, ink))
-    base = centre + (35 if len(figures) == 1 else -15)
-    for text, size, look in figures:
-        drawing.text(middle, base, text, size, look, "middle")
-        base += 120
-    if group.rank:
-        apex = outline[2] if single else outline[1]
-        drawing.area(_disc(apex[0], apex[1] + step * 3 // 10, 70), "badge")
-        drawing.text(apex[0], apex[1] + step * 3 // 10 + 35, group.rank, 100, "onbadge strong", "middle")
+    texts = [(group.share, ink + " strong" if group.listed else ink)] + ([("%d%%" % group.kept, ink)] if group.listed else [])
+    for size, chosen in ((105, texts), (90, texts), (90, texts[:1]), (80, texts[:1])):
+        if all(width(text, size, "strong" in look) + 10 <= room for text, look in chosen):
+            base = centre + (size * 35 // 100 if len(chosen) == 1 else -size // 7)
+            for i, (text, look) in enumerate(chosen):
+                drawing.text(middle, base + i * size * 115 // 100, text, size - (5 if i else 0), look, "middle")
+            return
+
+
+def _worst(drawing, group, outline, step):
+    """A thicker outline, and the group's letter below its top corner."""
+    drawing.area(outline, "worst")
+    x, y = outline[2] if group.count == 1 else outline[1]
+    drawing.area(_disc(x, y + step // 4, 70), "badge")
+    drawing.text(x, y + step // 4 + 35, group.rank, 100, "onbadge strong", "middle")
 
 
 def _disc(x, y, r):
@@ -96,17 +113,29 @@ def _disc(x, y, r):
 def _levels(drawing, groups, levels, across, ground, step):
     """What stands before and behind the cells of each number of zones."""
     by_count = {level.count: level for level in levels}
+    outlines = [corners(group, across, ground, step) for group in groups]
     for count in sorted({group.count for group in groups}):
-        row = [corners(group, across, ground, step) for group in groups if group.count == count]
-        left = min(x for outline in row for x, _ in outline)
-        right = max(x for outline in row for x, _ in outline)
         base = ground - FOOT // 2 + 35 if count == 1 else ground - FOOT - step * (count - 1) + 35
-        drawing.text(left - 90, base, "1 zone" if count == 1 else "%d zones" % count, 110, "quiet", "end")
-        level = by_count.get(count)
+        left, right = _reach(outlines, base - 150, base + 90)
+        drawing.text(left - 80, base, "1 zone" if count == 1 else "%d zones" % count, 110, "quiet", "end")
+        level, right = by_count.get(count), right + 80
         if level:
-            drawing.text(right + 90, base - (60 if level.kept else 0), level.share, 110, "strong")
+            drawing.text(right, base - (60 if level.kept else 0), level.share, 110, "strong")
             if level.kept:
-                drawing.text(right + 90, base + 65, level.kept, 105, "quiet")
+                drawing.text(right, base + 65, level.kept, 105, "quiet")
+
+
+def _reach(outlines, top, bottom):
+    """The leftmost and the rightmost place that any outline has between two heights."""
+    places = []
+    for outline in outlines:
+        for (x1, y1), (x2, y2) in zip(outline, outline[1:] + outline[:1]):
+            for y in (top, bottom):
+                if min(y1, y2) <= y <= max(y1, y2) and y1 != y2:
+                    places.append(x1 + (x2 - x1) * (y - y1) // (y2 - y1))
+            if top <= y1 <= bottom:
+                places.append(x1)
+    return min(places), max(places)
 
 
 def _zones(drawing, across, ground, names):

@@ -57,12 +57,13 @@ def _side(drawing, across, top, views):
 
 def _ticks(drawing, x, top, high, whole, texts):
     """Texts beside their heights; the ends always, others where they do not touch."""
+    placed = {height: top + high - scaled(height, whole, high) + (75 if height == whole else 35) for height in texts}
     chosen = [0, whole]
     for height in sorted(texts):
-        if all(abs(scaled(height, whole, high) - scaled(other, whole, high)) >= 115 for other in chosen):
+        if all(abs(placed[height] - placed[other]) >= 110 for other in chosen):
             chosen.append(height)
     for height in chosen:
-        drawing.text(x, top + high - scaled(height, whole, high) + (0 if height == 0 else 70 if height == whole else 35), texts[height], 100, "quiet", "end")
+        drawing.text(x, placed[height], texts[height], 100, "quiet", "end")
 
 
 def _plan(drawing, across, top, views):
@@ -84,12 +85,12 @@ def _plan(drawing, across, top, views):
 
 def _stations(drawing, across, top, views):
     """Where the bulkheads stand; the ends always, others where they do not touch."""
-    shown, edge = [0, len(across) - 1], None
+    shown = [0, len(across) - 1]
     last = across[-1] - width(views.stations[-1], 100) // 2
     edge = across[0] + width(views.stations[0], 100) // 2
     for i in range(1, len(across) - 1):
         half = width(views.stations[i], 100) // 2
-        if across[i] - half > edge + 60 and across[i] + half + 60 < last:
+        if across[i] - half > edge + 90 and across[i] + half + 90 < last:
             shown.append(i)
             edge = across[i] + half
     for i in shown:

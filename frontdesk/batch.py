@@ -10,16 +10,12 @@ from collections import Counter
 
 from . import crew, outputs
 from .lines import CASE, CSV_NAMES, FOLDER, HEADINGS, NO_STAMP, VERDICTS, WORKBOOK, Lines, failed, stamp_of
-from .mistakes import Mistake, Mistakes
+from .mistakes import of_the_file
 
 ENDINGS = {".case": CASE, ".xlsx": WORKBOOK, ".xlsm": WORKBOOK}
 CHUNK = 64  # case files that a process is handed at a time; of the others one
 BETWEEN = 0.1  # seconds between two states of the progress line
 FORMAT = 1  # of the part file: another one is not gone on with
-
-
-def stop(text):
-    return Mistakes([Mistake("", 0, "", text)])
 
 
 def found(folder):
@@ -32,7 +28,7 @@ def found(folder):
                 entries = [entry for entry in entries if not entry.name.startswith((".", "~$"))]
         except OSError as error:
             if not inside:
-                raise stop("%s cannot be read: %s." % (folder, outputs.reason(error))) from None
+                raise of_the_file("", "%s cannot be read: %s." % (folder, outputs.reason(error))) from None
             inputs.append((inside[:-1], FOLDER))
             continue
         if any(entry.name.lower() in CSV_NAMES for entry in entries):
@@ -56,7 +52,7 @@ class Part:
             self.handle = os.open(path, os.O_RDWR | os.O_CREAT | os.O_CLOEXEC, 0o666)
             fcntl.flock(self.handle, fcntl.LOCK_EX | fcntl.LOCK_NB)
         except BlockingIOError:
-            raise stop("%s is being written by another run." % path) from None
+            raise of_the_file("", "%s is being written by another run." % path) from None
         except OSError as error:
             raise outputs.cannot(path, error) from None
 
@@ -84,8 +80,10 @@ class Part:
         except OSError as error:
             raise outputs.cannot(self.path, error) from None
 
-    def remove(self):
-        os.unlink(self.path)
+    def __enter__(self):
+        return self
+
+    def __exit__(self, *_):
         os.close(self.handle)
 
 
@@ -166,19 +164,19 @@ def run(folder, out, engine, stream=None):
     begun, stream = time.monotonic(), stream or sys.stderr
     inputs = found(folder)
     if not inputs:
-        raise stop("%s has no workbook (.xlsx, .xlsm), no folder of CSV files (ship.csv, zones.csv, cases.csv) and no case file (.case)." % folder)
-    part = Part(out + ".part", engine.version)
-    lines = taken_over(folder, inputs, part.lines())
-    before, progress = len(lines), Progress(len(inputs), stream)
-    try:
-        judge(folder, inputs, lines, part, progress, engine)
-    except KeyboardInterrupt:
+        raise of_the_file("", "%s has no workbook (.xlsx, .xlsm), no folder of CSV files (ship.csv, zones.csv, cases.csv) and no case file (.case)." % folder)
+    with Part(out + ".part", engine.version) as part:
+        lines = taken_over(folder, inputs, part.lines())
+        before, progress = len(lines), Progress(len(inputs), stream)
+        try:
+            judge(folder, inputs, lines, part, progress, engine)
+        except KeyboardInterrupt:
+            progress.clear()
+            stream.write("desk: stopped with %d of %d done, kept in %s; the same command goes on from there.\n" % (len(lines), len(inputs), part.path))
+            return 130
         progress.clear()
-        stream.write("desk: stopped with %s of %s done, kept in %s; the same command goes on from there.\n" % (len(lines), len(inputs), part.path))
-        return 130
-    progress.clear()
-    outputs.put(out, row_text(HEADINGS) + "".join(lines[number][1] for number in range(len(inputs))))
-    part.remove()
+        outputs.put(out, row_text(HEADINGS) + "".join(lines[number][1] for number in range(len(inputs))))
+        os.unlink(part.path)
     stream.write(closing(lines, before, time.monotonic() - begun, out))
     return 0
 

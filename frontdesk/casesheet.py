@@ -3,11 +3,12 @@
 import re
 from dataclasses import replace
 
-from frontdesk.columns import CASE, CASES, DEPTH, FIRST, FLOODING, GIVEN, GROUP, HEIGHT, OF_PART, PARTS, SECOND
+from frontdesk.columns import CASE, DEPTH, FIRST, FLOODING, GIVEN, GROUP, HEIGHT, OF_PART, PARTS, SECOND
 from frontdesk.layers import check_layers
 from frontdesk.ship import CARGO, NO_OPENING, PASSENGER, TOP_ABOVE_DEEPEST, Flooding, Result, Row
-from frontdesk.units import in_words, is_blank, plain
+from frontdesk.units import in_words, is_blank
 
+FEW = 3  # blank cells of a part that are told each
 ZONES = re.compile(r"([0-9]{1,4})\s*(?:[-\u2010-\u2013\u2212]\s*([0-9]{1,4}))?")
 
 
@@ -98,12 +99,13 @@ def read_parts(line, type):
         if type is not None:
             line.wrong(None, "found no results; expected %s. A damage that is not survived is left out, or has zeros." % wanted(type))
         return None
-    if GIVEN in own and len(own) > 1:
-        line.expected(filled[GIVEN][0], "results or given survivals, and not both in one row")
+    if type is not None and GIVEN in own and len(own) > 1:
+        return line.expected(filled[GIVEN][0], "results or given survivals, and not both in one row")
     asked = needed_parts(own, type)
-    columns = [column for part in asked for column in OF_PART[part] if line.table.has(column) and not (type is None and line.blank(column))]
-    numbers = {column.heading: read_number(line, column, filled, own) for column in columns}
-    if type is None or GIVEN in own and len(own) > 1 or any(numbers.get(column.heading) is None for part in asked for column in OF_PART[part]):
+    if type is not None:
+        tell_blanks(line, asked, filled, own)
+    numbers = {column.heading: read_number(line, column) for part in asked for column in filled[part]}
+    if type is None or any(numbers.get(column.heading) is None for part in asked for column in OF_PART[part]):
         return None
     return assembled(asked, numbers)
 
@@ -119,11 +121,20 @@ def needed_parts(own, type):
     return [FIRST, *own] if SECOND in own and FIRST not in own else own
 
 
-def read_number(line, column, filled, own):
-    """A cell of a part; where it is blank, what is said names a cell of the row that is filled in."""
-    if line.blank(column):
-        beside = (filled[column.part] or filled[own[0]])[0].heading
-        return line.expected(column, guess='The row has "%s".' % beside)
+def tell_blanks(line, parts, filled, own):
+    """Tells the blank cells of parts that are begun, one by one where they are few; a cell of the row that is filled in is named."""
+    for part in parts:
+        blank = [column for column in OF_PART[part] if line.table.has(column) and line.blank(column)]
+        beside = 'The row has "%s".' % (filled[part] or filled[own[0]])[0].heading
+        if len(blank) > FEW:
+            line.expected(blank[0], "all %d cells of the %s, and %d are blank" % (len(OF_PART[part]), part, len(blank)), beside)
+        else:
+            for column in blank:
+                line.expected(column, guess=beside)
+
+
+def read_number(line, column):
+    """A cell of a part."""
     if column.choices:
         return line.choice(column)
     return NO_OPENING if line.word(column) else line.whole(column)

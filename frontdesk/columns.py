@@ -15,6 +15,7 @@ PARTS = {FIRST: BOTH, SECOND: (CARGO,), FLOODING: (PASSENGER,), GIVEN: (CARGO,)}
 
 MILLIMETRES, CENTIMETRES = (3, "millimetres"), (2, "centimetres")
 HUNDREDTHS = (2, "hundredths of a degree")
+FAR = 3  # times the limit; what is nearer is likelier to be a wrong number than a wrong unit
 
 
 @dataclass(frozen=True)
@@ -54,7 +55,9 @@ class Column:
         return {"millimetres": "mm", "centimetres": "cm"}.get(self.whole_unit, self.whole_unit)
 
     def guess(self, number):
-        """The unit in which a number that is out of limits would be within them."""
+        """The unit in which a number that is far out of limits would be within them."""
+        if not number.times_ten(self.places).above(FAR * self.most):
+            return ""
         for places, words in self.scales:
             scaled = number.times_ten(self.places - places)
             if not scaled.above(self.most) and not scaled.below(self.least):

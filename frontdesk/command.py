@@ -7,7 +7,7 @@ import sys
 import traceback
 
 from . import engine, outputs
-from .mistakes import Mistake, Mistakes
+from .mistakes import Mistakes, of_the_file
 
 DONE, ERROR, STOPPED = 0, 2, 130
 PACKAGES = {"jinja2": ("Jinja2", "python3-jinja2"), "markupsafe": ("Jinja2", "python3-jinja2"), "openpyxl": ("openpyxl", "python3-openpyxl")}
@@ -30,10 +30,6 @@ INPUT is a workbook (sheets ship, zones, cases), a folder with ship.csv, zones.c
 STATUSES = """\
 exit status of report: 0 meets, 1 fails, 2 error or refused, 3 unsettled; of every other command: 0 done, 2 error
 """
-
-
-def stop(text):
-    return Mistakes([Mistake("", 0, "", text)])
 
 
 class Parser(argparse.ArgumentParser):
@@ -121,7 +117,7 @@ def table(words):
         outputs.put(words.output, binding.bound(sheets))
         return DONE
     if os.path.splitext(words.output)[1] and not os.path.isdir(words.output):
-        raise stop("%s: a workbook's name ends in .xlsx, and any other is that of a folder for CSV files, without a dot." % words.output)
+        raise of_the_file("", "%s: a workbook's name ends in .xlsx, and any other is that of a folder for CSV files, without a dot." % words.output)
     try:
         os.makedirs(words.output, exist_ok=True)
     except OSError as error:
@@ -135,11 +131,11 @@ def new(words):
     from . import blank
 
     if not words.output.lower().endswith(".xlsx"):
-        raise stop("%s: a workbook's name ends in .xlsx." % words.output)
+        raise of_the_file("", "%s: a workbook's name ends in .xlsx." % words.output)
     if os.path.lexists(words.output):
-        raise stop("%s is there already, and is left as it is." % words.output)
+        raise of_the_file("", "%s is there already, and is left as it is." % words.output)
     if not 1 <= words.zones <= 20:
-        raise stop("--zones %d: a ship has 1 to 20 zones." % words.zones)
+        raise of_the_file("", "--zones %d: a ship has 1 to 20 zones." % words.zones)
     outputs.put(words.output, blank.book(words.zones, words.type))
     return DONE
 
@@ -148,7 +144,7 @@ def batch(words):
     from . import batch as batches
 
     if not os.path.isdir(words.input):
-        raise stop("%s is no folder." % words.input)
+        raise of_the_file("", "%s is no folder." % words.input)
     return batches.run(words.input, words.output, engine.load())
 
 
@@ -156,7 +152,7 @@ def serve(words):
     from . import serve as page
 
     if not 0 <= words.port <= 65535:
-        raise stop("--port %d: a port is 0 to 65535." % words.port)
+        raise of_the_file("", "--port %d: a port is 0 to 65535." % words.port)
     return page.run(engine.load(), words.port)
 
 
@@ -166,14 +162,14 @@ def free(source, *outputs_asked):
     for path in outputs_asked:
         if path and path != outputs.STANDARD_OUTPUT:
             if os.path.realpath(path) in taken:
-                raise stop("%s is named twice: an output needs a file of its own." % path)
+                raise of_the_file("", "%s is named twice: an output needs a file of its own." % path)
             taken.append(os.path.realpath(path))
 
 
 def given(path):
     """A path that is there; a pipe's or device's bytes, which can be read but once."""
     if not os.path.exists(path):
-        raise stop("there is no file or folder %s." % path)
+        raise of_the_file("", "there is no file or folder %s." % path)
     if os.path.isdir(path) or os.path.isfile(path):
         return path
     with open(path, "rb") as there:

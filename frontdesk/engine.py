@@ -51,7 +51,7 @@ class Engine:
         return tuple(told)
 
     def rows(self, data):
-        """Twenty numbers a row: share ends, then at each draught v, bottom, top, marks, and the ends of what the row adds. None where refused or without rows."""
+        """Twenty numbers a row: share ends, then at each draught v, bottom, top, marks, and the ends of what the row adds. None where refused."""
         told = self._asked(self._rows, data, ROW_NUMBERS * MOST_ROWS)
         return [tuple(told[at:at + ROW_NUMBERS]) for at in range(0, len(told), ROW_NUMBERS)]
 
@@ -86,7 +86,8 @@ def function(library, path, name, takes, gives=ctypes.c_size_t):
     try:
         entry = getattr(library, name)
     except AttributeError:
-        raise NoLibrary("%s has no function %s: it is not the library damindex, or one from before version %d. ./library makes it." % (path, name, MAJOR)) from None
+        words = "%s has no function %s: it is not the library damindex, or one from before version %d. ./library makes it."
+        raise NoLibrary(words % (path, name, MAJOR)) from None
     entry.argtypes, entry.restype = takes, gives
     return entry
 

@@ -5,9 +5,12 @@ import io
 from decimal import Decimal
 
 from . import reasons
+from .binding import WRITTEN, repacked
 from .decimals import BILLION, SURVIVALS, TENTHS, exact, text_of
 from .engine import FAILS, MEETS, UNSETTLED
+from .sheets import letters
 from .ship import DRAUGHTS
+from .workbook import openpyxl_or_words
 
 VERDICTS = {MEETS: "meets", FAILS: "fails", UNSETTLED: "unsettled"}
 PARTS = ("could add", "adds", "loss")  # as a Worth has them
@@ -67,21 +70,19 @@ def plain(cell):
 
 def workbook(findings):
     """The case table as the bytes of a workbook: the sheet `cases`, and the sheet `indices` beside it."""
-    from openpyxl import Workbook
-    from openpyxl.utils import get_column_letter
-
-    book = Workbook(write_only=True)
+    book = openpyxl_or_words().Workbook(write_only=True)
+    book.properties.creator, book.properties.created = "Pisquruk", WRITTEN
     sheet, beside = book.create_sheet("cases"), book.create_sheet("indices")
     sheet.freeze_panes = "F2"
     columns = list(headings())
-    for column, heading in enumerate(columns, 1):
-        sheet.column_dimensions[get_column_letter(column)].width = 36 if heading.startswith(("held", "name")) else 13
+    for column, heading in enumerate(columns):
+        sheet.column_dimensions[letters(column)].width = 36 if heading.startswith(("held", "name")) else 13
     beside.column_dimensions["A"].width = 40
     filled(sheet, [columns, *(cells(case) for case in findings.cases)])
     filled(beside, index_cells(findings))
     made = io.BytesIO()
     book.save(made)
-    return made.getvalue()
+    return repacked(made.getvalue())
 
 
 def filled(sheet, lines):

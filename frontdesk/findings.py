@@ -181,8 +181,10 @@ def verdict_check(indices, proved):
 
 def twin_checks(total, cases, could, told):
     """The ship with every case survived: the same shares and v, survivals of one, and its own proved sums."""
-    same = all(case.share == row[:2] and all((at.v, SURVIVALS, SURVIVALS) == row[k:k + 3] for at, k in zip(case.at, (2, 8, 14))) for case, row in zip(cases, could))
-    yield Check("the rows with every case survived: share and v as they are, survival one", len(cases), len(could), same)
+    same = sum(
+        case.share == row[:2] and all((at.v, SURVIVALS, SURVIVALS) == row[k:k + 3] for at, k in zip(case.at, (2, 8, 14))) for case, row in zip(cases, could)
+    )
+    yield held("rows that have the same share and v where every case is survived", same, len(cases))
     for draught, proved in zip(range(3), proved_ends(told)[1:]):
         yield held("the chance listed at the %s draught" % DRAUGHTS[draught], total.at[draught].chance, proved)
 

@@ -42,19 +42,23 @@ def check_group(ledger, hull, rows):
         closing = next((row for row in layer if row.height >= top), None)
         if closing is None:
             last = layer[-1]
-            told(ledger, last, HEIGHT, "this is the last row of zones %s at b %s m, and ends at %s m; expected one more at the top, %s m or higher."
-                 % (zones(last), plain(last.depth, 2), plain(last.height, 3), plain(top, 3)))
+            told(ledger, last, HEIGHT, "this is the last row of %s at b %s m, and ends at %s m; expected one more at the top, %s m or higher."
+                 % (named(last), plain(last.depth, 2), plain(last.height, 3), plain(top, 3)))
         elif closing is not layer[-1] and layer[-1].height != closing.height:
             told(ledger, layer[-1], HEIGHT, "row %d has closed this layer at %s m; expected one row at or above the top, %s m." % (
                 closing.place, plain(closing.height, 3), plain(top, 3)))
     half, last = hull.breadth // 2, rows[-1]
     if last.depth != half:
-        told(ledger, last, DEPTH, "this is the last row of zones %s, and ends at b %s m; expected one more layer at B/2, %s m." % (
-            zones(last), plain(last.depth, 2), plain(half, 2)))
+        told(ledger, last, DEPTH, "this is the last row of %s, and ends at b %s m; expected one more layer at B/2, %s m." % (
+            named(last), plain(last.depth, 2), plain(half, 2)))
 
 
 def zones(row):
     return str(row.first) if row.count == 1 else "%d-%d" % (row.first, row.first + row.count - 1)
+
+
+def named(row):
+    return ("zone " if row.count == 1 else "zones ") + zones(row)
 
 
 def told(ledger, row, column, text):

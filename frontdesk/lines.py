@@ -38,17 +38,15 @@ class Lines:
         try:
             if form == CASE:
                 stamp, content = read_case(path)
-                line = self.judged(path, content)
-                if line is not None:
-                    return stamp, *line
-                intake.read(path, content, refusal=self.engine.figures)
-                words = "The library refuses it, and the desk does not know why."
             else:
                 stamp = stamp_of(path, form)
-                line = self.judged(path, casefile.write(intake.read(path, path)))
-                if line is not None:
-                    return stamp, *line
-                words = "The library refuses what was read from it: a defect of the desk."
+                content = casefile.write(intake.read("", path))
+            line = self.judged(path, content)
+            if line is None and form == CASE:
+                line = self.judged(path, casefile.write(intake.read("", content, refusal=self.engine.figures)))
+            if line is not None:
+                return stamp, *line
+            words = "The library refuses what was read from it: a defect of the desk."
         except Mistakes as mistakes:
             words = told(mistakes.items)
         except OSError as error:

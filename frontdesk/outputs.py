@@ -6,14 +6,14 @@ import sys
 import tempfile
 from pathlib import Path
 
-from .mistakes import Mistake, Mistakes
+from .mistakes import of_the_file
 
 STANDARD_OUTPUT = "-"
 
 
 def cannot(path, error):
     """The mistake that a path cannot be written, in words."""
-    return Mistakes([Mistake("", 0, "", "%s cannot be written: %s." % (path, reason(error)))])
+    return of_the_file("", "%s cannot be written: %s." % (path, reason(error)))
 
 
 def reason(error):

@@ -6,10 +6,10 @@ from pathlib import Path
 from jinja2 import Environment, FileSystemLoader, StrictUndefined
 
 from . import longtables, pictures, reasons, wording
-from .decimals import BILLION, cut
+from .decimals import cut, lifted
 from .drawings.pen import Area, Box, Line, Text, tenths
-from .engine import FAILS, MEETS, UNSETTLED
 from .ship import DRAUGHTS, PASSENGER
+from .slip import HOW, NOT_PROVED
 
 TEMPLATES = Path(__file__).resolve().parent / "templates"
 LOSSES = 15  # cases in the list of where the index is lost
@@ -22,10 +22,15 @@ def environment():
     made.filters.update(
         billionths=wording.billionths, tenths=wording.tenths, most=wording.most, least=wording.least, metres=wording.metres, fine_metres=wording.fine_metres,
         grouped=wording.grouped, symbols=wording.symbols, counted=wording.counted, place=tenths, shape=lambda shape: SHAPES[type(shape)], going_on=wording.going_on,
-        thousandths=lambda count: cut(count, 9, BILLION),
+        floor=lambda fraction: signed(cut(fraction, 9)), ceiling=lambda fraction: signed(lifted(fraction, 9)),
     )
     made.globals.update(wording=wording, draughts=DRAUGHTS, style=(TEMPLATES / "style.css").read_text())
     return made
+
+
+def signed(text):
+    """A number below zero with the sign that print has for it."""
+    return text.replace("-", "\u2212")
 
 
 def page(findings, doubts=(), slip=None):
@@ -43,7 +48,7 @@ def page(findings, doubts=(), slip=None):
         outcomes=longtables.outcomes(findings), inputs=longtables.inputs(findings), headings=longtables.headings(ship),
         counts=[count for count in findings.counts if any(group.listed or group.surely for group in count.groups)], shown=pictures.with_share(findings),
         missing=missing(findings), doubtful=[group for group in findings.missing if not group.surely],
-        meets=MEETS, fails=FAILS, unsettled=UNSETTLED,
+        slip_said={"not_proved": NOT_PROVED, "how": HOW},
     )
 
 

@@ -38,9 +38,10 @@ class Table:
     """A sheet with its columns: what stands in row 1 is held against what is known, and rows that are blank everywhere are passed over."""
 
     def __init__(self, sheet, ledger):
-        self.sheet, self.ledger, self.columns = sheet, ledger, {}
+        self.sheet, self.ledger, self.columns, self.listed = sheet, ledger, {}, False
         known = KNOWN[sheet.name]
-        for at, cell in enumerate(sheet.headings):
+        width = max([len(sheet.headings), *(len(cells) for _, cells in sheet.rows)])
+        for at, cell in enumerate([*sheet.headings, *[None] * (width - len(sheet.headings))]):
             heading = "" if is_blank(cell) else shown_heading(cell)
             column = known.get(folded(heading))
             if not heading:
@@ -64,7 +65,9 @@ class Table:
         near = nearest(heading, [column.heading for column in OF_SHEET[self.sheet.name]])
         quoted = any(folded(column.heading).startswith(folded(heading) + ", ") for column in OF_SHEET[self.sheet.name])
         guess = ' Did you mean "%s"?' % near if near else " In a CSV file a heading with a comma stands in quotation marks." if quoted else ""
-        self.ledger.wrong(self.sheet.name, 1, heading, "this heading is not known.%s Expected are: %s." % (guess, listed(self.sheet.name)))
+        known = "" if self.listed else " Expected are: %s." % listed(self.sheet.name)
+        self.listed = True
+        self.ledger.wrong(self.sheet.name, 1, heading, "this heading is not known.%s%s" % (guess, known))
 
     def ask_for(self, columns):
         """Tells each of these headings that is missing."""
@@ -116,7 +119,7 @@ class Line:
         for word in column.choices:
             if folded(text) == word:
                 return word
-        near = nearest(text, column.choices)
+        near = "" if text.strip().isdigit() else nearest(text, column.choices)
         return self.expected(column, guess="Did you mean %s?" % near if near else "")
 
     def word(self, column):
@@ -143,11 +146,11 @@ class Line:
         return whole
 
     def not_whole(self, column, scaled):
-        unit = " %s" % column.short_unit if column.unit else ""
+        converted = ", which is %s %s" % (scaled, column.short_unit) if column.places else ""
         mend = " Or give --against, which rounds it so that survival can only be lower." if column.rounding else ""
         formula = len(str(abs(scaled.digits))) > 15  # more digits than a spreadsheet shows: what a formula's arithmetic leaves
-        self.wrong(column, "found %s, which is %s%s; expected whole %s.%s%s" % (
-            shown(self.cell(column)), scaled, unit, column.whole_unit, mend, " In a formula, ROUND takes off what its arithmetic leaves." if formula else ""))
+        self.wrong(column, "found %s%s; expected whole %s.%s%s" % (
+            shown(self.cell(column)), converted, column.whole_unit, mend, " In a formula, ROUND takes off what its arithmetic leaves." if formula else ""))
 
 
 def shown_heading(cell):

@@ -14,12 +14,12 @@ J_M, J_K = Fraction(10, 33), Fraction(5, 33)
 B11, B12, B21, B22 = Fraction(-3267, 50), Fraction(11), Fraction(-363, 50), Fraction(11, 5)
 WEIGHTS = (Fraction(2, 5), Fraction(2, 5), Fraction(1, 5))
 
-NOT_PROVED = "No figure of this section is proved, and none of it is a figure of the library: it shows a mistake, and what the mistake would have made of this ship."
+NOT_PROVED = "No figure of this section is proved. It shows a mistake, and what the mistake would have made of this ship."
 HOW = (
     "A group of three and more zones is the chance of the whole span, less that of the span without its last zone, less that of the span without its first; "
     "the span without both has then been taken away twice, and is put back once. With the slip it is not put back.",
-    "The desk works out these chances itself, in exact fractions, from p and r of regulation 7-1. Survival, v, R and the marks are the library's: lower ends with the "
-    "bottoms of the survivals, upper ends with their tops. Groups that are not listed add nothing, with the slip as without it.",
+    "The desk works out these chances itself, in exact fractions, from p and r of regulation 7-1. Survival, v, R and the marks are the library's: lower ends "
+    "with the bottoms of the survivals, upper ends with their tops. Groups that are not listed add nothing, with the slip as without it.",
     "With the slip a chance can fall below zero. What an engine with this slip did with such a chance is not known, so both are shown: "
     "taken as it comes out, and held at 0 in each row.",
 )
@@ -117,10 +117,11 @@ class Slip:
         """Was this ship among those judged wrongly? In one sentence."""
         comes, held, proved = (SAID[verdict] for verdict in (self.as_it_comes.verdict, self.held.verdict, self.proved[0]))
         if comes != held:
-            return "It depends on what was done with chances below zero: taken as they come out, the ship %s; held at 0, it %s. It is proved that it %s." % (comes, held, proved)
+            both = "It depends on what was done with chances below zero: taken as they come out, the ship %s; held at 0, it %s." % (comes, held)
+            return "%s The proved verdict is that it %s." % (both, proved)
         if comes == proved:
             return "No: the ship %s, with the slip and without it." % proved
-        return "Yes: with the slip the ship %s. It is proved that it %s." % (comes, proved)
+        return "Yes: with the slip the ship %s. The proved verdict is that it %s." % (comes, proved)
 
 
 SAID = {MEETS: "meets", FAILS: "fails", UNSETTLED: "is unsettled"}

@@ -116,8 +116,8 @@ def sentence(findings):
         short = [index for index in findings.indices if index.verdict == FAILS]
         return [_short(index, findings.ship) for index in short] + _rest(findings, short)
     return [_open(index, findings.ship) for index in findings.indices if index.verdict == UNSETTLED] + [
-        "Neither can be said of it. Take it as not shown: where the design has a little in hand, enter it anew; the exact fractions, which are not proved, tell more "
-        "(see “Do it again”)."
+        "The proved ends do not decide it: take it as not shown. With a little more in hand at any case that loses, it will settle. On which side it lies now, "
+        "a second program that is not proved can tell (see “Do it again”)."
     ]
 
 

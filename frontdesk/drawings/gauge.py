@@ -3,8 +3,8 @@
 from .pen import Drawing, scaled, width
 
 BILLION = 10**9
-LEFT, LONG = 1_250, 5_800  # where a bar begins, and how long an index of one is
-GLASS, GLASS_LONG = 7_750, 2_300
+LEFT, LONG = 1_250, 5_700  # where a bar begins, and how long an index of one is
+GLASS, GLASS_LONG = 7_600, 2_200
 HEAD, STEP = 420, 420
 STEPS = tuple(digit * 10**power for power in range(10) for digit in (1, 2, 5))
 
@@ -17,7 +17,7 @@ def glass(ends):
 
 def drawn(entries, places):
     """Entries are (letter, its subscript, draught, lower, upper, mark as numerator and denominator, name of the mark, how it compares); places make text of billionths."""
-    drawing = Drawing("gauge", "The attained index and the partial indices against their marks", 11_400, HEAD + STEP * len(entries) + 60, least=720)
+    drawing = Drawing("gauge", "The attained index and the partial indices against their marks", 11_500, HEAD + STEP * len(entries) + 60, least=720)
     window = glass([entry[3:5] for entry in entries])
     _scale(drawing, len(entries), places(window).rstrip("0"))
     for i, entry in enumerate(entries):

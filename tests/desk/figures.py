@@ -68,14 +68,16 @@ def sums(name, found):
             tally.same(together, whole[part], "%s: %s add up" % (name, what))
     lost = tuple(sum(cause.loss[end] for cause in found.causes) for end in (0, 1))
     tally.same(lost, whole.loss, name + ": reasons add up to what is lost")
-    tally.that(whole.chance.lower - whole.adds.upper <= whole.loss.upper and whole.loss.lower <= whole.chance.upper - whole.adds.lower, name + ": loss")
+    least, most = whole.chance.lower - whole.adds.upper, whole.chance.upper - whole.adds.lower
+    tally.that(least <= whole.loss.upper and whole.loss.lower <= most, name + ": loss")
     listed = {(case.row.first, case.row.count) for case in found.cases}
     tally.same({(group.first, group.count) for group in found.groups if group.listed}, listed, name + ": listed groups")
     tally.same(len(found.groups), found.ship.zones * (found.ship.zones + 1) // 2, name + ": every group")
     tally.that(all(part.chance.lower <= BILLION for part in found.total.at), name + ": chances are at most one")
     tally.that(all(one.whole.kept is None or 0 <= one.whole.kept <= 100 for one in (*found.groups, *found.counts)), name + ": kept is a per cent")
     tally.same(sum(group.share.upper for group in found.groups if not group.listed), found.missing_most, name + ": missing groups")
-    tally.same([case.whole.loss.lower for case in found.worst], sorted((case.whole.loss.lower for case in found.worst), reverse=True), name + ": the worst first")
+    losses = [case.whole.loss.lower for case in found.worst]
+    tally.same(losses, sorted(losses, reverse=True), name + ": the worst first")
 
 
 def tables(name, found):
@@ -114,6 +116,7 @@ def workbook():
         if cell.column != 5 and (Fraction(repr(cell.value)) != Fraction(text) if isinstance(cell.value, (int, float)) else (cell.value or "") != text)
     ]
     tally.same((differ, len(lines)), ([], len(cells)), "the workbook's cells against the CSV")
+    tally.same(exports.workbook(found), exports.workbook(found), "the same findings give the same workbook")
     tally.same([book["indices"].cell(2, at).value for at in (1, 4, 5)], ["A", *found.required], "the workbook's indices")
 
 
@@ -150,7 +153,8 @@ def differences():
         tally.that(not found.agrees, "number %d of a row one off" % at)
     tally.that(not findings.find(Altered(data, "figures", lambda told: (*told[:2], 2, *told[3:])), ship).agrees, "another verdict")
     tally.that(not findings.find(Altered(data, "required", lambda told: (told[0] * 2, *told[1:])), ship).agrees, "another R")
-    tally.that(not findings.find(Altered(data, "groups", lambda told: [(told[0][0] + 99, told[0][1] + 99), *told[1:]]), ship).agrees, "another share of a group")
+    further = Altered(data, "groups", lambda told: [(told[0][0] + 99, told[0][1] + 99), *told[1:]])
+    tally.that(not findings.find(further, ship).agrees, "another share of a group")
 
 
 def refusals():
@@ -170,16 +174,19 @@ def words():
     """Reasons in words, and cut decimals."""
     cargo, given = Row(1, 1, 10, 10, results=(Result(0, 0, 0, 0),) * 3), Row(1, 1, 10, 10, given=(1, 2, 3))
     ferry = Row(1, 1, 10, 10, results=(Result(0, 0, 0, 0),) * 3, floodings=tuple(Flooding(1, 1, 0, 0, 0, ro_ro) for ro_ro in (True, False, False)))
-    tally.same(reasons.told(reasons.of(cargo, 15, 0), cargo, 0), "lever below 0.12 m, range below 16 degrees, heel above 25 degrees and opening immersed", "all marks")
+    every = "lever below 0.12 m, range below 16 degrees, heel above 25 degrees and opening immersed"
+    tally.same(reasons.told(reasons.of(cargo, 15, 0), cargo, 0), every, "all marks")
     tally.same(reasons.told(reasons.of(ferry, 7, 0), ferry, 0), "lever below 0.20 m, range below 20 degrees and heel above 7 degrees", "a ro-ro space")
     tally.same(reasons.told(reasons.of(ferry, 3, 0), ferry, 1), "lever below 0.12 m and range below 16 degrees", "no ro-ro space at that draught")
     tally.same(reasons.told(reasons.of(ferry, 0, 9999), ferry, 0), "intermediate stage or heeling moment", "no mark")
     tally.same(reasons.told(reasons.of(given, 0, 5), given, 0), "survival given below one", "given")
     tally.same([reasons.of(row, 0, 10_000) for row in (cargo, given, ferry)], [(), (), ()], "a survival of one")
     third = Fraction(1, 3)
-    tally.same([decimals.cut(third, 3), decimals.lifted(third, 3), decimals.cut(-third, 3), decimals.lifted(-third, 3)], ["0.333", "0.334", "-0.334", "-0.333"], "cut")
-    tally.same([decimals.nearer(third, 2), decimals.nearer(-third, 2), decimals.cut(726_658_435, 4, BILLION), decimals.lifted(5, 0, 2)], ["0.33", "-0.33", "0.7266", "3"], "cut")
-    tally.same([decimals.exact(1610, 2, 100), decimals.exact(-5, 3, 1000), decimals.per_cent(1, 3), decimals.per_cent(1, 0)], ["16.10", "-0.005", 33, None], "exact")
+    tally.same([decimals.cut(third, 3), decimals.cut(-third, 3), decimals.cut(726_658_435, 4, BILLION)], ["0.333", "-0.334", "0.7266"], "rounded down")
+    tally.same([decimals.lifted(third, 3), decimals.lifted(-third, 3), decimals.lifted(5, 0, 2)], ["0.334", "-0.333", "3"], "rounded up")
+    tally.same([decimals.nearer(third, 2), decimals.nearer(-third, 2)], ["0.33", "-0.33"], "towards zero")
+    tally.same([decimals.exact(1610, 2, 100), decimals.exact(-5, 3, 1000)], ["16.10", "-0.005"], "exact")
+    tally.same([decimals.per_cent(1, 3), decimals.per_cent(1, 0)], [33, None], "per cent")
     try:
         decimals.exact(1, 1, 3)
         tally.that(False, "a third is not exact")

@@ -59,7 +59,8 @@ def check_directory(archive, name):
     if len(parts) > MOST_PARTS:
         raise of_the_file(name, "this workbook has %d parts; expected at most %d. Copy the three sheets to a new workbook." % (len(parts), MOST_PARTS))
     if sum(part.file_size for part in parts) > MOST_BYTES:
-        raise of_the_file(name, "this workbook unpacks to more than %d MB; expected three tables. Copy the three sheets to a new workbook." % (MOST_BYTES // 10**6))
+        limit = MOST_BYTES // 10**6
+        raise of_the_file(name, "this workbook unpacks to more than %d MB; expected three tables. Copy the three sheets to a new workbook." % limit)
     if "xl/workbook.xml" in names:
         return
     if "xl/workbook.bin" in names:

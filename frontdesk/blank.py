@@ -1,11 +1,11 @@
-"""An empty workbook for a ship that is still to be entered: headings, units, notes, drop-downs, and every group of one, two and three zones in the file's order."""
+"""An empty workbook for a ship that is still to be entered: headings, units, notes, drop-downs, and the groups of up to three zones in the file's order."""
 
 from frontdesk.binding import bound
-from frontdesk.columns import (AFT, BEYOND, BREADTH, CASE, CASES, DEEPEST, DEPTH, FIRST, FLOODING, FORWARD, GIVEN, GROUP, HEIGHT, LENGTH, LIFEBOATS, LIGHT, NAME,
-                               OF_PART, OF_SHEET, PARTS, RULE, SECOND, SHIP, TYPE, ZONE, ZONE_NAME, ZONES)
+from frontdesk.columns import (AFT, BEYOND, BREADTH, CASE, CASES, DEEPEST, DEPTH, FIRST, FLOODING, FORWARD, GIVEN, GROUP, HEIGHT, LENGTH, LIFEBOATS, LIGHT,
+                               NAME, OF_PART, OF_SHEET, PARTS, RULE, SECOND, SHIP, TYPE, ZONE, ZONE_NAME, ZONES)
 from frontdesk.hullsheets import MOST_ZONES
 from frontdesk.mistakes import of_the_file
-from frontdesk.sheets import Sheet
+from frontdesk.sheets import laid_out
 from frontdesk.ship import CARGO, PASSENGER
 from frontdesk.units import plain
 
@@ -41,10 +41,10 @@ OF_NUMBER = {
     "given survival": "A survival from 0 to 1 where there is no curve; then the row has no results.",
 }
 OF_PARTS = {
-    FIRST: "At each of the draughts deepest, partial, light.",
-    SECOND: "Cargo ships: smaller damage that does worse, within the same place. All twelve columns, or none in a row.",
-    FLOODING: "Passenger ships: of the stage on the way that is survived worst, where it says intermediate.",
-    GIVEN: "Cargo ships.",
+    FIRST: "Results, at each of the draughts deepest, partial and light:",
+    SECOND: "Cargo ships, results of smaller damage that does worse, within the same place; all twelve cells of a row, or none:",
+    FLOODING: "Passenger ships; the intermediate stage is the one on the way that is survived worst:",
+    GIVEN: "Cargo ships:",
 }
 
 
@@ -60,7 +60,8 @@ def book(zones, type=""):
 def blank_sheets(zones, type=""):
     ship = [column for column in OF_SHEET[SHIP] if not type or type in column.types]
     cases = [GROUP, DEPTH, HEIGHT, CASE, *(column for part in PARTS if not type or type in PARTS[part] for column in OF_PART[part])]
-    return {SHIP: laid_out(SHIP, ship, [{TYPE: type}]), ZONES: laid_out(ZONES, OF_SHEET[ZONES], [{ZONE: at, AFT: 0 if at == 1 else ""} for at in range(1, zones + 1)]),
+    return {SHIP: laid_out(SHIP, ship, [{TYPE: type}]),
+            ZONES: laid_out(ZONES, OF_SHEET[ZONES], [{ZONE: at, AFT: 0 if at == 1 else ""} for at in range(1, zones + 1)]),
             CASES: laid_out(CASES, cases, [{GROUP: group, DEPTH: DEPTH.word, HEIGHT: HEIGHT.word} for group in groups(zones)])}
 
 
@@ -71,10 +72,6 @@ def groups(zones):
             yield str(first) if first == last else "%d-%d" % (first, last)
 
 
-def laid_out(name, columns, rows):
-    return Sheet(name, tuple(column.heading for column in columns), tuple((at, tuple(cells.get(column, "") for column in columns)) for at, cells in enumerate(rows, 2)))
-
-
 def notes(type=""):
     """The sheet of notes: what each column takes. It is not read."""
     rows = [("sheet", "heading", "takes", "what it is")]
@@ -82,12 +79,13 @@ def notes(type=""):
         rows += [(sheet, column.heading, takes(column), WHAT[column]) for column in columns if column in WHAT and (not type or type in column.types)]
     for part, columns in OF_PART.items():
         if not type or type in PARTS[part]:
-            rows.append((CASES, "", "", "%s: %s" % (part.capitalize(), OF_PARTS[part])))
+            rows.append((CASES, "", "", OF_PARTS[part]))
             rows += [(CASES, column.heading.rpartition(", ")[0] + ", ..", takes(column), described(column)) for column in columns if column.draught == 0]
     return rows + [("", "", "", line) for line in (
         "Rows may stand in any order; empty ones are passed over. Delete the groups that you do not enter: what is left out counts as not survived.",
-        "Add a row for each longitudinal bulkhead (b) and each watertight deck (H) that holds the water; the row stands for what lies between it and the row before.",
-        "Enter numbers as they are: one that is finer than the limits' last place is an error, or is rounded against survival with --against.")]
+        "Add a row for each longitudinal bulkhead (b) and each watertight deck (H) that holds the water; it stands for what lies beyond the row before.",
+        "Lengths, b and zones go to whole centimetres, draughts, H, levers and openings to millimetres, angles to hundredths of a degree, weights to tonnes.",
+        "What is finer is an error; with --against results are rounded so that survival can only be lower.")]
 
 
 def takes(column):
@@ -100,7 +98,7 @@ def takes(column):
 
 def described(column):
     heading = column.heading.rpartition(", ")[0]
-    for before in ("second ", "intermediate "):
+    for before, of in (("second ", "the smaller damage"), ("intermediate ", "the intermediate stage")):
         if heading.startswith(before):
-            return "%s: as %s." % (before.strip().capitalize(), heading[len(before):])
+            return "As %s, of %s." % (heading[len(before):], of)
     return OF_NUMBER[heading]

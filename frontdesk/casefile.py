@@ -20,7 +20,7 @@ DIGITS = frozenset(b"0123456789abcdef")
 
 
 def parse(data, name=""):
-    """The ship of a case file, or None where a line is no frame of the format. What the library accepts always has a ship; limits and order are the library's."""
+    """The ship of a case file, or None where a line is no frame of the format. What the library accepts has a ship; limits and order are its to judge."""
     if len(data) > LONGEST or not data.endswith(b"\n"):
         return None
     frames = [frame_of(line) for line in data[:-1].split(b"\n")]

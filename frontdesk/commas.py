@@ -63,7 +63,8 @@ def table(sheet, file, data):
             if len(rows) > MOST_ROWS + 1:
                 raise Mistakes([Mistake(sheet, len(rows), "", "found more than %d rows; expected at most 500 cases." % MOST_ROWS)])
     except csv.Error as fault:
-        raise Mistakes([Mistake(file, reader.line_num, "", "this cannot be read as CSV (%s). Look for a quotation mark that is not closed." % fault, "line")]) from None
+        text = "this cannot be read as CSV (%s). Look for a quotation mark that is not closed." % fault
+        raise Mistakes([Mistake(file, reader.line_num, "", text, "line")]) from None
     if not rows or all(is_blank(cell) for cell in rows[0]):
         raise Mistakes([Mistake(sheet, 1, "", "found nothing; expected the headings in this row.")])
     return separator, rows

@@ -7,6 +7,7 @@ from frontdesk.mistakes import of_the_file
 
 LONGEST_FILE = 20_000_000  # bytes that are read of a file
 KINDS = "an .xlsx workbook, a folder with ship.csv, zones.csv and cases.csv, or a case file"
+OTHERS = ((b"%PDF", "a PDF document"), (b"<", "a web page or another XML file"), (b"\x89PNG", "a picture"), (b"\xff\xd8", "a picture"), (b"{", "a JSON file"))
 ZIP = (b"PK\x03\x04", b"PK\x05\x06", b"PK\x07\x08")
 
 
@@ -71,7 +72,7 @@ def unlike(name, data):
     first = data[:2000].split(b"\n")[0]
     if name.casefold().endswith(".csv") or b";" in first or b"," in first and b"\0" not in data[:2000]:
         return "this is a single CSV file; expected a folder with ship.csv, zones.csv and cases.csv."
-    for start, what in ((b"%PDF", "a PDF document"), (b"<", "a web page or another XML file"), (b"\x89PNG", "a picture"), (b"\xff\xd8", "a picture"), (b"{", "a JSON file")):
+    for start, what in OTHERS:
         if data.startswith(start):
             return "this is %s; expected %s." % (what, KINDS)
     return "this is no file that the desk can read; expected %s." % KINDS

@@ -26,7 +26,8 @@ def check_layers(table, hull, rows):
 
 def check_number(ledger, hull, rows):
     if len(rows) > MOST_ROWS:
-        told(ledger, rows[MOST_ROWS], None, "this is row %d of the cases; expected at most %d. The groups of smallest chance can be left out." % (MOST_ROWS + 1, MOST_ROWS))
+        told(ledger, rows[MOST_ROWS], None, "this is row %d of the cases; expected at most %d. The groups of smallest chance can be left out."
+             % (MOST_ROWS + 1, MOST_ROWS))
     elif hull.type == PASSENGER and hull.places:
         fitting = (LONGEST - (27 + 4 * (len(hull.places) - 1)) - 7) // PASSENGER_LINE
         if len(rows) > fitting:

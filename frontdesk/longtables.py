@@ -26,7 +26,7 @@ def _damage(case, ship, anchor):
     """The first cells of a case, over its three lines."""
     row = case.row
     number = '<th scope=rowgroup rowspan=3 class=no>%s</th>' % (case.number if anchor else '<a href="#case-%d">%d</a>' % (case.number, case.number))
-    name = '<span class=name dir=auto>%s</span>' % escape(row.name) if row.name else ""
+    name = ' <span class=name dir=auto>%s</span>' % escape(row.name) if row.name else ""
     zones = row.first if row.count == 1 else "%d–%d" % (row.first, row.first + row.count - 1)
     half, top = row.depth == ship.half_breadth, row.height == ship.top
     return "%s<td rowspan=3>%s</td><td rowspan=3 class=zones>%s%s</td><td rowspan=3>%s%s</td><td rowspan=3>%s%s</td>" % (

@@ -2,9 +2,9 @@
 
 from frontdesk import casefile
 from frontdesk.casefile import CARGO_HULL, END, GIVEN, LENGTHS, PASSENGER_HULL, PASSENGERS, RESULTS, TWO_SETS
-from frontdesk.columns import AFT, BEYOND, BREADTH, CARGO_BREADTH, CARGO_LENGTH, CASES, DEEPEST, DEPTH, HEIGHT, LENGTH, LIFEBOATS, LIGHT, OF_PART, RULE
-from frontdesk.columns import FIRST, FLOODING, SECOND
 from frontdesk.columns import GIVEN as GIVEN_PART
+from frontdesk.columns import (BEYOND, BREADTH, CARGO_BREADTH, CARGO_LENGTH, CASES, DEEPEST, DEPTH, FIRST, FLOODING, HEIGHT, LENGTH, LIFEBOATS, LIGHT, OF_PART,
+                               RULE, SECOND)
 from frontdesk.mistakes import Mistake, Refused
 from frontdesk.ship import TOP_ABOVE_DEEPEST
 from frontdesk.units import plain

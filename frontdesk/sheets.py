@@ -18,6 +18,12 @@ class Sheet:
     comma: bool = False  # numbers have a decimal comma
 
 
+def laid_out(name, columns, rows):
+    """A sheet of these columns, from rows that have their cells by column; the first of them is row 2."""
+    return Sheet(name, tuple(column.heading for column in columns),
+                 tuple((at, tuple(cells.get(column, "") for column in columns)) for at, cells in enumerate(rows, 2)))
+
+
 class Ledger:
     """What is found wrong while tables are read, and how many numbers were rounded."""
 
@@ -57,8 +63,8 @@ class Table:
     def no_heading(self, at):
         for number, cells in self.sheet.rows:
             if at < len(cells) and not is_blank(cells[at]):
-                return self.ledger.wrong(self.sheet.name, number, "", "found %s in column %s, which has no heading in row 1; expected a heading, or nothing below it."
-                                         % (shown(cells[at]), letters(at)))
+                text = "found %s in column %s, which has no heading in row 1; expected a heading, or nothing below it."
+                return self.ledger.wrong(self.sheet.name, number, "", text % (shown(cells[at]), letters(at)))
         return None
 
     def unknown(self, heading):

@@ -4,11 +4,11 @@ from pathlib import Path
 
 from frontdesk import commas, workbook
 from frontdesk.casesheet import read_cases
-from frontdesk.columns import (AFT, BEYOND, BREADTH, CASE, CASES, DEEPEST, DEPTH, FIRST, FLOODING, FORWARD, GIVEN, GROUP, HEIGHT, LENGTH, LIFEBOATS, LIGHT, NAME,
-                               OF_PART, OF_SHEET, RULE, SECOND, SHIP, TYPE, ZONE, ZONE_NAME, ZONES)
+from frontdesk.columns import (AFT, BEYOND, BREADTH, CASE, CASES, DEEPEST, DEPTH, FIRST, FLOODING, FORWARD, GIVEN, GROUP, HEIGHT, LENGTH, LIFEBOATS, LIGHT,
+                               NAME, OF_PART, OF_SHEET, RULE, SECOND, SHIP, TYPE, ZONE, ZONE_NAME, ZONES)
 from frontdesk.hullsheets import read_ship, read_zones
 from frontdesk.layers import zones
-from frontdesk.sheets import Ledger, Sheet, Table
+from frontdesk.sheets import Ledger, Table, laid_out
 from frontdesk.ship import NO_OPENING, PASSENGER, RULES, Ship, Source
 from frontdesk.units import decimal
 
@@ -45,12 +45,12 @@ def ship_sheet(ship):
              LIGHT: decimal(ship.light, 3)}
     if ship.type == PASSENGER:
         cells.update({LIFEBOATS: ship.lifeboats, BEYOND: ship.excess, RULE: RULES[ship.rule]})
-    return sheet_of(SHIP, cells, [cells])
+    return laid_out(SHIP, cells, [cells])
 
 
 def zone_sheet(ship):
     names = ship.zone_names or ("",) * ship.zones
-    return sheet_of(ZONES, OF_SHEET[ZONES], [
+    return laid_out(ZONES, OF_SHEET[ZONES], [
         {ZONE: at + 1, ZONE_NAME: names[at], AFT: decimal(ship.places[at], 2), FORWARD: decimal(ship.places[at + 1], 2)} for at in range(ship.zones)])
 
 
@@ -63,7 +63,7 @@ def case_sheet(ship, every):
     if not parts & {FIRST, GIVEN}:
         parts.add(FIRST)
     columns = [GROUP, DEPTH, HEIGHT, CASE, *(column for part in OF_PART if part in parts for column in OF_PART[part])]
-    return sheet_of(CASES, columns, rows)
+    return laid_out(CASES, columns, rows)
 
 
 def case_cells(ship, row):
@@ -80,8 +80,3 @@ def case_cell(column, number):
     if column.choices:
         return "yes" if number else "no"
     return column.word if column.word and number == NO_OPENING else decimal(number, column.places)
-
-
-def sheet_of(name, columns, rows):
-    return Sheet(name, tuple(column.heading for column in columns),
-                 tuple((at, tuple(cells.get(column, "") for column in columns)) for at, cells in enumerate(rows, 2)))

@@ -2,9 +2,9 @@
 
 from typing import NamedTuple
 
-from .pen import Drawing, scaled, width
+from .pen import Drawing, scaled
 
-LEFT, LONG, STEP, HEAD = 900, 7_600, 330, 60
+LEFT, LONG, ROOM, STEP, HEAD = 900, 6_900, 3_700, 330, 60
 
 
 class Bar(NamedTuple):
@@ -18,7 +18,7 @@ class Bar(NamedTuple):
 
 
 def drawn(bars):
-    drawing = Drawing("levels", "Chance of damage by number of zones: survived, lost and not listed", LEFT + LONG + 2_600, HEAD + STEP * len(bars) + 60, least=560)
+    drawing = Drawing("levels", "Chance of damage by number of zones: survived, lost and not listed", LEFT + LONG + ROOM, HEAD + STEP * len(bars) + 60, least=560)
     longest = max(bar.kept + bar.lost + bar.missing for bar in bars) or 1
     for i, bar in enumerate(bars):
         top = HEAD + i * STEP

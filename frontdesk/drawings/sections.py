@@ -4,6 +4,7 @@ from typing import NamedTuple
 
 from .pen import Drawing, apart, scaled, width
 from .triangle import shade
+from .views import ticks
 
 WIDE, HIGH, GAP, LEFT, HEAD = 2_700, 1_900, 450, 700, 300
 
@@ -76,10 +77,5 @@ def _depths(drawing, left, cases, half, texts):
 
 
 def _heights(drawing, cases, highest, texts):
-    shown = [0, highest]
-    for height in sorted({case.above for case in cases}):
-        if all(abs(scaled(height, highest, HIGH) - scaled(other, highest, HIGH)) >= 120 for other in shown):
-            shown.append(height)
-    for height in shown:
-        y = _up(height, highest) + (70 if height == highest else 0 if height == 0 else 35)
-        drawing.text(LEFT - 110, y, texts["H", height] if height else "keel 0", 100, "quiet", "end")
+    heights = {case.above: texts["H", case.above] for case in cases}
+    ticks(drawing, LEFT - 110, HEAD, HIGH, highest, {0: "keel 0", **heights})

@@ -74,9 +74,10 @@ def _cells(drawing, groups, across, ground, step):
         drawing.line(x1, y1, x2, y2, "edge")
     for group, outline in outlines.items():
         _figures(drawing, group, outline, ground, step)
+    badges = []
     for group, outline in outlines.items():
         if group.rank:
-            _worst(drawing, group, outline, step)
+            _worst(drawing, group, outline, step, badges)
 
 
 def _figures(drawing, group, outline, ground, step):
@@ -96,12 +97,14 @@ def _figures(drawing, group, outline, ground, step):
             return
 
 
-def _worst(drawing, group, outline, step):
-    """A thicker outline, and the group's letter below its top corner."""
+def _worst(drawing, group, outline, step, badges):
+    """A thicker outline, and the group's letter below its top corner, or on it where another letter is too near."""
     drawing.area(outline, "worst")
     x, y = outline[2] if group.count == 1 else outline[1]
-    drawing.area(_disc(x, y + step // 4, 70), "badge")
-    drawing.text(x, y + step // 4 + 35, group.rank, 100, "onbadge strong", "middle")
+    y = next((y + down for down in (step // 4, -step // 5, -step // 2) if all(abs(x - a) > 150 or abs(y + down - b) > 150 for a, b in badges)), y)
+    badges.append((x, y))
+    drawing.area(_disc(x, y, 70), "badge")
+    drawing.text(x, y + 35, group.rank, 100, "onbadge strong", "middle")
 
 
 def _disc(x, y, r):

@@ -47,7 +47,7 @@ def _side(drawing, across, top, views):
             drawing.line(left, y, right, y, "deck")
             texts[height] = text
     drawing.line(across[0], top + HIGH, across[-1], top + HIGH, "keel")
-    _ticks(drawing, across[0] - 90, top, HIGH, highest, texts)
+    ticks(drawing, across[0] - 90, top, HIGH, highest, texts)
     wanted = [top + HIGH - scaled(height, highest, HIGH) + 35 for _, height, _ in views.draughts]
     for (name, height, text), y in zip(views.draughts, apart(wanted, 125, top, top + HIGH)):
         level = top + HIGH - scaled(height, highest, HIGH)
@@ -55,7 +55,7 @@ def _side(drawing, across, top, views):
         drawing.text(across[-1] + 90, y, "%s %s" % (name, text), 100, "quiet")
 
 
-def _ticks(drawing, x, top, high, whole, texts):
+def ticks(drawing, x, top, high, whole, texts):
     """Texts beside their heights; the ends always, others where they do not touch."""
     placed = {height: top + high - scaled(height, whole, high) + (75 if height == whole else 35) for height in texts}
     chosen = [0, whole]
@@ -80,7 +80,7 @@ def _plan(drawing, across, top, views):
             texts[depth] = name
     drawing.line(across[0], top, across[-1], top, "centre")
     drawing.line(across[0], top + high, across[-1], top + high, "keel")
-    _ticks(drawing, across[0] - 90, top, high, half, texts)
+    ticks(drawing, across[0] - 90, top, high, half, texts)
 
 
 def _stations(drawing, across, top, views):

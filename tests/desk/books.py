@@ -92,5 +92,6 @@ def cargo():
 def passenger():
     """A passenger ship of two zones."""
     row = [0.25, 20.5, 2, 1.2] * 3 + [9460, 604, 0.06, 9, 5.5, "no"] * 3
+    cases = [[group, depth, "top", "", *row] for group, depth in (("1", "B/2"), ("1-2", "B/2"), ("2", 1.5), ("2", "B/2"))]
     return Book([SHIP + PERSONS, ["Tern", "passenger", 60, 12, 4, 3.5, 300, 50, "2020"]], [ZONES + [], [1, "aft", 0, 30], [2, "forward", 30, 60]],
-                [PLACE + FIRST + FLOODED, ["1", "B/2", "top", "", *row], ["1-2", "B/2", "top", "", *row], ["2", 1.5, "top", "", *row], ["2", "B/2", "top", "", *row]])
+                [PLACE + FIRST + FLOODED, *cases])

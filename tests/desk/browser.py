@@ -20,6 +20,8 @@ from selenium.webdriver.chrome.service import Service  # noqa: E402
 from selenium.webdriver.common.action_chains import ActionChains  # noqa: E402
 from selenium.webdriver.common.by import By  # noqa: E402
 from selenium.webdriver.common.keys import Keys  # noqa: E402
+from selenium.webdriver.support.expected_conditions import staleness_of  # noqa: E402
+from selenium.webdriver.support.wait import WebDriverWait  # noqa: E402
 from tally import Tally  # noqa: E402
 
 ROOT = seeds.ROOT
@@ -57,7 +59,10 @@ class Browser:
         self.driver.find_element(By.ID, "file").send_keys("\n".join(map(str, files)))
         for box in tick:
             self.driver.find_element(By.ID, box).click()
-        self.driver.find_element(By.TAG_NAME, "button").click()
+        button = self.driver.find_element(By.TAG_NAME, "button")
+        button.click()
+        WebDriverWait(self.driver, 20).until(staleness_of(button))
+        WebDriverWait(self.driver, 20).until(lambda driver: driver.execute_script("return document.readyState") == "complete")
         return self.driver.find_element(By.TAG_NAME, "main").text
 
     def look(self, size=WIDE, scheme="light", media=""):
@@ -65,7 +70,10 @@ class Browser:
         self.driver.execute_cdp_cmd("Emulation.setEmulatedMedia", {"media": media, "features": [{"name": "prefers-color-scheme", "value": scheme}]})
 
     def audit(self, what, drawings=0):
+        begun = time.monotonic()
         found = self.driver.execute_script(AUDIT)
+        if "--times" in sys.argv:
+            print("%s %.1f s" % (what, time.monotonic() - begun), file=sys.stderr)
         tally.same(found["faults"], [], "%s: what it does not keep" % what)
         tally.that(found["texts"] > 5 and found["drawings"] >= drawings, "%s: it was looked at" % what, found)
         return found
@@ -142,7 +150,7 @@ def keyboard(driver, steps, what):
         ActionChains(driver).send_keys(Keys.TAB).perform()
         stop = driver.execute_script(
             "const a = document.activeElement, s = getComputedStyle(a), b = a.getBoundingClientRect();"
-            "return [a.outerHTML.slice(0, 90), a.matches(':focus-visible'), s.outlineStyle, parseFloat(s.outlineWidth), b.left >= 0 && b.width > 0 && b.top < innerHeight]")
+            "return [a.outerHTML.slice(0, 90), a.matches(':focus-visible'), s.outlineStyle, parseFloat(s.outlineWidth), b.left >= 0 && b.width > 0]")
         stops.add(stop[0])
         tally.that(stop[1] and stop[2] != "none" and stop[3] >= 1 and stop[4], "%s: the focus is seen" % what, stop)
     tally.that(len(stops) >= min(steps, 3), "%s: the tabulator goes on" % what, stops)
@@ -164,6 +172,35 @@ def reports(browser):
     browser.look()
     keyboard(browser.driver, 6, "the report")
     paper(browser, browser.scratch / (FERRY + ".html"))
+
+
+FAULTY = """<!DOCTYPE html><html><head><title> </title></head><body style="background: #fff; color: #000"><main><h1>One</h1><h3>Three</h3><h1>Two</h1>
+<a href="#nowhere">link</a><a href="#p"></a><p id="p" aria-labelledby="q">text</p><p id="p" style="color: #888">pale</p><input type="text"><button></button>
+<table><tr><td>1</td></tr><tr><th>2</th></tr></table><div class="scroll" style="overflow: auto; width: 9em"><p style="width: 20em">wide</p></div>
+<p style="overflow: hidden; width: 2em; white-space: nowrap">cut off in the middle</p><p style="width: 3000px">beyond</p>
+<svg viewBox="0 0 100 40" width="400"><text y="20">no role</text></svg>
+<svg role="img" viewBox="0 0 100 40" width="400"><text x="10" y="20">one</text></svg>
+<svg role="img" viewBox="0 0 100 40" width="400"><title>t</title><text x="90" y="10">outside</text></svg>
+<svg role="img" viewBox="0 0 100 40" width="400"><title>t</title><desc>d</desc><rect width="100" height="40" fill="#666"/><text x="10" y="20">first</text>
+<text x="14" y="22">second</text></svg><script></script></main></body></html>"""
+FOUND = (
+    "no language", "no title", "headings of the first level: 2", "a heading that skips a level", "something that is loaded or run", "an id twice: p", "a link that leads nowhere",
+    "a link without text", "aria-labelledby of nothing", "an input without a label", "a button without text", "a table without a caption", "a table without headings",
+    "a heading of a table without its scope", "an area that scrolls and cannot be reached", "a drawing that is not said to be one", "a drawing without a title",
+    "a drawing without a description", "the page is wider than the window", "text that is cut off", "a text outside of its drawing", "two texts on each other",
+    "contrast 3.5", "contrast 3.66",
+)  # fmt: skip
+
+
+def audited(browser):
+    """The audit itself: a page with every fault that it looks for."""
+    page = browser.scratch / "faulty.html"
+    page.write_text(FAULTY)
+    browser.look()
+    browser.driver.get(page.as_uri())
+    faults = browser.driver.execute_script(AUDIT)["faults"]
+    for what in FOUND:
+        tally.that(any(fault.startswith(what) for fault in faults), "the audit finds %r" % what, faults)
 
 
 def paper(browser, page):
@@ -201,6 +238,7 @@ def main():
     words = argparse.ArgumentParser(description=__doc__)
     words.add_argument("--pictures", type=Path, metavar="DIR", help="takes the README's pictures into a folder, and tests nothing else")
     words.add_argument("--keep", type=Path, metavar="DIR", help="keeps pages and the printed report in a folder")
+    words.add_argument("--times", action="store_true", help="tells how long each look took")
     asked = words.parse_args()
     scratch = Path(tempfile.mkdtemp(prefix="browser."))
     browser = Browser(scratch)
@@ -212,6 +250,7 @@ def main():
         uploads(browser)
         elsewhere = [url for url in browser.requests() if not url.startswith((browser.address, "data:", "chrome:", "about:"))]
         tally.same(elsewhere, [], "nothing is asked for elsewhere")
+        audited(browser)
         reports(browser)
         elsewhere = [url for url in browser.requests() if not url.startswith(("file://%s/" % scratch, "data:"))]
         tally.same(elsewhere, [], "a report asks for nothing but itself")

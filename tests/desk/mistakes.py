@@ -14,9 +14,10 @@ from frontdesk import intake  # noqa: E402
 from frontdesk.mistakes import MOST_SHOWN, Mistakes  # noqa: E402
 
 OF_SHIP = "name; type; Ls m; B m; deepest draught m; light draught m; persons in lifeboats; persons beyond; rule"
-OF_CASES = ("zones; b m; H m; case; lever m, DRAUGHT; range deg, DRAUGHT; heel deg, DRAUGHT; opening m, DRAUGHT; second lever m, DRAUGHT; second ran"
-            "ge deg, DRAUGHT; second heel deg, DRAUGHT; second opening m, DRAUGHT; displacement t, DRAUGHT; heeling moment tm, DRAUGHT; intermediate leve"
-            "r m, DRAUGHT; intermediate range deg, DRAUGHT; intermediate heel deg, DRAUGHT; ro-ro, DRAUGHT; given survival, DRAUGHT (DRAUGHT is deepest, partial or light)")
+OF_CASES = ("zones; b m; H m; case; lever m, DRAUGHT; range deg, DRAUGHT; heel deg, DRAUGHT; opening m, DRAUGHT; second lever m, DRAUGHT; "
+            "second range deg, DRAUGHT; second heel deg, DRAUGHT; second opening m, DRAUGHT; displacement t, DRAUGHT; heeling moment tm, "
+            "DRAUGHT; intermediate lever m, DRAUGHT; intermediate range deg, DRAUGHT; intermediate heel deg, DRAUGHT; ro-ro, DRAUGHT; given "
+            "survival, DRAUGHT (DRAUGHT is deepest, partial or light)")
 
 MISTAKES = [
     (cargo, lambda book: book.put("ship", 2, "type", "tanker"),
@@ -258,7 +259,8 @@ def all_at_once(tally):
     """Three sheets with a mistake each are told together; of many the first fifty, and how many more there are."""
     book = cargo().put("ship", 2, "Ls m", 90.005).put("zones", 2, "zone", "one").put("cases", 2, "heel deg, light", 95)
     found = lines_of(book.bytes())
-    tally.same([line.partition(": ")[0] for line in found], ['ship, row 2, "Ls m"', 'zones, row 2, "zone"', 'cases, row 2, "heel deg, light"'], "a mistake in each sheet")
+    places = ['ship, row 2, "Ls m"', 'zones, row 2, "zone"', 'cases, row 2, "heel deg, light"']
+    tally.same([line.partition(": ")[0] for line in found], places, "a mistake in each sheet")
     book = cargo()
     for row in range(2, 8):
         for at in range(4, 16):

@@ -81,7 +81,8 @@ def names_and_order(tally):
     named = replace(ship, name="Plover \u2116 7; \"second\", of two", zone_names=tuple("zone, %d" % at for at in range(ship.zones)),
                     rows=tuple(replace(row, name="case;%d" % at) for at, row in enumerate(ship.rows)))
     for form, sheets in (("in order", tables.sheets_of(named)), ("turned", tables.sheets_of(replace(named, rows=named.rows[::-1])))):
-        for way, other in (("CSV", tables.read(commas.written(sheets))), ("semicolons", tables.read(commas.written(sheets, ";", True))), ("workbook", tables.read(binding.bound(sheets)))):
+        for way, written in (("CSV", commas.written(sheets)), ("semicolons", commas.written(sheets, ";", True)), ("workbook", binding.bound(sheets))):
+            other = tables.read(written)
             same = (other.name, other.zone_names, [row.name for row in other.rows]) == (named.name, named.zone_names, [row.name for row in named.rows])
             tally.that(same and casefile.write(other) == casefile.write(ship), "names", form, way)
             tally.same(other.source.reordered, form == "turned", "order " + form)

@@ -43,7 +43,16 @@ static const struct {
 };
 
 /* In the order in which a row's numbers have them. */
-static const char *const draughts[] = {"deepest", "partial", "light"};
+static const struct {
+    size_t at;
+    const char *name;
+} draughts[] = {
+    {DAMINDEX_ROW_DEEPEST, "deepest"},
+    {DAMINDEX_ROW_PARTIAL, "partial"},
+    {DAMINDEX_ROW_LIGHT, "light"},
+};
+
+enum { MOST_ZONES = 20 };
 
 /* How a program ends by verdict. */
 static const int statuses[] = {[DAMINDEX_MEETS] = 0, [DAMINDEX_FAILS] = 2, [DAMINDEX_UNSETTLED] = 3};
@@ -56,6 +65,12 @@ static const char *refusal_of(uint64_t number) {
 
 static void tell_index(const char *name, const uint64_t ends[2]) {
     printf("%-2s %10" PRIu64 " to %10" PRIu64 " billionths\n", name, ends[0], ends[1]);
+}
+
+/* The fractions that the verdict goes by, exactly. */
+static void tell_required(const uint64_t numbers[DAMINDEX_REQUIRED_NUMBERS]) {
+    printf("required: A %" PRIu64 "/%" PRIu64, numbers[DAMINDEX_R_NUMERATOR], numbers[DAMINDEX_R_DENOMINATOR]);
+    printf(", each partial index %" PRIu64 "/%" PRIu64 "\n", numbers[DAMINDEX_MARK_NUMERATOR], numbers[DAMINDEX_MARK_DENOMINATOR]);
 }
 
 /* Whether a file is a passenger ship's: its hull is of kind 06. */
@@ -75,13 +90,48 @@ static void tell_marks(uint64_t bottom, uint64_t added_up, int of_passengers) {
     }
 }
 
-/* A row's survival at each draught: bottom, top, and its marks. */
-static void tell_survivals(uint64_t row, const uint64_t numbers[DAMINDEX_ROW_NUMBERS], int of_passengers) {
-    for (size_t at = 0; at < DAMINDEX_ROW_NUMBERS; at += 3) {
-        printf("row %3" PRIu64 ": %-7s survival %5" PRIu64 " to %5" PRIu64 " ten-thousandths", row, draughts[at / 3], numbers[at], numbers[at + 1]);
-        tell_marks(numbers[at], numbers[at + 2], of_passengers);
+/* A row's share, and what it has at each draught: v, survival, what it adds to the index, and what holds the survival down. */
+static void tell_row(uint64_t row, const uint64_t numbers[DAMINDEX_ROW_NUMBERS], int of_passengers) {
+    printf("row %3" PRIu64 ": share %10" PRIu64 " to %10" PRIu64 " billionths\n", row, numbers[DAMINDEX_ROW_SHARE_LOWER], numbers[DAMINDEX_ROW_SHARE_UPPER]);
+    for (size_t i = 0; i < sizeof draughts / sizeof *draughts; i++) {
+        const uint64_t *six = numbers + draughts[i].at;
+        printf("row %3" PRIu64 ": %-7s v %6" PRIu64 " of %d", row, draughts[i].name, six[DAMINDEX_V], DAMINDEX_WHOLE_V);
+        printf(", survival %5" PRIu64 " to %5" PRIu64 " ten-thousandths", six[DAMINDEX_BOTTOM], six[DAMINDEX_TOP]);
+        printf(", adds %10" PRIu64 " to %10" PRIu64 " billionths", six[DAMINDEX_ADDS_LOWER], six[DAMINDEX_ADDS_UPPER]);
+        tell_marks(six[DAMINDEX_BOTTOM], six[DAMINDEX_MARKS], of_passengers);
         printf("\n");
     }
+}
+
+/* A byte of an accepted file from its two digits. */
+static int byte_of(const uint8_t digits[2]) {
+    int byte = 0;
+    for (size_t i = 0; i < 2; i++) byte = 16 * byte + (digits[i] <= '9' ? digits[i] - '0' : digits[i] - 'a' + 10);
+    return byte;
+}
+
+/* Which groups an accepted file lists, by first zone and number of zones: bytes 1 and 2 of each line between the first and the last. */
+static void find_listed(const uint8_t *input, size_t length, int listed[MOST_ZONES + 1][MOST_ZONES + 1]) {
+    for (size_t at = 1; at < length; at++)
+        if (input[at - 1] == '\n' && !(input[at] == '0' && input[at + 1] == 'f')) listed[byte_of(input + at + 2)][byte_of(input + at + 4)] = 1;
+}
+
+/* Each group that the file does not list and that some damage reaches, with its share, and what all that are not listed could add at most. */
+static void tell_not_listed(const uint8_t *input, size_t length, const uint64_t *ends, size_t count) {
+    static int listed[MOST_ZONES + 1][MOST_ZONES + 1];
+    size_t zones = 0, groups = 0;
+    uint64_t most = 0;
+    find_listed(input, length, listed);
+    while (zones * (zones + 1) < count) zones++;
+    for (size_t first = 1; first <= zones; first++)
+        for (size_t many = 1; first + many <= zones + 1; many++, ends += 2) {
+            if (listed[first][many]) continue;
+            groups++;
+            most += ends[1];
+            if (ends[0] == 0) continue;
+            printf("zones %2zu to %2zu: not listed, share %10" PRIu64 " to %10" PRIu64 " billionths\n", first, first + many - 1, ends[0], ends[1]);
+        }
+    printf("groups not listed: %zu, which could add at most %10" PRIu64 " billionths\n", groups, most);
 }
 
 /* Whether the library that runs is one that this program was compiled for: of the same major version, and not older. */
@@ -92,8 +142,8 @@ static int library_fits(void) {
 
 int main(void) {
     static uint8_t input[DAMINDEX_LONGEST_INPUT + 1];
-    static uint64_t sheet[DAMINDEX_LONGEST_SHEET], rows[DAMINDEX_LONGEST_ROWS];
-    uint64_t figures[DAMINDEX_FIGURES];
+    static uint64_t sheet[DAMINDEX_LONGEST_SHEET], rows[DAMINDEX_LONGEST_ROWS], groups[DAMINDEX_LONGEST_GROUPS];
+    uint64_t figures[DAMINDEX_FIGURES], required[DAMINDEX_REQUIRED_NUMBERS];
 
     if (!library_fits()) {
         fprintf(stderr, "compiled for damindex %s, and the library's number is %" PRIu32 "\n", DAMINDEX_VERSION_STRING, damindex_version());
@@ -113,10 +163,11 @@ int main(void) {
     tell_index("As", figures + DAMINDEX_AS_LOWER);
     tell_index("Ap", figures + DAMINDEX_AP_LOWER);
     tell_index("Al", figures + DAMINDEX_AL_LOWER);
+    damindex_required(input, length, required, DAMINDEX_REQUIRED_NUMBERS);
+    tell_required(required);
     damindex_rows(input, length, rows, DAMINDEX_LONGEST_ROWS);
-    for (uint64_t row = 0; row < figures[DAMINDEX_ROWS]; row++) {
-        printf("row %3" PRIu64 ": share %10" PRIu64 " to %10" PRIu64 " billionths\n", row + 1, sheet[2 * row], sheet[2 * row + 1]);
-        tell_survivals(row + 1, rows + DAMINDEX_ROW_NUMBERS * row, is_of_passengers(input, length));
-    }
+    for (uint64_t row = 0; row < figures[DAMINDEX_ROWS]; row++) tell_row(row + 1, rows + DAMINDEX_ROW_NUMBERS * row, is_of_passengers(input, length));
+    size_t count = damindex_groups(input, length, groups, DAMINDEX_LONGEST_GROUPS);
+    tell_not_listed(input, length, groups, count);
     return statuses[figures[DAMINDEX_VERDICT]];
 }

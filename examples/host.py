@@ -13,11 +13,12 @@ import sys
 from pathlib import Path
 
 LIBRARY = Path(__file__).resolve().parent.parent / "target" / "library" / "lib" / "libdamindex.so"
-WRITTEN_FOR = 60000  # version 6.0.0; another one serves where the major number is the same and it is not older
+WRITTEN_FOR = 70000  # version 7.0.0; another one serves where the major number is the same and it is not older
 
 # as include/damindex.h has them
 LONGEST_INPUT, LONGEST_REPORT, LONGEST_SHEET, FIGURES = 65536, 12569, 1000, 12
-ROW_NUMBERS, LONGEST_ROWS = 9, 4500
+ROW_NUMBERS, LONGEST_ROWS, DRAUGHT_NUMBERS, REQUIRED_NUMBERS, LONGEST_GROUPS = 20, 10000, 6, 4, 420
+WHOLE_V = 916500  # what v is counted in
 MARKS = {1: "lever", 2: "range", 4: "heel", 8: "an immersed opening"}
 DRAUGHTS = ("deepest", "partial", "light")
 
@@ -59,26 +60,51 @@ def load(path):
     # bytes go as c_char_p with their length beside it, so that a zero byte among them is nothing special
     library.damindex_figures.argtypes = [ctypes.c_char_p, ctypes.c_size_t, numbers, ctypes.c_size_t, numbers, ctypes.c_size_t]
     library.damindex_figures.restype = ctypes.c_size_t
-    library.damindex_rows.argtypes = [ctypes.c_char_p, ctypes.c_size_t, numbers, ctypes.c_size_t]
-    library.damindex_rows.restype = ctypes.c_size_t
+    for entry in (library.damindex_rows, library.damindex_required, library.damindex_groups):
+        entry.argtypes = [ctypes.c_char_p, ctypes.c_size_t, numbers, ctypes.c_size_t]
+        entry.restype = ctypes.c_size_t
     library.damindex_report.argtypes = [ctypes.c_char_p, ctypes.c_size_t, ctypes.POINTER(ctypes.c_char), ctypes.c_size_t]
     library.damindex_report.restype = ctypes.c_size_t
     return library
 
 
 def figures(library, data):
-    """The twelve figures of any bytes, and each row's share as a pair: lower end, upper end, in billionths."""
+    """The twelve figures of any bytes. Each row's share is on the sheet, and among the row's own numbers too."""
     sheet, told = (ctypes.c_uint64 * LONGEST_SHEET)(), (ctypes.c_uint64 * FIGURES)()
     library.damindex_figures(data, len(data), sheet, len(sheet), told, len(told))
-    rows = told[3]
-    return list(told), [(sheet[2 * row], sheet[2 * row + 1]) for row in range(rows)]
+    return list(told)
 
 
-def survivals(library, data):
-    """Each row's survival at the deepest, the partial and the light draught: bottom, top, marks; no row at all at a refusal."""
-    numbers = (ctypes.c_uint64 * LONGEST_ROWS)()
-    count = library.damindex_rows(data, len(data), numbers, len(numbers))
-    return [[numbers[at:at + 3] for at in range(row, row + ROW_NUMBERS, 3)] for row in range(0, count, ROW_NUMBERS)]
+def lent(entry, data, longest):
+    """What an entry gives of any bytes: its numbers, none at a refusal."""
+    numbers = (ctypes.c_uint64 * longest)()
+    return numbers[:entry(data, len(data), numbers, longest)]
+
+
+def rows(library, data):
+    """Each row's share, and what it has at the deepest, the partial and the light draught: v, bottom, top, marks, and the ends of what it adds."""
+    numbers = lent(library.damindex_rows, data, LONGEST_ROWS)
+    told = [numbers[at:at + ROW_NUMBERS] for at in range(0, len(numbers), ROW_NUMBERS)]
+    return [(row[:2], [row[at:at + DRAUGHT_NUMBERS] for at in range(2, ROW_NUMBERS, DRAUGHT_NUMBERS)]) for row in told]
+
+
+def required(library, data):
+    """R and what each partial index must reach, numerator and denominator of each."""
+    return lent(library.damindex_required, data, REQUIRED_NUMBERS)
+
+
+def groups(library, data):
+    """The ends of each group's share, by its first zone and its last, in the order in which the library gives them."""
+    numbers = lent(library.damindex_groups, data, LONGEST_GROUPS)
+    zones = next(zones for zones in range(21) if zones * (zones + 1) == len(numbers))
+    named = [(first, last) for first in range(1, zones + 1) for last in range(first, zones + 1)]
+    return dict(zip(named, zip(numbers[::2], numbers[1::2])))
+
+
+def listed(data):
+    """The groups that an accepted file lists, by first zone and last: bytes 1 and 2 of each line between the first and the last."""
+    heads = [bytes.fromhex(line[:6].decode("ascii")) for line in data.split()[1:-1]]
+    return {(first, first + many - 1) for _, first, many in heads}
 
 
 def report(library, data):
@@ -107,19 +133,43 @@ def held_down(bottom, marks, of_passengers):
     return ", held down by the intermediate stage or the heeling moment" if of_passengers and bottom < 10000 else ""
 
 
-def tell(told, shares, rows, of_passengers):
+def tell_indices(library, data, ends):
+    """A and the partial indices, and what they must reach."""
+    for name, lower, upper in zip(("A", "As", "Ap", "Al"), ends[::2], ends[1::2]):
+        print("%-2s %s to %s" % (name, decimal(lower), decimal(upper)))
+    print("required: A %d/%d, each partial index %d/%d" % tuple(required(library, data)))
+
+
+def tell_rows(library, data):
+    """Each row's share, and at each draught its v, its survival, what it adds to the index, and what holds the survival down."""
+    for row, ((lower, upper), three) in enumerate(rows(library, data), 1):
+        print("row %3d: share %s to %s" % (row, decimal(lower), decimal(upper)))
+        for draught, (v, bottom, top, marks, least, most) in zip(DRAUGHTS, three):
+            survival, adds = (decimal(bottom, 4), decimal(top, 4)), (decimal(least), decimal(most))
+            print("row %3d: %-7s v %6d of %d, survival %s to %s, adds %s to %s%s"
+                  % (row, draught, v, WHOLE_V, *survival, *adds, held_down(bottom, marks, is_of_passengers(data))))
+
+
+def tell_not_listed(library, data):
+    """Each group that the file does not list and that some damage reaches, with its share, and what all that are not listed could add at most."""
+    there = listed(data)
+    missing = {group: ends for group, ends in groups(library, data).items() if group not in there}
+    for (first, last), (lower, upper) in missing.items():
+        if lower:
+            print("zones %2d to %2d: not listed, share %s to %s" % (first, last, decimal(lower), decimal(upper)))
+    print("groups not listed: %d, which could add at most %s" % (len(missing), decimal(sum(upper for _, upper in missing.values()))))
+
+
+def tell(library, data, told):
     """The answer in words, and the status that the program ends with."""
     number, line, verdict, _, *ends = told
     if number:
         print("refused, number %d at line %d: %s" % (number, line, REFUSALS.get(number, NOT_KNOWN)))
         return REFUSED
     print(VERDICTS[verdict])
-    for name, lower, upper in zip(("A", "As", "Ap", "Al"), ends[::2], ends[1::2]):
-        print("%-2s %s to %s" % (name, decimal(lower), decimal(upper)))
-    for row, ((lower, upper), three) in enumerate(zip(shares, rows), 1):
-        print("row %3d: share %s to %s" % (row, decimal(lower), decimal(upper)))
-        for draught, (bottom, top, marks) in zip(DRAUGHTS, three):
-            print("row %3d: %-7s survival %s to %s%s" % (row, draught, decimal(bottom, 4), decimal(top, 4), held_down(bottom, marks, of_passengers)))
+    tell_indices(library, data, ends)
+    tell_rows(library, data)
+    tell_not_listed(library, data)
     return STATUSES[verdict]
 
 
@@ -143,9 +193,9 @@ def main():
             data = source.read(LONGEST_INPUT + 1)  # one byte more than the longest is enough to be refused
     except OSError as fault:
         arguments.error(str(fault))
-    told, shares = figures(library, data)
+    told = figures(library, data)
     if not chosen.report:
-        return tell(told, shares, survivals(library, data), is_of_passengers(data))
+        return tell(library, data, told)
     sys.stdout.write(report(library, data))
     return REFUSED if told[0] else STATUSES[told[2]]
 

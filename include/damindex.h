@@ -1,4 +1,4 @@
-/* The damage subdivision index for programs in C, and in every language that calls C: four functions of the library damindex.
+/* The damage subdivision index for programs in C, and in every language that calls C: six functions of the library damindex.
  *
  * What they take is a case file of a cargo ship (a hull of kind 01, rows of kinds 02, 03 and 05) or of a passenger ship (a hull of kind 06, rows of kind 07); the
  * file itself says which, and what comes back has the same shape for both. A passenger ship's hull says in a byte after its persons, byte 13, which rule the ship is
@@ -21,7 +21,7 @@
  * What the caller keeps, because no proof reaches into C:
  *   - no pointer is NULL, also where the length is 0; numbers of 64 bits are aligned as C aligns them;
  *   - each length is at most the number of elements that are there;
- *   - what is written (`out`, `sheet`, `figures`, `rows`) overlaps nothing else that is lent in the same call;
+ *   - what is written (`out`, `sheet`, `figures`, `rows`, `numbers`) overlaps nothing else that is lent in the same call;
  *   - nobody else writes what is lent until the call returns, and nobody reads what is written until then.
  *
  * Threads. Calls may run at the same time, in as many threads as there are, with no lock: what a call writes is its own until it returns, and
@@ -39,11 +39,11 @@ extern "C" {
 
 /* The version of this header. The library tells its own by damindex_version. Major: something that a program relies on has changed. Minor:
  * something was added. Patch: neither. A program runs with a library of its own major version that is not older. */
-#define DAMINDEX_VERSION_MAJOR 6
+#define DAMINDEX_VERSION_MAJOR 7
 #define DAMINDEX_VERSION_MINOR 0
 #define DAMINDEX_VERSION_PATCH 0
 #define DAMINDEX_VERSION (10000 * DAMINDEX_VERSION_MAJOR + 100 * DAMINDEX_VERSION_MINOR + DAMINDEX_VERSION_PATCH)
-#define DAMINDEX_VERSION_STRING "6.0.0"
+#define DAMINDEX_VERSION_STRING "7.0.0"
 
 /* Sizes that serve every input (proved). A longer input than the longest is refused for its length, whatever it holds: to read one byte more
  * than that is enough to tell. A passenger ship's file has 428 rows at most, with four zones in 65,534 bytes, and 427 from five zones on. */
@@ -52,8 +52,10 @@ enum {
     DAMINDEX_LONGEST_REPORT = 12569, /* bytes: 500 rows */
     DAMINDEX_LONGEST_SHEET = 1000,   /* numbers: two a row */
     DAMINDEX_FIGURES = 12,           /* numbers */
-    DAMINDEX_ROW_NUMBERS = 9,        /* numbers of a row's survivals */
-    DAMINDEX_LONGEST_ROWS = 4500     /* numbers: nine a row */
+    DAMINDEX_ROW_NUMBERS = 20,       /* numbers of a row */
+    DAMINDEX_LONGEST_ROWS = 10000,   /* numbers: twenty a row */
+    DAMINDEX_REQUIRED_NUMBERS = 4,   /* numbers: two fractions */
+    DAMINDEX_LONGEST_GROUPS = 420    /* numbers: two a group of zones, and twenty zones have 210 groups */
 };
 
 /* Where each of the twelve figures stands. Ends are in billionths: the exact index is not below the lower and not above the upper end. */
@@ -70,6 +72,37 @@ enum {
     DAMINDEX_AP_UPPER,
     DAMINDEX_AL_LOWER, /* at the light draught */
     DAMINDEX_AL_UPPER
+};
+
+/* Where each of a row's twenty numbers stands: its share first, then six numbers at each draught. */
+enum {
+    DAMINDEX_ROW_SHARE_LOWER = 0, /* the row's share of all damages, in billionths: the same ends as on the sheet */
+    DAMINDEX_ROW_SHARE_UPPER = 1,
+    DAMINDEX_ROW_DEEPEST = 2, /* where the six of the deepest draught begin */
+    DAMINDEX_ROW_PARTIAL = 8, /* those of the partial draught */
+    DAMINDEX_ROW_LIGHT = 14   /* and of the light draught */
+};
+
+/* Where each of the six numbers of a draught stands, counted from where they begin. */
+enum {
+    DAMINDEX_V = 0,          /* v, how much of the damages in height is the row's own: exact, in 916,500ths (DAMINDEX_WHOLE_V) */
+    DAMINDEX_BOTTOM,         /* the survival, in ten-thousandths: it is not below the bottom */
+    DAMINDEX_TOP,            /* and not above the top */
+    DAMINDEX_MARKS,          /* what holds the survival down: the marks below, added up */
+    DAMINDEX_ADDS_LOWER,     /* what the row adds to the partial index, share times v times survival, in billionths */
+    DAMINDEX_ADDS_UPPER,
+    DAMINDEX_DRAUGHT_NUMBERS /* six numbers a draught */
+};
+
+/* What v and a survival are counted in: so many are one. */
+enum { DAMINDEX_WHOLE_V = 916500, DAMINDEX_WHOLE_SURVIVAL = 10000 };
+
+/* Where each of the four numbers of the required index stands. */
+enum {
+    DAMINDEX_R_NUMERATOR = 0, /* R, which A must reach */
+    DAMINDEX_R_DENOMINATOR,
+    DAMINDEX_MARK_NUMERATOR, /* what each partial index must reach: half of R, of a passenger ship 0.9 of R */
+    DAMINDEX_MARK_DENOMINATOR
 };
 
 /* Verdicts. A mark here is R or its part, which an index is held against; those of a survival are below. */
@@ -134,18 +167,40 @@ size_t damindex_report(const uint8_t *input, size_t input_length, uint8_t *out, 
 size_t damindex_figures(const uint8_t *input, size_t input_length, uint64_t *sheet, size_t sheet_length, uint64_t *figures,
                         size_t figures_length);
 
-/* Each row's survival at the three draughts, and its marks there.
+/* Each row's share, and at the three draughts its v, its survival with the marks, and what it adds to the index.
  *
- * Takes a case file in `input`, and room for nine numbers a row in `rows`. Where the file is accepted it writes them to the front of `rows`, in
- * the order of the rows: at the deepest draught bottom, top and the marks added up, then the same three at the partial draught, then at the
- * light draught. Bottom and top are ten-thousandths: the exact survival is not below the bottom and not above the top, and a given survival is
- * both. A row of kind 05 has nine numbers too, at each draught those of the result that counts; which of its two that is, is not told. A bottom of
- * 10000 says that the survival is 1; a top of 10000 does not say so of a passenger ship's, which may lie between 0.9999 and 1. Returns how many numbers
- * that is: DAMINDEX_ROW_NUMBERS times the rows, at most DAMINDEX_LONGEST_ROWS, and 0 for a file with no rows.
+ * Takes a case file in `input`, and room for twenty numbers a row in `rows`. Where the file is accepted it writes them to the front of `rows`, in
+ * the order of the rows and of the places above. The exact survival is not below the bottom and not above the top, and a given survival is both. A
+ * row of kind 05 has twenty numbers too, at each draught those of the result that counts; which of its two that is, is not told. A bottom of 10000
+ * says that the survival is 1; a top of 10000 does not say so of a passenger ship's, which may lie between 0.9999 and 1. What a row adds lies
+ * between its ends, and the ends of all rows add up to those of the partial index, lower ones to the lower, upper ones to the upper, with no rest
+ * (proved): a sum over some of the rows encloses what these add. Returns how many numbers that is: DAMINDEX_ROW_NUMBERS times the rows, at most
+ * DAMINDEX_LONGEST_ROWS, and 0 for a file with no rows.
  *
  * Where the file is refused, or `rows` is too short for all of its numbers, it returns 0 and writes nothing. No sheet is lent, so that refusal 11
- * does not occur here. Which refusal it is, damindex_figures tells. */
+ * does not occur here, nor in what follows. Which refusal it is, damindex_figures tells. */
 size_t damindex_rows(const uint8_t *input, size_t input_length, uint64_t *rows, size_t rows_length);
+
+/* The required index R and the mark of a partial index, exactly: the fractions that the verdict goes by.
+ *
+ * Takes a case file in `input`, and room for four `numbers`. Where the file is accepted it writes them to the front of `numbers`, in the order of
+ * the places above. The fractions are not reduced: the numbers are those of the forms that the guide has, and the mark's denominator is twice R's, of a
+ * passenger ship ten times. Returns DAMINDEX_REQUIRED_NUMBERS.
+ *
+ * Where the file is refused, or `numbers` has fewer than four, it returns 0 and writes nothing. */
+size_t damindex_required(const uint8_t *input, size_t input_length, uint64_t *numbers, size_t numbers_length);
+
+/* The share of every group of zones, listed in the file or not, down to half the breadth.
+ *
+ * Takes a case file in `input`, and room for two numbers a group in `numbers`. Where the file is accepted it writes them to the front of `numbers`:
+ * lower and upper end of the group's share of all damages, in billionths, groups ordered by their first zone and then by how many they have, which
+ * is the order of the rows: 1, 1-2, 1-3 and so on to the last zone, then 2, 2-3 and so on, the last zone alone at the end. So it does of every group of
+ * zones that lie side by side, also of those that no damage can reach, whose lower end is 0. A group's v is one in all, and what a group that is not
+ * listed could add to each partial index is its upper end at most. Returns how many numbers that is: m zones have m (m + 1), at most
+ * DAMINDEX_LONGEST_GROUPS.
+ *
+ * Where the file is refused, or `numbers` is too short for all of them, it returns 0 and writes nothing. */
+size_t damindex_groups(const uint8_t *input, size_t input_length, uint64_t *numbers, size_t numbers_length);
 
 #ifdef __cplusplus
 }

@@ -40,7 +40,7 @@ class Parts(NamedTuple):
 
 class Exact(NamedTuple):
     """Row shares, chances by draught, A, As, Ap, Al and their marks, each row's survivals, what holds them down, which of two sets is lower and what
-    decides a passenger ship's, and whether every exposed group is listed."""
+    decides a passenger ship's, whether every exposed group is listed, each row's v and what it adds by draught, and the share of every group."""
 
     shares: Tuple[Fraction, ...]
     chances: Tuple[Fraction, ...]
@@ -51,6 +51,9 @@ class Exact(NamedTuple):
     lower: Tuple[Tuple[Optional[str], ...], ...]
     parts: Tuple[Tuple[Optional[Parts], ...], ...]
     all_listed: bool
+    heights: Tuple[Tuple[Fraction, ...], ...]
+    added: Tuple[Tuple[Bracket, ...], ...]
+    groups: Tuple[Fraction, ...]
 
 
 class Spans:
@@ -212,12 +215,16 @@ def chance_of_height(H, below, draught):
     return letters.v((H - draught) / 1_000) - letters.v((below - draught) / 1_000)
 
 
-def every_exposed_group_is_listed(ship, spans):
-    """Whether each group of non-zero share is among the ship's groups."""
+def group_shares(ship, spans):
+    """The share of each group down to B/2, by its first zone and then by how many it has."""
     m = len(ship.places) - 1
+    return {(a, n): spans.share(a, n, ship.B // 2) for a in range(1, m + 1) for n in range(1, m - a + 2)}
+
+
+def every_exposed_group_is_listed(ship, shares):
+    """Whether each group of non-zero share is among the ship's groups."""
     listed = {(group.a, group.n) for group in ship.groups}
-    missing = ((a, n) for a in range(1, m + 1) for n in range(1, m - a + 2) if (a, n) not in listed)
-    return all(spans.share(a, n, ship.B // 2) == 0 for a, n in missing)
+    return all(share == 0 for group, share in shares.items() if group not in listed)
 
 
 def exact_figures(ship):
@@ -225,8 +232,7 @@ def exact_figures(ship):
     spans = Spans(ship)
     ds, dl = Fraction(ship.ds), Fraction(ship.dl)
     draughts = (ds, dl + 3 * (ds - dl) / 5, dl)
-    shares, survivals, helds, lowers, decided = [], [], [], [], []
-    chances, lows, highs = [Fraction(0)] * 3, [Fraction(0)] * 3, [Fraction(0)] * 3
+    shares, survivals, helds, lowers, decided, heights, added = [], [], [], [], [], [], []
     for group in ship.groups:
         b_before = 0
         for layer in group.layers:
@@ -239,16 +245,16 @@ def exact_figures(ship):
                 helds.append(tuple(held(height, draught) for draught in range(3)))
                 lowers.append(tuple(lower(height, draught) for draught in range(3)))
                 decided.append(tuple(parts(height, draught) for draught in range(3)))
-                for j, (draught, exact) in enumerate(zip(draughts, survivals[-1])):
-                    chance = share * chance_of_height(height.H, below, draught)
-                    chances[j] += chance
-                    lows[j] += chance * exact.low
-                    highs[j] += chance * exact.high
+                heights.append(tuple(chance_of_height(height.H, below, draught) for draught in draughts))
+                added.append(tuple(Bracket(share * v * exact.low, share * v * exact.high) for v, exact in zip(heights[-1], survivals[-1])))
                 below = height.H
-    partials = tuple(Bracket(low, high) for low, high in zip(lows, highs))
+    chances = tuple(sum((share * three[j] for share, three in zip(shares, heights)), Fraction(0)) for j in range(3))
+    partials = tuple(Bracket(sum((three[j].low for three in added), Fraction(0)), sum((three[j].high for three in added), Fraction(0))) for j in range(3))
+    of_groups = group_shares(ship, spans)
     attained = Bracket(
         sum(weight * partial.low for weight, partial in zip(WEIGHTS, partials)),
         sum(weight * partial.high for weight, partial in zip(WEIGHTS, partials)))
     return Exact(
-        tuple(shares), tuple(chances), (attained, *partials), index_marks(ship),
-        tuple(survivals), tuple(helds), tuple(lowers), tuple(decided), every_exposed_group_is_listed(ship, spans))
+        tuple(shares), chances, (attained, *partials), index_marks(ship),
+        tuple(survivals), tuple(helds), tuple(lowers), tuple(decided), every_exposed_group_is_listed(ship, of_groups),
+        tuple(heights), tuple(added), tuple(of_groups.values()))

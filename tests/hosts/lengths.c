@@ -4,8 +4,10 @@
  *   f sheet figures file   -> what is returned, the array around the sheet, the array around the figures
  *   r out file             -> what is returned, the array around the buffer, byte by byte
  *   n rows file            -> what is returned, the array around the rows' numbers
+ *   q numbers file         -> what is returned, the array around the numbers of R and of the mark
+ *   g numbers file         -> what is returned, the array around the groups' ends
  *   v                      -> the library's version, the header's
- *   c                      -> the header's sizes and marks, in its order
+ *   c                      -> the header's sizes, places and marks, in its order
  * All of it runs on a stack of 64 kilobytes, which the header says is enough. */
 #include "asking.h"
 #include "damindex.h"
@@ -72,20 +74,28 @@ static void report_of_a_file(void) {
     free(out);
 }
 
-static void rows_of_a_file(void) {
+/* Those that lend one array of numbers. */
+typedef size_t Entry(const uint8_t *input, size_t input_length, uint64_t *numbers, size_t numbers_length);
+
+static void numbers_of_a_file(Entry *entry) {
     size_t length = (size_t)ask();
-    uint64_t *rows = marked_numbers(length);
+    uint64_t *numbers = marked_numbers(length);
     take_file();
-    tell(damindex_rows(file, file_length, rows + MARGIN, length));
+    tell(entry(file, file_length, numbers + MARGIN, length));
     drop_file();
-    tell_numbers(rows, length);
+    tell_numbers(numbers, length);
 }
 
 static void constants(void) {
-    static const uint64_t sizes[] = {DAMINDEX_LONGEST_INPUT, DAMINDEX_LONGEST_REPORT, DAMINDEX_LONGEST_SHEET,
-                                     DAMINDEX_FIGURES, DAMINDEX_ROW_NUMBERS, DAMINDEX_LONGEST_ROWS};
+    static const uint64_t sizes[] = {DAMINDEX_LONGEST_INPUT, DAMINDEX_LONGEST_REPORT, DAMINDEX_LONGEST_SHEET, DAMINDEX_FIGURES,
+                                     DAMINDEX_ROW_NUMBERS, DAMINDEX_LONGEST_ROWS, DAMINDEX_REQUIRED_NUMBERS, DAMINDEX_LONGEST_GROUPS};
+    static const uint64_t places[] = {DAMINDEX_ROW_SHARE_LOWER, DAMINDEX_ROW_SHARE_UPPER, DAMINDEX_ROW_DEEPEST, DAMINDEX_ROW_PARTIAL, DAMINDEX_ROW_LIGHT,
+                                      DAMINDEX_V, DAMINDEX_BOTTOM, DAMINDEX_TOP, DAMINDEX_MARKS, DAMINDEX_ADDS_LOWER, DAMINDEX_ADDS_UPPER,
+                                      DAMINDEX_DRAUGHT_NUMBERS, DAMINDEX_WHOLE_V, DAMINDEX_WHOLE_SURVIVAL,
+                                      DAMINDEX_R_NUMERATOR, DAMINDEX_R_DENOMINATOR, DAMINDEX_MARK_NUMERATOR, DAMINDEX_MARK_DENOMINATOR};
     static const uint64_t marks[] = {DAMINDEX_LOW_LEVER, DAMINDEX_LOW_RANGE, DAMINDEX_HIGH_HEEL, DAMINDEX_IMMERSED_OPENING};
     for (size_t i = 0; i < sizeof sizes / sizeof *sizes; i++) tell(sizes[i]);
+    for (size_t i = 0; i < sizeof places / sizeof *places; i++) tell(places[i]);
     for (size_t i = 0; i < sizeof marks / sizeof *marks; i++) tell(marks[i]);
 }
 
@@ -93,7 +103,9 @@ static void *answer_questions(void *none) {
     for (int question; (question = getchar()) != EOF;) {
         if (question == 'f') figures_of_a_file();
         else if (question == 'r') report_of_a_file();
-        else if (question == 'n') rows_of_a_file();
+        else if (question == 'n') numbers_of_a_file(damindex_rows);
+        else if (question == 'q') numbers_of_a_file(damindex_required);
+        else if (question == 'g') numbers_of_a_file(damindex_groups);
         else if (question == 'c') constants();
         else if (question == 'v') tell(damindex_version()), tell(DAMINDEX_VERSION);
         else exit(2);

@@ -16,6 +16,16 @@ size_t damindex_rows(const uint8_t *input, size_t input_length, uint64_t *rows, 
     return 0;
 }
 
+size_t damindex_required(const uint8_t *input, size_t input_length, uint64_t *numbers, size_t numbers_length) {
+    (void)input, (void)input_length, (void)numbers, (void)numbers_length;
+    return 0;
+}
+
+size_t damindex_groups(const uint8_t *input, size_t input_length, uint64_t *numbers, size_t numbers_length) {
+    (void)input, (void)input_length, (void)numbers, (void)numbers_length;
+    return 0;
+}
+
 size_t damindex_report(const uint8_t *input, size_t input_length, uint8_t *out, size_t out_length) {
     (void)input, (void)input_length, (void)out, (void)out_length;
     return 0;

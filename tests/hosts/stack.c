@@ -2,8 +2,8 @@
  *
  * Asked: how many files, and the files, as `asking.h` has them. Each call runs in a thread of its own, on the same stack painted anew; below the
  * stack lies a page that nobody may touch. What is lent lies elsewhere, so that the stack is the call's alone. Told, file by file: the answer, as
- * `answers.h` has it. On standard error: the most bytes that a call of damindex_figures, of damindex_rows and of damindex_report took, when each is made
- * a second time. */
+ * `answers.h` has it. On standard error: the most bytes that a call of damindex_figures, damindex_rows, damindex_required, damindex_groups and
+ * damindex_report took, when each is made a second time. */
 #define _DEFAULT_SOURCE
 #include "answers.h"
 #include <pthread.h>
@@ -14,7 +14,7 @@ enum { STACK = 65536, GUARD = 65536, PAINT = 0xA5 };
 
 typedef void Call(const struct file *file, struct answer *answer);
 
-static Call *const calls[] = {take_figures, take_rows, take_report};
+static Call *const calls[] = {take_figures, take_rows, take_required, take_groups, take_report};
 enum { CALLS = sizeof calls / sizeof *calls };
 
 static uint8_t *stack;
@@ -57,6 +57,6 @@ int main(void) {
         tell_answer(&answer);
         free(file.bytes);
     }
-    fprintf(stderr, "%zu %zu %zu\n", most[0], most[1], most[2]);
+    for (size_t i = 0; i < CALLS; i++) fprintf(stderr, "%zu\n", most[i]);
     return 0;
 }

@@ -82,9 +82,8 @@ def case_of(path):
         return "; ".join(mistakes.lines())
 
 
-def faults():
+def faults(files):
     """Each file against what is made of its case file, and its case file against what the desk reads from it."""
-    files = dict(made())
     for path, data in files.items():
         yield None if is_kept(path, data) else "%s is not what is made" % path.relative_to(HERE)
     for path in sorted({path if path.suffix == ".xlsx" else path.parent for path in files}):
@@ -95,7 +94,7 @@ def faults():
 
 
 def check():
-    looked_at = list(faults())
+    looked_at = list(faults(dict(made())))
     found = [fault for fault in looked_at if fault]
     for fault in found:
         print(fault)

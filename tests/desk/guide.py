@@ -1,0 +1,81 @@
+"""Reads the guide's chapter on the desk as a test: runs its commands, and holds its tables of columns, parts and warnings against the desk's own words."""
+
+import os
+import re
+import subprocess
+import sys
+import tempfile
+from pathlib import Path
+
+sys.dont_write_bytecode = True
+ROOT = Path(__file__).resolve().parent.parent.parent
+sys.path[:0] = [str(ROOT / "tests" / "desk"), str(ROOT)]
+
+from frontdesk import blank  # noqa: E402
+from frontdesk.columns import SHEETS  # noqa: E402
+from tally import Tally  # noqa: E402
+
+CHAPTER = re.compile(r"^## From a table to a report\n(.*?)(?=^## )", re.M | re.S)
+FENCE = re.compile(r"^```(\w*)\n(.*?)^```$", re.M | re.S)
+TABLE = r"^\| %s \|\n\|[-|]+\n((?:\|.*\n)+)"
+LENT = ("desk", "examples")  # what the commands name
+
+tally = Tally()
+
+
+def cells(text, head):
+    """The cells of each table under this head."""
+    return [[[cell.strip().strip("`") for cell in row.strip("|").split("|")] for row in rows.splitlines()] for rows in re.findall(TABLE % head, text, re.M)]
+
+
+def check_commands(text):
+    """Each command prints what stands below it, standard error too, in a folder that begins empty."""
+    blocks = FENCE.findall(text)
+    shown = [(command, after) for (kind, command), (kind_after, after) in zip(blocks, blocks[1:]) if (kind, kind_after) == ("sh", "text")]
+    tally.same(len(shown), len([kind for kind, _ in blocks if kind == "sh"]), "each command has what it prints below it")
+    with tempfile.TemporaryDirectory() as folder:
+        for name in LENT:
+            os.symlink(ROOT / name, Path(folder) / name)
+        for command, wanted in shown:
+            run = subprocess.run(["sh", "-c", command], cwd=folder, stdin=subprocess.DEVNULL, stdout=subprocess.PIPE, stderr=subprocess.STDOUT, timeout=60)
+            tally.same(run.stdout.decode("utf-8"), wanted, "what is printed by: " + command.strip())
+    tally.that(len(shown) >= 9, "the chapter has its commands")
+
+
+def check_columns(text):
+    """The three tables of columns have the words of the empty workbook's notes, every column once and in its order."""
+    tables = cells(text, r"heading \| takes \| what it is")
+    tally.same(len(tables), len(SHEETS), "a table of columns for each sheet")
+    for sheet, told in zip(SHEETS, tables):
+        tally.same(told, [list(row[1:]) for row in blank.notes() if row[0] == sheet and row[1]], "the columns of the sheet " + sheet)
+
+
+def check_parts(text):
+    """The parts of the report, by their numbers and headings."""
+    pages = "".join(path.read_text(encoding="utf-8") for path in sorted((ROOT / "frontdesk" / "templates").glob("*.html"))).lower()
+    for rows in cells(text, r"part \| what it tells") or [[]]:
+        numbers = [part.partition(" ") for part, _ in rows if part[0].isdigit()]
+        tally.same([number for number, _, _ in numbers], [str(number) for number in range(1, 9)], "the numbers of the report's parts")
+        for number, _, heading in numbers:
+            tally.that(re.search(r">%s</span>\s*%s" % (number, re.escape(heading)), pages), "part %s of the report is headed: %s" % (number, heading))
+
+
+def check_warnings(text):
+    """Each doubt of the desk has its line, in its own words, and no other has."""
+    source = (ROOT / "frontdesk" / "doubts.py").read_text(encoding="utf-8")
+    words = re.sub(r"%[sd]", "..", source)
+    for rows in cells(text, r"the warning \| what to do") or [[]]:
+        for told, _ in rows:
+            tally.that(all(piece.strip() in words for piece in told.split("..")), "the desk warns: " + told)
+        tally.same(len(rows), DOUBTS, "as many lines as there are doubts")
+
+
+DOUBTS = 15
+
+chapter = CHAPTER.search((ROOT / "docs" / "GUIDE.md").read_text(encoding="utf-8"))
+if tally.that(chapter, "the guide has its chapter on the desk"):
+    check_commands(chapter[1])
+    check_columns(chapter[1])
+    check_parts(chapter[1])
+    check_warnings(chapter[1])
+sys.exit(tally.close())

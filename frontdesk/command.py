@@ -97,22 +97,21 @@ def report(words):
 
 
 def case(words):
-    from . import casefile, enquiry, intake
+    from . import casefile, enquiry, summary
 
     free(words.input, words.output)
-    ship = intake.read(enquiry.named(words.input), given(words.input), words.against, refusal=engine.load().figures)
+    ship = enquiry.read(engine.load(), enquiry.named(words.input), given(words.input), words.against)
     outputs.put(words.output, casefile.write(ship))
     if ship.source.rounded:
-        print("desk: %d numbers were rounded so that survival can only be lower" % ship.source.rounded, file=sys.stderr)
+        print("desk: " + summary.rounded(ship), file=sys.stderr)
     return DONE
 
 
 def table(words):
-    from . import binding, commas, enquiry, intake, tables
+    from . import binding, commas, enquiry, tables
 
     free(words.input, words.output)
-    ship = intake.read(enquiry.named(words.input), given(words.input), refusal=engine.load().figures)
-    sheets = tables.sheets_of(ship)
+    sheets = tables.sheets_of(enquiry.read(engine.load(), enquiry.named(words.input), given(words.input)))
     if words.output.lower().endswith(".xlsx"):
         outputs.put(words.output, binding.bound(sheets))
         return DONE
@@ -145,6 +144,8 @@ def batch(words):
 
     if not os.path.isdir(words.input):
         raise of_the_file("", "%s is no folder." % words.input)
+    if words.output == outputs.STANDARD_OUTPUT or os.path.isdir(words.output):
+        raise of_the_file("", "%s: a batch writes its lines to a file." % words.output)
     return batches.run(words.input, words.output, engine.load())
 
 

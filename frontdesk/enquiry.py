@@ -4,7 +4,7 @@ import os
 from dataclasses import dataclass
 from typing import Any
 
-from . import doubts, findings, intake
+from . import casefile, doubts, findings, intake
 from .mistakes import Mistake, Mistakes
 
 
@@ -28,13 +28,19 @@ class Answer:
         return report.page(self.findings, self.doubts, self.slip)
 
 
+def read(engine, name, source, against=False):
+    """The ship of a path, or of the bytes of an upload, whose case file the library accepts; Mistakes where there is none."""
+    ship = intake.read(name, source, against, refusal=engine.figures)
+    number, line = engine.figures(casefile.write(ship))[:2]
+    if number:
+        raise unforeseen(ship, number, line)
+    return ship
+
+
 def asked(engine, name, source, against=False, licensed_slip=False):
     """The answer for a path, or for the bytes of an upload; Mistakes where there is none."""
-    ship = intake.read(name, source, against, refusal=engine.figures)
-    try:
-        found = findings.find(engine, ship)
-    except findings.Refused as refused:
-        raise unforeseen(ship, refused) from None
+    ship = read(engine, name, source, against)
+    found = findings.find(engine, ship)
     slipped = None
     if licensed_slip:
         from . import slip
@@ -43,13 +49,12 @@ def asked(engine, name, source, against=False, licensed_slip=False):
     return Answer(found, tuple(doubts.of(ship, found)), slipped)
 
 
-def unforeseen(ship, refused):
+def unforeseen(ship, number, line):
     """A refusal that the tables' own rules should have told: a defect of the desk, and said to be one."""
-    row = refused.row.place if refused.row else 0
+    row = ship.rows[line - 2].place if 2 <= line <= len(ship.rows) + 1 else 0
     sheet = "" if ship.source.form == "case file" else "cases" if row else "ship"
-    text = "the library refuses what was read here (refusal %d, line %d of the case file), and the desk did not foresee it: a defect of the desk." % (
-        refused.number, refused.line)
-    return Mistakes([Mistake(sheet, row, "", text)])
+    text = "the library refuses what was read here (refusal %d, line %d of the case file), and the desk did not foresee it: a defect of the desk."
+    return Mistakes([Mistake(sheet, row, "", text % (number, line))])
 
 
 def named(path):

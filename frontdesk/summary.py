@@ -19,7 +19,7 @@ def text(answer, written=()):
     lines += [index_line(index) for index in found.indices]
     lines += ["The sums of the desk DIFFER from the proved figures: do not use them." for _ in range(not found.agrees)]
     if answer.ship.source.rounded:
-        lines.append("%d numbers were rounded so that survival can only be lower." % answer.ship.source.rounded)
+        lines.append(rounded(answer.ship))
     if answer.ship.source.reordered:
         lines.append("The rows were put into the file's order.")
     lines += ["Warning: " + str(doubt) for doubt in answer.doubts]
@@ -27,6 +27,12 @@ def text(answer, written=()):
         lines.append("With the licensed slip (not proved): %s" % answer.slip.answer)
     lines += ["Written: %s" % path for path in written if path != "-"]
     return "\n".join(lines)
+
+
+def rounded(ship):
+    """What --against did."""
+    count = ship.source.rounded
+    return "%d number%s rounded so that survival can only be lower." % (count, " was" if count == 1 else "s were")
 
 
 def title(ship):

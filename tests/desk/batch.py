@@ -225,7 +225,7 @@ def from_outside(folder, out):
     (folder / "none").mkdir()
     for what, words, said in (
         ("an empty folder", [folder / "none", "-o", out], b"has no workbook"), ("no folder", [folder / "nowhere", "-o", out], b"is no folder"),
-        ("a result in no folder", [folder, "-o", folder / "nowhere" / "r.csv"], b"cannot be written"),
+        ("a result that is a folder", [folder, "-o", folder], b"to a file"), ("a result in no folder", [folder, "-o", folder / "nowhere" / "r.csv"], b"cannot be written"),
     ):  # fmt: skip
         ran = subprocess.run([str(ROOT / "desk"), "batch", *map(str, words)], stderr=subprocess.PIPE, check=False)
         tally.that(ran.returncode == 2 and said in ran.stderr and b"Traceback" not in ran.stderr, what, ran.stderr)

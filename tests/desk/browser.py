@@ -166,6 +166,7 @@ def reports(browser):
         subprocess.run([str(ROOT / "desk"), "report", str(EXAMPLES / (name + ".case")), "-o", str(page), "--licensed-slip"], stdout=subprocess.DEVNULL, check=False)
         browser.look()
         browser.driver.get(page.as_uri())
+        browser.driver.execute_script("for (const part of document.querySelectorAll('details')) part.open = true")
         for look in looks:
             browser.look({"narrow": NARROW, "paper": PAPER}.get(look, WIDE), "dark" if look == "dark" else "light", "print" if look == "paper" else "")
             browser.audit("%s, %s" % (name, look), drawings=2)

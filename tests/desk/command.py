@@ -1,6 +1,8 @@
 """Runs `./desk` as a user does: each command, its exit status, its words, what it writes and what it leaves alone."""
 
+import dataclasses
 import os
+import re
 import shutil
 import signal
 import subprocess
@@ -112,7 +114,25 @@ def cannot_read(folder):
     told("a folder without sheets", ["report", folder / "empty"], 2, "desk: there is no file ship.csv; found no CSV file.\nthere is no file zones.csv")
     _, err = told("a folder without sheets", ["case", folder / "empty"], 2)
     tally.same(err.count("desk: "), 1, "the program's name stands before the first mistake alone")
+    unforeseen()
     told("a library that is not there", ["report", EXAMPLES / "printed.case"], 2, "There is no file /none/lib.so.", env={**os.environ, "DAMINDEX_LIBRARY": "/none/lib.so"})
+
+
+def unforeseen():
+    """A refusal that the desk did not foresee is told with its number, its row and a sentence: here the rule on the rows' order is taken out of the desk."""
+    from frontdesk import casefile, engine, enquiry
+    from frontdesk.mistakes import Mistakes
+
+    ship = casefile.parse((EXAMPLES / "coaster.case").read_bytes())
+    read, enquiry.intake.read = enquiry.intake.read, lambda *_, **__: dataclasses.replace(
+        ship, rows=(ship.rows[1], ship.rows[0], *ship.rows[2:]), source=dataclasses.replace(ship.source, form="workbook"))
+    try:
+        enquiry.asked(engine.load(), "coaster.xlsx", b"")
+        tally.that(False, "rows out of order are refused")
+    except Mistakes as mistakes:
+        tally.that(re.fullmatch(r"cases, row \d+: the library refuses .*refusal 8, line 3 .*a defect of the desk\.", str(mistakes)), "an unforeseen refusal", mistakes)
+    finally:
+        enquiry.intake.read = read
 
 
 def rounds(folder):

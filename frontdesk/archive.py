@@ -1,5 +1,6 @@
 """A workbook's parts looked over before anything unpacks them: so many of them, so large and with so many tags, and none with what XML could hide in."""
 
+import html
 import io
 import re
 import zipfile
@@ -11,21 +12,23 @@ MOST_PARTS = 100
 MOST_BYTES = 50_000_000  # unpacked, all parts together
 MOST_TAGS = 1_000_000  # of all parts together; 2,000 rows with every column have less than half of it
 PIECE = 1 << 20  # bytes that are looked at in one go
+OVERLAP = 2_100  # bytes of the piece before that are looked at again, so that no tag is cut
 
 OLE = bytes.fromhex("d0cf11e0a1b11ae1")
-MERGED = re.compile(rb'<mergeCell\s[^>]*?ref="([A-Z0-9:]{2,30})"')
+MERGED = re.compile(rb'<(?:\w+:)?mergeCell\s[^>]*?ref="([A-Z0-9:]{2,30})"')
+ROW = re.compile(rb'<(?:\w+:)?row\b[^>]{0,2000}>')
+ROW_NUMBER = re.compile(rb'\sr="([0-9]{1,9})"')
+FORMULA = re.compile(rb"<(?:\w+:)?f[\s/>]")
+SHEET = re.compile(rb'<(?:\w+:)?sheet\s[^>]*>')
 
 
 class Part(NamedTuple):
     """What was seen in passing of a part of the workbook."""
 
     rows: int
+    ordered: bool  # the rows stand in the order of their numbers
     formulas: bool
     merged: tuple  # ranges such as A2:A5
-
-
-class TooMuch(Exception):
-    """A part with more tags than a table can have; how many rows it had up to there."""
 
 
 def look_over(data, name):
@@ -77,24 +80,42 @@ def scanned(archive, name):
         if not part.filename.casefold().endswith((".xml", ".rels", ".vml")):
             continue
         with archive.open(part) as file:
-            tags, found[part.filename] = scan(file, part.filename, left, name)
+            tags, seen = scan(file, left)
+        if tags is None:
+            raise of_the_file(name, "%s has XML that no spreadsheet program writes; nothing of it is read. Save the workbook again." % part.filename)
         left -= tags
+        if left < 0:
+            raise of_the_file(name, "%s has more than a table can have%s. Copy the three sheets, without empty rows below them, to a new workbook."
+                              % (sheet_named(archive, part.filename), ": %d rows so far" % seen.rows if seen.rows > 2_000 else ""))
+        found[part.filename] = seen
     return found
 
 
-def scan(file, part, left, name):
-    """How many tags a part has, and what is told of it."""
-    tags, rows, formulas, merged, before = 0, 0, False, [], b""
-    while piece := file.read(PIECE):
-        if b"<!DOCTYPE" in before + piece or b"<!ENTITY" in before + piece or piece.startswith((b"\xff\xfe", b"\xfe\xff")) or b"\0" in piece:
-            raise of_the_file(name, "%s has XML that no spreadsheet program writes; nothing of it is read. Save the workbook again." % part)
+def scan(file, left):
+    """How many tags a part has, up to somewhat more than are left, and what is told of it; no number of tags where it has what XML could hide in."""
+    tags, numbers, formulas, merged, before = 0, [], False, set(), b""
+    while tags <= left and (piece := file.read(PIECE)):
         whole = before + piece
+        if b"<!DOCTYPE" in whole or b"<!ENTITY" in whole or b"\0" in piece or (not before and piece.startswith((b"\xff\xfe", b"\xfe\xff"))):
+            return None, None
         tags += piece.count(b"<")
-        rows += whole.count(b"<row") - before.count(b"<row")
-        formulas = formulas or b"<f>" in whole or b"<f " in whole
-        merged += MERGED.findall(whole) if len(merged) < 100 else []
-        before = piece[-200:]
-        if tags > left:
-            raise of_the_file(name, "%s has more than a table can have%s. Copy the three sheets, without the empty rows below them, to a new workbook."
-                              % (part, ": %d rows so far" % rows if rows > 2_000 else ""))
-    return tags, Part(rows, formulas, tuple(sorted(set(ref.decode("ascii") for ref in merged))))
+        numbers += [ROW_NUMBER.search(row[0]) for row in ROW.finditer(whole) if row.end() > len(before)]
+        formulas = formulas or FORMULA.search(whole) is not None
+        merged.update(MERGED.findall(whole) if len(merged) < 100 else ())
+        before = piece[-OVERLAP:]
+    told = [int(number[1]) for number in numbers if number]
+    ordered = all(one < other for one, other in zip(told, told[1:]))
+    return tags, Part(len(numbers), ordered, formulas, tuple(sorted(ref.decode("ascii") for ref in merged)))
+
+
+def sheet_named(archive, part):
+    """A part by the name of its sheet, which is what the user knows; by its own where there is none."""
+    try:
+        relations = archive.read("xl/_rels/workbook.xml.rels")[:PIECE]
+        place = part.removeprefix("xl/").encode("utf-8")
+        relation = next(tag for tag in re.findall(rb"<(?:\w+:)?Relationship\s[^>]*>", relations) if place + b'"' in tag)
+        known = re.search(rb'\sId="([^"]*)"', relation)[1]
+        tag = next(tag for tag in SHEET.findall(archive.read("xl/workbook.xml")[:PIECE]) if b':id="%s"' % known in tag)
+        return "the sheet %s" % html.unescape(re.search(rb'\sname="([^"]*)"', tag)[1].decode("utf-8"))
+    except (KeyError, StopIteration, TypeError, UnicodeDecodeError):
+        return part

@@ -14,7 +14,7 @@ LONGEST_FILE = 5_000_000  # bytes: 2,000 rows have less
 
 def sheets(source, name=""):
     """The sheets of a folder, or of the files that it would hold by their names. Raises Mistakes."""
-    files = in_folder(Path(source)) if not isinstance(source, dict) else {file: data for file, data in source.items()}
+    files = source if isinstance(source, dict) else in_folder(Path(source))
     by_sheet = {sheet: [file for file in files if file.casefold() == sheet + ".csv"] for sheet in SHEETS}
     wrong = [missing(sheet, found, files) for sheet, found in by_sheet.items() if len(found) != 1]
     if wrong:
@@ -32,12 +32,17 @@ def sheets(source, name=""):
 
 
 def in_folder(folder):
-    """What a folder's CSV files hold, as far as a file may be long."""
+    """What a folder's files hold that are named as sheets, as far as a file may be long; other CSV files by name alone."""
     found = {}
-    for path in sorted(folder.iterdir()):
-        if path.is_file() and path.suffix.casefold() == ".csv":
-            with path.open("rb") as file:
-                found[path.name] = file.read(LONGEST_FILE + 1)
+    try:
+        for path in sorted(folder.iterdir()):
+            if path.suffix.casefold() == ".csv" and path.is_file():
+                found[path.name] = b""
+                if path.stem.casefold() in SHEETS:
+                    with path.open("rb") as file:
+                        found[path.name] = file.read(LONGEST_FILE + 1)
+    except OSError as fault:
+        raise Mistakes([Mistake(folder.name, 0, "", "the folder cannot be read (%s)." % fault.strerror)]) from None
     return found
 
 

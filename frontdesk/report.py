@@ -6,7 +6,7 @@ from pathlib import Path
 from jinja2 import Environment, FileSystemLoader, StrictUndefined
 
 from . import longtables, pictures, reasons, wording
-from .decimals import cut, lifted
+from .decimals import cut, lifted, nearer
 from .drawings.pen import Area, Box, Line, Text, tenths
 from .ship import DRAUGHTS, PASSENGER
 from .slip import HOW, NOT_PROVED
@@ -23,6 +23,7 @@ def environment():
         billionths=wording.billionths, tenths=wording.tenths, most=wording.most, least=wording.least, metres=wording.metres, fine_metres=wording.fine_metres,
         grouped=wording.grouped, symbols=wording.symbols, counted=wording.counted, place=tenths, shape=lambda shape: SHAPES[type(shape)], going_on=wording.going_on,
         floor=lambda fraction: signed(cut(fraction, 9)), ceiling=lambda fraction: signed(lifted(fraction, 9)),
+        cut_off=lambda fraction: signed(nearer(fraction, 9)),
     )
     made.globals.update(wording=wording, draughts=DRAUGHTS, style=(TEMPLATES / "style.css").read_text())
     return made

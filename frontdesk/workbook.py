@@ -48,7 +48,7 @@ def opened(openpyxl, data, parts):
         read = {name: rows_of(name, sheet) for name, sheet in chosen.items()}
     finally:
         book.close()
-    if any(part is None or part.formulas for part in seen.values()):
+    if any(part.formulas for part in seen.values()):
         mark_unstored(openpyxl, data, {name: sheet.title for name, sheet in chosen.items()}, read)
     return {name: made(name, rows) for name, rows in read.items()}
 
@@ -76,6 +76,8 @@ def unfit(name, sheet, part):
         yield Mistake(name, 0, "", "the sheet is hidden; expected one that can be seen. Show it.")
     if part is not None and part.rows > MOST_ROWS:
         yield Mistake(name, 0, "", "found %d rows; expected at most %d. Delete the empty rows below the table." % (part.rows, MOST_ROWS))
+    if part is None or not part.ordered:
+        yield Mistake(name, 0, "", "the rows of this sheet are not in order in the file. Open the workbook in a spreadsheet program and save it.")
     for ref in part.merged[:5] if part is not None else ():
         yield Mistake(name, int(re.search("[0-9]+", ref)[0]), "", "the cells %s are merged; expected a value in each cell. Unmerge them." % ref)
 

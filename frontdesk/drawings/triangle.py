@@ -6,7 +6,7 @@ from . import views
 from .pen import Drawing, fitted, scaled, width
 
 LEFT, LONG, RIGHT = 900, 9_200, 1_500
-FOOT, HEAD = 400, 260
+FOOT, HEAD = 400, 120
 SHADES = 5  # fifths of what is survived
 
 

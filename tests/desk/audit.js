@@ -2,7 +2,11 @@
 const faults = [];
 const fault = (what, element) => faults.push(what + (element ? ": " + element.outerHTML.replace(/\s+/g, " ").slice(0, 160) : ""));
 const all = (query, inside = document) => Array.from(inside.querySelectorAll(query));
-const shown = element => element.checkVisibility({checkOpacity: true, checkVisibilityCSS: true}) && element.getBoundingClientRect().width > 1;
+const visible = new Map();
+const shown = element => {
+  if (!visible.has(element)) visible.set(element, element.checkVisibility({checkOpacity: true, checkVisibilityCSS: true}) && element.getBoundingClientRect().width > 1);
+  return visible.get(element);
+};
 
 // structure
 if (!document.documentElement.lang) fault("no language");
@@ -17,13 +21,13 @@ for (const heading of all("h1, h2, h3, h4, h5, h6")) {
   level = next;
 }
 if (all("script, iframe, object, embed, link[rel=stylesheet], base").length) fault("something that is loaded or run");
-const ids = all("[id]").map(element => element.id);
-for (const id of new Set(ids)) if (ids.filter(other => other === id).length > 1) fault("an id twice: " + id);
+const ids = new Set();
+for (const element of all("[id]")) ids.has(element.id) ? fault("an id twice: " + element.id) : ids.add(element.id);
 for (const link of all("a[href^='#']")) if (!document.getElementById(decodeURIComponent(link.hash.slice(1)))) fault("a link that leads nowhere", link);
 for (const link of all("a")) if (!link.textContent.trim() && !link.getAttribute("aria-label")) fault("a link without text", link);
 for (const name of ["aria-labelledby", "aria-describedby"])
   for (const element of all("[" + name + "]"))
-    for (const id of element.getAttribute(name).split(/\s+/)) if (!ids.includes(id)) fault(name + " of nothing", element);
+    for (const id of element.getAttribute(name).split(/\s+/)) if (!ids.has(id)) fault(name + " of nothing", element);
 for (const input of all("input:not([type=hidden]), select, textarea")) if (!input.labels.length) fault("an input without a label", input);
 for (const button of all("button")) if (!button.textContent.trim()) fault("a button without text", button);
 for (const image of all("img")) if (!image.hasAttribute("alt")) fault("a picture without words", image);
@@ -50,7 +54,8 @@ for (const svg of all("svg")) {
 // nothing wider than the page, nothing cut off, no two texts of a drawing on each other
 const page = document.scrollingElement;
 if (page.scrollWidth > page.clientWidth + 1) {
-  const wide = all("body *").filter(element => shown(element) && !element.closest(".scroll, .skip") && element.getBoundingClientRect().right > page.clientWidth + 1);
+  const scrolls = element => element && (getComputedStyle(element).overflowX !== "visible" || scrolls(element.parentElement));
+  const wide = all("body *").filter(element => shown(element) && element.getBoundingClientRect().right > page.clientWidth + 1 && !scrolls(element.parentElement));
   fault("the page is wider than the window by " + (page.scrollWidth - page.clientWidth), wide.pop());
 }
 for (const element of all("body *")) {
@@ -89,21 +94,30 @@ const contrast = (one, other) => {
   return (bright + 0.05) / (dark + 0.05);
 };
 const opaque = colour => colour && (colour.length < 4 || colour[3] > 0.99);
+const grounds = new Map();
 const behind = element => {
-  for (let at = element; at; at = at.parentElement) {
-    const colour = parts(getComputedStyle(at).backgroundColor);
-    if (opaque(colour)) return colour;
+  if (!element) return [255, 255, 255];
+  if (!grounds.has(element)) {
+    const colour = parts(getComputedStyle(element).backgroundColor);
+    grounds.set(element, opaque(colour) ? colour : behind(element.parentElement));
   }
-  return [255, 255, 255];
+  return grounds.get(element);
+};
+const filled = new Map();
+const shapes = svg => {
+  if (!filled.has(svg)) {
+    const found = all("rect, polygon, path, circle, ellipse", svg).filter(shape => !shape.closest("defs, pattern, clipPath"));
+    filled.set(svg, found.map(shape => ({shape, area: shape.getBoundingClientRect(), fill: parts(getComputedStyle(shape).fill)})).filter(({fill}) => opaque(fill)));
+  }
+  return filled.get(svg);
 };
 const beneath = (text, svg) => {
   const box = text.getBoundingClientRect();
   let found = null;
-  for (const shape of all("rect, polygon, path, circle, ellipse", svg)) {
-    if (shape.closest("defs, pattern, clipPath") || !(shape.compareDocumentPosition(text) & Node.DOCUMENT_POSITION_FOLLOWING)) continue;
-    const fill = parts(getComputedStyle(shape).fill);
-    const place = new DOMPoint(box.left + box.width / 2, box.top + box.height / 2).matrixTransform(shape.getScreenCTM().inverse());
-    if (opaque(fill) && shape.isPointInFill(place)) found = fill;
+  const x = box.left + box.width / 2, y = box.top + box.height / 2;
+  for (const {shape, area, fill} of shapes(svg)) {
+    if (x < area.left || x > area.right || y < area.top || y > area.bottom || !(shape.compareDocumentPosition(text) & Node.DOCUMENT_POSITION_FOLLOWING)) continue;
+    if (shape.isPointInFill(new DOMPoint(x, y).matrixTransform(shape.getScreenCTM().inverse()))) found = fill;
   }
   return found || behind(svg);
 };

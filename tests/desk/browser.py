@@ -159,7 +159,7 @@ def keyboard(driver, steps, what):
 def reports(browser):
     """The reports of ships that fail, meet and are unsettled, light, dark, narrow and on paper."""
     for name, looks in (
-        (FERRY, ("light", "dark", "narrow", "paper")), ("container-ship", ("light", "dark", "narrow", "paper")), ("reefer", ("light", "dark")), ("printed", ("light", "narrow")),
+        (FERRY, ("light", "dark", "narrow", "paper")), ("container-ship", ("light", "narrow", "paper")), ("reefer", ("light", "dark")), ("printed", ("light", "narrow")),
         ("day-boat", ("light", "narrow")),
     ):  # fmt: skip
         page = browser.scratch / (name + ".html")

@@ -1,7 +1,10 @@
 """Workbooks that are not as they should be: sheets missing, hidden or merged, formulas without values, and files made to take all memory, told in words."""
 
+import io
+import re
 import resource
 import sys
+import zipfile
 from pathlib import Path
 
 ROOT = Path(__file__).resolve().parent.parent.parent
@@ -45,13 +48,22 @@ def cells(tally):
     tally.same((told(size), len(tables.read(size).rows)), ([], 6), "no row is left out where a file says that it is smaller than it is")
 
 
+def other_writers(tally):
+    """Tags with a prefix, which some programs write, are seen as those without; rows that are out of order would be passed over, and are told."""
+    formula = with_cases(LEVER, b'<c r="E3"><f>1/10</f>')
+    xml = zipfile.ZipFile(io.BytesIO(formula)).read(SHEET)
+    xml = re.sub(rb"<(/?)([a-zA-Z])", rb"<\1x:\2", xml).replace(b"xmlns=", b"xmlns:x=")
+    begins(tally, repacked(formula, {SHEET: xml}), 'cases, row 3, "lever m, deepest": found a formula without a stored value', "tags with a prefix")
+    begins(tally, with_cases(b'<row r="7"', b'<row r="2"'), "cases: the rows of this sheet are not in order", "a row that stands too late")
+
+
 def too_much(tally):
     """Rows, cells, tags, bytes and parts without end."""
     rows = [b'<row r="%d"/>' % at for at in range(8, 1_000_008)]
-    begins(tally, with_cases(END, b"".join(rows) + END), "book.xlsx: %s has more than a table can have: " % SHEET, "a million empty rows")
+    begins(tally, with_cases(END, b"".join(rows) + END), "book.xlsx: the sheet cases has more than a table can have: ", "a million empty rows")
     begins(tally, with_cases(END, b"".join(rows[:4_000]) + END), "cases: found 4007 rows; expected at most 2000. Delete the empty rows below the table.")
     begins(tally, with_cases(END, b'<row r="1048576"><c r="A1048576"><v>1</v></c></row>' + END), "cases, row 2002: found more than 2000 rows")
-    begins(tally, with_cases(END, b'<row r="9">' + b"<c/>" * 3_000_000 + b"</row>" + END), "book.xlsx: %s has more" % SHEET, "a very wide row")
+    begins(tally, with_cases(END, b'<row r="9">' + b"<c/>" * 3_000_000 + b"</row>" + END), "book.xlsx: the sheet cases has more", "a very wide row")
     begins(tally, with_cases(END, END + b" " * 60_000_000), "book.xlsx: this workbook unpacks to more than 50 MB", "a bomb")
     begins(tally, repacked(cargo().bytes(), {"x%d" % at: b"" for at in range(200)}), "book.xlsx: this workbook has 2", "very many parts")
     used = resource.getrusage(resource.RUSAGE_SELF).ru_maxrss // 1024
@@ -79,6 +91,6 @@ def no_workbooks(tally):
 
 if __name__ == "__main__":
     tally = Tally()
-    for test in (sheets, cells, too_much, no_workbooks):
+    for test in (sheets, cells, other_writers, too_much, no_workbooks):
         test(tally)
     sys.exit(tally.close())

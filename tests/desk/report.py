@@ -110,7 +110,7 @@ def groups(root, told, ship):
     if {names[name]: whole(part, 6) for name, part in named.items()} != {key: -(-shares[key][1] // 1000) for key in absent}:
         wrong.append("missing groups %r" % named)
     foot = pages.table(root, "Sums by number of zones")[-1]
-    if whole(foot[-1], 9) != sum(share[1] for key, share in shares.items() if key not in listed):
+    if (0 if foot[-1] == "–" else whole(foot[-1], 9)) != sum(share[1] for key, share in shares.items() if key not in listed):
         wrong.append("could be added %r" % foot)
     for i, line in enumerate(pages.table(root, "Chance listed at each draught")):
         if [whole(text, 9) for text in line[1:]] != list(told.could_figures[6 + 2 * i:8 + 2 * i]):

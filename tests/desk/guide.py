@@ -1,4 +1,5 @@
-"""Reads the guide's chapter on the desk as a test: runs its commands, and holds its tables of columns, parts and warnings against the desk's own words."""
+"""Reads the guide's chapter on the desk as a test: runs its commands, and holds its tables of columns, parts and warnings against the
+desk's own words. Holds the pages that list the desk's tests and modules against the tree."""
 
 import os
 import re
@@ -70,6 +71,21 @@ def check_warnings(text):
         tally.same(len(rows), DOUBTS, "as many lines as there are doubts")
 
 
+def check_tests():
+    """docs/TESTING.md names each test of the desk, and none that is gone."""
+    page = (ROOT / "docs" / "TESTING.md").read_text(encoding="utf-8")
+    told = {name for rows in cells(page, r"test \| what it holds") for names, _ in rows for name in re.findall(r"\w+", names)}
+    there = {path.stem for path in (ROOT / "tests" / "desk").glob("*.py") if "tally.close()" in path.read_text(encoding="utf-8")}
+    tally.same(sorted(told), sorted(there), "the desk's tests that docs/TESTING.md names")
+
+
+def check_modules():
+    """docs/ARCHITECTURE.md names each module of the desk."""
+    page = (ROOT / "docs" / "ARCHITECTURE.md").read_text(encoding="utf-8").partition("\n## The desk\n")[2]
+    modules = {path.stem for path in (ROOT / "frontdesk").glob("*.py")} - {"__init__"}
+    tally.same(sorted(modules - set(re.findall(r"`(\w+)`", page))), [], "modules that docs/ARCHITECTURE.md does not name")
+
+
 DOUBTS = 15
 
 chapter = CHAPTER.search((ROOT / "docs" / "GUIDE.md").read_text(encoding="utf-8"))
@@ -78,4 +94,6 @@ if tally.that(chapter, "the guide has its chapter on the desk"):
     check_columns(chapter[1])
     check_parts(chapter[1])
     check_warnings(chapter[1])
+check_tests()
+check_modules()
 sys.exit(tally.close())

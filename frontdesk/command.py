@@ -2,14 +2,13 @@
 
 import argparse
 import os
-import signal
 import sys
 import traceback
 
 from . import engine, outputs
 from .mistakes import Mistakes, of_the_file
 
-DONE, ERROR, STOPPED = 0, 2, 130
+DONE, ERROR, STOPPED, READER_GONE = 0, 2, 130, 141
 PACKAGES = {"jinja2": ("Jinja2", "python3-jinja2"), "markupsafe": ("Jinja2", "python3-jinja2"), "openpyxl": ("openpyxl", "python3-openpyxl")}
 PORT = 8765
 
@@ -188,10 +187,14 @@ def tell(mistakes):
 
 def main(arguments=None):
     """Runs a command and returns its exit status."""
-    signal.signal(signal.SIGPIPE, signal.SIG_DFL)
     words = parser().parse_args(arguments)
     try:
-        return words.does(words)
+        status = words.does(words)
+        sys.stdout.flush()
+        return status
+    except BrokenPipeError:
+        os.dup2(os.open(os.devnull, os.O_WRONLY), sys.stdout.fileno())  # nothing is flushed to a reader that has gone
+        return READER_GONE
     except Mistakes as mistakes:
         tell(mistakes)
     except engine.NoLibrary as missing:

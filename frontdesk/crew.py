@@ -27,8 +27,12 @@ class Hand:
         far.close()
 
     def give(self, chunk):
+        """One that has ended already takes it too: that it has, is found out when its answers are taken."""
         self.chunks.append(chunk)
-        self.pipe.send_bytes(b"%d %d" % chunk)
+        try:
+            self.pipe.send_bytes(b"%d %d" % chunk)
+        except OSError:
+            pass
 
     def taken(self):
         """The chunk that is done, and what it came to; None for that where the process has ended over it."""
@@ -66,8 +70,9 @@ def labour(pipe: Connection, work):
 
 
 def share_out(chunks, work, hands=None):
-    """Yields (chunk, answer) as they come, a chunk being (start, stop). Where a hand ends over a chunk, that is tried once more one by one; a single one's answer is None then."""
-    chunks, crew = deque(chunks), []
+    """Yields (chunk, answer) as they come, a chunk being (start, stop). Where a hand ends over a chunk, that is tried once more one by one, and where one ends
+    over a single one twice, its answer is None."""
+    chunks, crew, tried = deque(chunks), [], set()
     try:
         for _ in range(min(hands or processors(), len(chunks))):
             crew.append(Hand(work, crew))
@@ -78,10 +83,11 @@ def share_out(chunks, work, hands=None):
             for pipe in wait([hand.pipe for hand in crew if hand.chunks]):
                 hand = next(hand for hand in crew if hand.pipe is pipe)
                 chunk, answer = hand.taken()
-                if answer is not None or chunk[1] - chunk[0] == 1:
+                if answer is not None or chunk in tried:
                     yield chunk, answer
                 if answer is None:
-                    hand = relieved(hand, chunk, crew, chunks, work)
+                    hand = relieved(hand, () if chunk in tried else chunk, crew, chunks, work)
+                    tried.add(chunk)
                 while chunks and len(hand.chunks) < WAITING:
                     hand.give(chunks.popleft())
     finally:
@@ -91,10 +97,8 @@ def share_out(chunks, work, hands=None):
 
 def relieved(hand, chunk, crew, chunks, work):
     """Another hand in the place of one that has ended; what it had before it is handed out anew, the chunk that it ended over one by one."""
-    start, stop = chunk
     chunks.extendleft(reversed(hand.chunks))
-    if stop - start > 1:
-        chunks.extendleft((at, at + 1) for at in reversed(range(start, stop)))
+    chunks.extendleft((at, at + 1) for at in reversed(range(*chunk or (0, 0))))
     hand.dismiss()
     crew.remove(hand)
     crew.append(Hand(work, crew))

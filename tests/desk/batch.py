@@ -77,6 +77,18 @@ def margin(lower, upper, mark):
     return -Fraction(-high * BILLION // 1, BILLION) if high < 0 else None
 
 
+def margins():
+    """At the mark itself, and a billionth to each side of it: 0.5 is whole in billionths, a third is not."""
+    half, third = lines.Marks((1, 2, 1, 3)).bounds[:2], lines.Marks((1, 2, 1, 3)).bounds[2:]
+    for what, ends, bounds, wanted in (
+        ("at the mark", (500_000_000, 500_000_001), half, "0.000000000"), ("below and at it", (499_999_999, 500_000_000), half, ""),
+        ("below it", (499_999_998, 499_999_999), half, "-0.000000001"), ("above a third", (333_333_334, 333_333_335), third, "0.000000000"),
+        ("on both sides of a third", (333_333_333, 333_333_334), third, ""), ("below a third", (333_333_332, 333_333_333), third, "-0.000000000"),
+        ("well above", (833_333_334, 833_333_335), third, "0.500000000"),
+    ):  # fmt: skip
+        tally.same(lines.margin(*ends, *bounds), wanted, "the margin %s" % what)
+
+
 def content(folder, found):
     """Every line of a case file against the library's own figures."""
     wrong = 0
@@ -176,7 +188,8 @@ def resumed(folder, out, before):
     tally.that("from a run before" in said, "it says how many lines were taken over", said)
     tally.same([line for line in found if line["file"] != changed], [line for line in before if line["file"] != changed], "the result is the same")
     tally.same(next(line["A lower"] for line in found if line["file"] == changed), "0.874789561", "but for the file that was changed")
-    part.write_text("desk batch 1,library 0.0.0\n" + "part 0/ship-000.case,meets" + "," * 17 + ",1:1\n")
+    stamp = lines.stamp_of(folder / "part 0/ship-000.case", lines.CASE)
+    part.write_text("desk batch 1,library 0.0.0\n" + "part 0/ship-000.case,meets" + "," * 17 + ",%s\n" % stamp)
     tally.same(run(folder, out)[2], found, "lines of another library are not taken over")
     with open(part, "wb") as held:
         fcntl.flock(held, fcntl.LOCK_EX)
@@ -234,6 +247,7 @@ def from_outside(folder, out):
 def main():
     folder = Path(tempfile.mkdtemp(prefix="batch."))
     try:
+        margins()
         study(folder / "study")
         out = folder / "results.csv"
         before = whole(folder / "study", out)

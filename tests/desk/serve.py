@@ -198,6 +198,20 @@ def crowd(server):
     tally.same(server.ask("GET", "/")[0], 200, "it goes on")
 
 
+def gone(server):
+    """Browsers that go away in the middle of an answer or of an upload."""
+    path = server.send([("container.case", (EXAMPLES / "container-ship.case").read_bytes())])[1]["Location"]
+    kind, body = form([("a.case", b"01\n" * 300_000)])
+    for request in (b"GET %s HTTP/1.1\r\nHost: 127.0.0.1:%d\r\n\r\n" % (path.encode(), server.port),
+                    b"POST /report HTTP/1.1\r\nHost: 127.0.0.1:%d\r\nContent-Type: %s\r\nContent-Length: %d\r\n\r\n" % (server.port, kind.encode(), len(body)) + body[:200_000]):  # fmt: skip
+        for _ in range(4):
+            with socket.create_connection(("127.0.0.1", server.port), timeout=10) as plain:
+                plain.setsockopt(socket.SOL_SOCKET, socket.SO_LINGER, b"\1\0\0\0\0\0\0\0")
+                plain.sendall(request)
+                time.sleep(0.02)
+    tally.same(server.ask("GET", path)[0], 200, "it goes on when browsers go away")
+
+
 def listens_here_alone(server):
     addresses = set()
     for line in Path("/proc/net/tcp").read_text().splitlines()[1:]:
@@ -211,6 +225,7 @@ def parsing():
     kind, body = form([("a.case", b"\r\n--x\r\n"), ("C:\\b.case", b"")], {"against": "yes"})
     upload = uploads.parsed(kind, body)
     tally.same((upload.files, upload.fields), ([("a.case", b"\r\n--x\r\n"), ("b.case", b"")], {"against": "yes"}), "a form is read byte by byte")
+    tally.same(uploads.parsed(*form([('a"b.case', b"x")])).files, [('a"b.case', b"x")], "a quotation mark in a name")
     for what, kind, body in (("no type", None, b""), ("no boundary", "multipart/form-data", b""), ("nothing", "multipart/form-data; boundary=x", b""),
                              ("many parts", "multipart/form-data; boundary=x", b"--x\r\n" * 100 + b"--x--")):  # fmt: skip
         try:
@@ -233,6 +248,7 @@ def main():
         huge_is_not_read(server)
         many(server, sheets, library)
         listens_here_alone(server)
+        gone(server)
         crowd(server)
         tally.same(sorted(scratch.rglob("*")), [], "nothing is written to disk")
         files = [os.readlink("/proc/%d/fd/%s" % (server.process.pid, number)) for number in os.listdir("/proc/%d/fd" % server.process.pid)]

@@ -61,14 +61,33 @@ def check_parts(text):
             tally.that(re.search(r">%s</span>\s*%s" % (number, re.escape(heading)), pages), "part %s of the report is headed: %s" % (number, heading))
 
 
+def words_of(*modules):
+    """What modules say, as their text has it."""
+    return "".join(path.read_text(encoding="utf-8") for path in modules)
+
+
+def are_said(told, words):
+    """Whether each piece of what is told, parted by dots where a number or a name stands, is said."""
+    return all(piece.strip() in words for piece in told.split(".."))
+
+
+def check_errors(text):
+    """What an error is said to say is the desk's own words."""
+    words = words_of(*(ROOT / "frontdesk").glob("*.py"))
+    rows = [row for rows in cells(text, r"it says \| do") for row in rows]
+    tally.that(len(rows) >= 8, "the table of errors")
+    for told, _ in rows:
+        tally.that(are_said(told, words), "the desk tells: " + told)
+
+
 def check_warnings(text):
     """Each doubt of the desk has its line, in its own words, and no other has."""
-    source = (ROOT / "frontdesk" / "doubts.py").read_text(encoding="utf-8")
-    words = re.sub(r"%[sd]", "..", source)
+    words = words_of(ROOT / "frontdesk" / "doubts.py")
     for rows in cells(text, r"the warning \| what to do") or [[]]:
         for told, _ in rows:
-            tally.that(all(piece.strip() in words for piece in told.split("..")), "the desk warns: " + told)
-        tally.same(len(rows), DOUBTS, "as many lines as there are doubts")
+            tally.that(are_said(told, words), "the desk warns: " + told)
+        doubts = len(re.findall(r"yield (?:Doubt|gathered)\(|yield from ratio\(", words)) - 1  # that of ratio itself is there for each call
+        tally.same(len(rows), doubts, "as many lines as there are doubts")
 
 
 def check_tests():
@@ -86,13 +105,12 @@ def check_modules():
     tally.same(sorted(modules - set(re.findall(r"`(\w+)`", page))), [], "modules that docs/ARCHITECTURE.md does not name")
 
 
-DOUBTS = 15
-
 chapter = CHAPTER.search((ROOT / "docs" / "GUIDE.md").read_text(encoding="utf-8"))
 if tally.that(chapter, "the guide has its chapter on the desk"):
     check_commands(chapter[1])
     check_columns(chapter[1])
     check_parts(chapter[1])
+    check_errors(chapter[1])
     check_warnings(chapter[1])
 check_tests()
 check_modules()

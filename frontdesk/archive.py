@@ -93,19 +93,20 @@ def scanned(archive, name):
 
 def scan(file, left):
     """How many tags a part has, up to somewhat more than are left, and what is told of it; no number of tags where it has what XML could hide in."""
-    tags, numbers, formulas, merged, before = 0, [], False, set(), b""
+    tags, rows, last, ordered, formulas, merged, before = 0, 0, 0, True, False, set(), b""
     while tags <= left and (piece := file.read(PIECE)):
         whole = before + piece
         if b"<!DOCTYPE" in whole or b"<!ENTITY" in whole or b"\0" in piece or (not before and piece.startswith((b"\xff\xfe", b"\xfe\xff"))):
             return None, None
         tags += piece.count(b"<")
-        numbers += [ROW_NUMBER.search(row[0]) for row in ROW.finditer(whole) if row.end() > len(before)]
+        for row in ROW.finditer(whole):
+            if row.end() > len(before):
+                number = ROW_NUMBER.search(row[0])
+                rows, last, ordered = rows + 1, int(number[1]) if number else last + 1, ordered and (not number or int(number[1]) > last)
         formulas = formulas or FORMULA.search(whole) is not None
         merged.update(MERGED.findall(whole) if len(merged) < 100 else ())
         before = piece[-OVERLAP:]
-    told = [int(number[1]) for number in numbers if number]
-    ordered = all(one < other for one, other in zip(told, told[1:]))
-    return tags, Part(len(numbers), ordered, formulas, tuple(sorted(ref.decode("ascii") for ref in merged)))
+    return tags, Part(rows, ordered, formulas, tuple(sorted(ref.decode("ascii") for ref in merged)))
 
 
 def sheet_named(archive, part):

@@ -44,11 +44,12 @@ def fill(page, sheet):
         number = "@" if column.text or column is GROUP else FORMATS.get(column.places, "0") if not column.choices else "General"
         whole = page.column_dimensions[letters(at - 1)]  # its format is that of the rows that are still to come
         whole.width, whole.number_format = WIDTHS.get(column.heading, 13), number
-        for row in range(2, len(sheet.rows) + 2):
-            cell = page.cell(row, at)
-            cell.number_format = number
-            if not column.text:
-                cell.alignment = right
+        first = page.cell(2, at)
+        first.number_format = number
+        if not column.text:
+            first.alignment = right
+        for row in range(3, len(sheet.rows) + 2):
+            page.cell(row, at)._style = first._style  # the one that is shared; to set it anew in each cell takes far longer
         limit(page, column, "%s2:%s%d" % (letters(at - 1), letters(at - 1), last))
     head(page, len(columns))
     page.freeze_panes = FROZEN[sheet.name]

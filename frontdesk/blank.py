@@ -82,7 +82,8 @@ def notes(type=""):
             rows.append((CASES, "", "", OF_PARTS[part]))
             rows += [(CASES, column.heading.rpartition(", ")[0] + ", ..", takes(column), described(column)) for column in columns if column.draught == 0]
     return rows + [("", "", "", line) for line in (
-        "Rows may stand in any order; empty ones are passed over. Delete the groups that you do not enter: what is left out counts as not survived.",
+        "Rows may stand in any order; empty ones are passed over, hidden ones count.",
+        "Delete the groups that you do not enter: what is left out counts as not survived.",
         "Add a row for each longitudinal bulkhead (b) and each watertight deck (H) that holds the water; it stands for what lies beyond the row before.",
         "Lengths, b and zones go to whole centimetres, draughts, H, levers and openings to millimetres, angles to hundredths of a degree, weights to tonnes.",
         "What is finer is an error; with --against results are rounded so that survival can only be lower.")]

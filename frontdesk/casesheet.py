@@ -1,5 +1,6 @@
 """The sheet cases: the rows of a ship in whole units and in the file's order, every rule that they can break told by row and heading."""
 
+import datetime
 import re
 from dataclasses import replace
 
@@ -8,6 +9,9 @@ from frontdesk.layers import check_layers
 from frontdesk.ship import CARGO, NO_OPENING, PASSENGER, TOP_ABOVE_DEEPEST, Flooding, Result, Row
 from frontdesk.units import in_words, is_blank
 
+MONTH = r"[^\W0-9]{3,9}\.?"
+DATE = re.compile(r"[0-9]{1,2}[-. ]+%s(?:[-. ]+[0-9]{2,4})?|%s[-. ]+[0-9]{1,4}|[0-9]{1,4}[-./][0-9]{1,2}[-./][0-9]{2,4}" % (MONTH, MONTH))
+AS_A_DATE = "The spreadsheet took what was typed for a date. Make the column text, and enter it again."
 FEW = 3  # blank cells of a part that are told each
 ZONES = re.compile(r"([0-9]{1,4})\s*(?:[-\u2010-\u2013\u2212]\s*([0-9]{1,4}))?")
 
@@ -55,11 +59,10 @@ def read_group(line, hull):
     if isinstance(cell, float) and cell.is_integer():
         cell = int(cell)
     if not isinstance(cell, (int, str)) and not is_blank(cell):
-        mend = " Make the column text, and enter it again." if "date" in in_words(cell)[0] else ""
-        return line.expected(GROUP, expected, in_words(cell)[1] + mend)
+        return line.expected(GROUP, expected, AS_A_DATE if isinstance(cell, datetime.date) else in_words(cell)[1])
     match = None if isinstance(cell, bool) or is_blank(cell) else ZONES.fullmatch(str(cell).strip())
     if not match:
-        return line.expected(GROUP, expected)
+        return line.expected(GROUP, expected, AS_A_DATE if isinstance(cell, str) and DATE.fullmatch(cell.strip()) else "")
     first, last = int(match[1]), int(match[2] or match[1])
     if last < first:
         return line.expected(GROUP, expected, "From aft forward, that is %d-%d." % (last, first))

@@ -16,7 +16,8 @@ def gauged(findings):
     for index in findings.indices:
         mark = "R" if not index.draught else wording.mark_name(findings.ship)
         compared = "%s %s" % (mark, names.get(index.verdict, "lies between them"))
-        entries.append((*wording.LETTERS[index.name], index.draught or "all three", *index.ends, (index.mark.numerator, index.mark.denominator), mark, compared))
+        fraction = index.mark.numerator, index.mark.denominator
+        entries.append((*wording.LETTERS[index.name], index.draught or "all three", *index.ends, fraction, mark, compared))
     return gauge.drawn(entries, wording.billionths)
 
 

@@ -20,8 +20,9 @@ SHAPES = {Area: "area", Box: "box", Line: "line", Text: "text"}
 def environment():
     made = Environment(loader=FileSystemLoader(TEMPLATES), autoescape=True, undefined=StrictUndefined, trim_blocks=True, lstrip_blocks=True)
     made.filters.update(
-        billionths=wording.billionths, tenths=wording.tenths, most=wording.most, least=wording.least, metres=wording.metres, fine_metres=wording.fine_metres,
-        grouped=wording.grouped, symbols=wording.symbols, counted=wording.counted, place=tenths, shape=lambda shape: SHAPES[type(shape)], going_on=wording.going_on,
+        billionths=wording.billionths, tenths=wording.tenths, most=wording.most, least=wording.least, metres=wording.metres,
+        fine_metres=wording.fine_metres, grouped=wording.grouped, symbols=wording.symbols, counted=wording.counted, going_on=wording.going_on,
+        place=tenths, shape=lambda shape: SHAPES[type(shape)],
         floor=lambda fraction: signed(cut(fraction, 9)), ceiling=lambda fraction: signed(lifted(fraction, 9)),
         cut_off=lambda fraction: signed(nearer(fraction, 9)),
     )
@@ -46,7 +47,7 @@ def page(findings, doubts=(), slip=None):
         title=ship.name or ship.source.file or "Ship without a name", place=wording.place_name(ship), short=wording.SHORT,
         gauge=pictures.gauged(findings), zones=pictures.zoned(findings) if findings.groups else None, levels=pictures.levelled(findings),
         sections=pictures.sectioned(findings, begins), losses=losses(findings, begins), causes=causes(findings), lost_in_all=findings.total.whole.loss.upper,
-        outcomes=longtables.outcomes(findings), inputs=longtables.inputs(findings), headings=longtables.headings(ship),
+        outcomes=longtables.outcomes(findings), inputs=longtables.inputs(findings), entered_headings=longtables.headings(ship),
         counts=[count for count in findings.counts if any(group.listed or group.surely for group in count.groups)], shown=pictures.with_share(findings),
         missing=missing(findings), doubtful=[group for group in findings.missing if not group.surely],
         slip_said={"not_proved": NOT_PROVED, "how": HOW},

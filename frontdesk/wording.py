@@ -201,7 +201,7 @@ def checked(check):
     return [grouped(check.summed), grouped(check.proved)]
 
 
-SYMBOL = re.compile(r"\b(A|R)([spl]?)\b")
+SYMBOL = re.compile(r"\b(A(?=[spl]?\b)|R\b|L(?=s\b))([spl]?)\b")
 
 
 def symbols(text):

@@ -18,7 +18,8 @@ class Bar(NamedTuple):
 
 
 def drawn(bars):
-    drawing = Drawing("levels", "Chance of damage by number of zones: survived, lost and not listed", LEFT + LONG + ROOM, HEAD + STEP * len(bars) + 60, least=560)
+    title = "Chance of damage by number of zones: survived, lost and not listed"
+    drawing = Drawing("levels", title, LEFT + LONG + ROOM, HEAD + STEP * len(bars) + 60, least=560)
     longest = max(bar.kept + bar.lost + bar.missing for bar in bars) or 1
     for i, bar in enumerate(bars):
         top = HEAD + i * STEP

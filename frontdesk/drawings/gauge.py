@@ -16,7 +16,7 @@ def glass(ends):
 
 
 def drawn(entries, places):
-    """Entries are (letter, its subscript, draught, lower, upper, mark as numerator and denominator, name of the mark, how it compares); places make text of billionths."""
+    """Entries are (letter, subscript, draught, lower, upper, mark as a pair, its name, how it compares); places make text of billionths."""
     drawing = Drawing("gauge", "The attained index and the partial indices against their marks", 11_500, HEAD + STEP * len(entries) + 60, least=720)
     window = glass([entry[3:5] for entry in entries])
     _scale(drawing, len(entries), places(window).rstrip("0"))

@@ -3,6 +3,7 @@
 import dataclasses
 import os
 import re
+import resource
 import shutil
 import signal
 import subprocess
@@ -104,6 +105,13 @@ def cannot_write(folder):
     told("two outputs to one file", ["report", case, "-o", folder / "one", "--csv", folder / "one"], 2, "is named twice")
     kept.unlink()
     tally.same(sorted(folder.iterdir()), there, "nothing is left behind")
+    old = folder / "old.html"
+    old.write_text("old")
+    told("a disk that is full in the middle", ["report", case, "-o", old], 2, "old.html cannot be written: file too large.",
+         preexec_fn=lambda: resource.setrlimit(resource.RLIMIT_FSIZE, (20_000, 20_000)))  # fmt: skip
+    tally.same(old.read_text(), "old", "what was there before is left as it was")
+    old.unlink()
+    tally.same(sorted(folder.iterdir()), there, "nothing is left behind in the middle either")
     if os.path.exists("/dev/full"):
         told("a full device", ["report", case, "-o", "/dev/full"], 2, "/dev/full cannot be written: no space left on device.")
 

@@ -11,7 +11,7 @@ from frontdesk.drawings import bars, gauge, pen, sections, triangle  # noqa: E40
 from frontdesk.drawings.pen import Area, Box, Line  # noqa: E402
 from tally import Tally  # noqa: E402
 
-RANDOM = 100  # ships of each type
+RANDOM = 60  # ships of each type
 BILLION = 10**9
 tally = Tally()
 
@@ -80,8 +80,8 @@ def gauged(name, found):
     marks = sorted(shape.x1 for shape in drawing.shapes if isinstance(shape, Line) and shape.look == "mark" and shape.x1 < gauge.GLASS)
     at = sorted(gauge.LEFT + pen.scaled(index.mark.numerator, index.mark.denominator, gauge.LONG) for index in found.indices)
     tally.same(marks, at, name + ": marks stand at R and its part")
-    short = [index for index in found.indices if pen.scaled(index.ends.lower, BILLION, gauge.LONG) < pen.scaled(index.mark.numerator, index.mark.denominator, gauge.LONG)]
-    tally.that(len(hatched) == len(short), name + ": what is short is hatched")
+    short = sum(reached < pen.scaled(index.mark.numerator, index.mark.denominator, gauge.LONG) for reached, index in zip(wanted, found.indices))
+    tally.that(len(hatched) == short, name + ": what is short is hatched")
     inside = [shape for shape in drawing.shapes if isinstance(shape, Line) and shape.look == "mark" and shape.x1 >= gauge.GLASS]
     tally.that(len(inside) >= sum(index.verdict == engine.UNSETTLED for index in found.indices), name + ": an unsettled mark is under the glass")
     return drawing
@@ -141,7 +141,8 @@ def small_things():
     tally.same(pen.apart([98, 99, 100], 10, 0, 100), [80, 90, 100], "and back from the edge")
     tally.same([triangle.shade(kept) for kept in (0, 19, 20, 79, 80, 100)], [1, 1, 2, 4, 5, 5], "shades by fifths")
     tally.that(pen.width("0.1234", 100) < pen.width("0.1234", 100, True) < 450, "a text's width")
-    tally.that(pen.fitted("engine room", 90, 300).endswith("…") and pen.fitted("a", 90, 300) == "a" and pen.fitted("mm", 90, 10) == "", "a text is cut to its room")
+    tally.that(pen.fitted("engine room", 90, 300).endswith("…"), "a text is cut to its room")
+    tally.same([pen.fitted("a", 90, 300), pen.fitted("mm", 90, 10)], ["a", ""], "one that fits is whole, one without room is left out")
 
 
 def main():

@@ -2,7 +2,7 @@
 
 import io
 import re
-import resource
+import subprocess
 import sys
 import zipfile
 from pathlib import Path
@@ -16,7 +16,19 @@ from tally import Tally  # noqa: E402
 
 from frontdesk import archive, tables  # noqa: E402
 
-ROOM = 400  # MB: what a process may take for the worst of these files, the interpreter and openpyxl among it
+ROOM = 120  # MB: what a process may take for the worst of these files, the interpreter and openpyxl among it
+ALONE = """
+import sys
+sys.path.insert(0, sys.argv[1])
+from frontdesk import intake, mistakes
+line = "read"
+try:
+    intake.read("book.xlsx", sys.stdin.buffer.read())
+except mistakes.Mistakes as found:
+    line = found.lines()[0]
+most = next(line for line in open("/proc/self/status") if line.startswith("VmHWM:"))  # what getrusage tells has the starting process's in it
+print(int(most.split()[1]) // 1024, line)
+"""
 LEVER = b'<c r="E3" t="n"><v>0.1</v>'
 END = b"</sheetData>"
 
@@ -60,14 +72,21 @@ def other_writers(tally):
 def too_much(tally):
     """Rows, cells, tags, bytes and parts without end."""
     rows = [b'<row r="%d"/>' % at for at in range(8, 1_000_008)]
-    begins(tally, with_cases(END, b"".join(rows) + END), "book.xlsx: the sheet cases has more than a table can have: ", "a million empty rows")
+    alone(tally, with_cases(END, b"".join(rows) + END), "book.xlsx: the sheet cases has more than a table can have: ")
     begins(tally, with_cases(END, b"".join(rows[:4_000]) + END), "cases: found 4007 rows; expected at most 2000. Delete the empty rows below the table.")
     begins(tally, with_cases(END, b'<row r="1048576"><c r="A1048576"><v>1</v></c></row>' + END), "cases, row 2002: found more than 2000 rows")
-    begins(tally, with_cases(END, b'<row r="9">' + b"<c/>" * 3_000_000 + b"</row>" + END), "book.xlsx: the sheet cases has more", "a very wide row")
-    begins(tally, with_cases(END, END + b" " * 60_000_000), "book.xlsx: this workbook unpacks to more than 50 MB", "a bomb")
+    alone(tally, with_cases(END, b'<row r="9">' + b"<c/>" * 3_000_000 + b"</row>" + END), "book.xlsx: the sheet cases has more")
+    alone(tally, with_cases(END, END + b" " * 60_000_000), "book.xlsx: this workbook unpacks to more than 50 MB")
+    alone(tally, with_cases(END, END + b" " * 45_000_000), "read")
     begins(tally, repacked(cargo().bytes(), {"x%d" % at: b"" for at in range(200)}), "book.xlsx: this workbook has 2", "very many parts")
-    used = resource.getrusage(resource.RUSAGE_SELF).ru_maxrss // 1024
-    tally.that(used < ROOM, "memory", used, "MB, and", ROOM, "are allowed")
+
+
+def alone(tally, data, words):
+    """A file read by a process of its own, so that the memory is the reading's and not that of making the file."""
+    run = subprocess.run([sys.executable, "-I", "-c", ALONE, str(ROOT)], input=data, capture_output=True, timeout=60)
+    used, _, line = run.stdout.decode("utf-8").partition(" ")
+    tally.that(line.startswith(words), words, "\n  found ", line, run.stderr.decode("utf-8")[-500:])
+    tally.that(used.isdigit() and int(used) < ROOM, "memory", used, "MB, and", ROOM, "are allowed")
 
 
 def no_workbooks(tally):

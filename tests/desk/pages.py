@@ -1,5 +1,6 @@
 """Reads a page back as a reader would: its elements, and its tables cell by cell."""
 
+import re
 from html.parser import HTMLParser
 
 EMPTY = {"meta", "br", "link", "input", "img", "hr", "rect", "line"}  # with no end tag of their own
@@ -37,11 +38,17 @@ class Reader(HTMLParser):
     def __init__(self):
         super().__init__(convert_charrefs=True)
         self.root = self.at = Element("page", (), None)
-        self.wrong = []
+        self.wrong, self.regions = [], {}
+
+    def updatepos(self, i, j):
+        """Nobody asks for line numbers, which take a tenth of the time."""
+        return j
 
     def handle_starttag(self, tag, attributes):
         element = Element(tag, attributes, self.at)
         self.at.inside.append(element)
+        if "aria-label" in element.attributes:
+            self.regions.setdefault(element.get("aria-label"), element)
         if tag not in EMPTY:
             self.at = element
 
@@ -61,18 +68,19 @@ class Reader(HTMLParser):
         self.at.inside.append(text)
 
 
-def read(page):
-    """The page's root; elements that are not closed in their order are told in its list of what is wrong."""
+def read(page, drawings=True):
+    """The page's root; elements that are not closed in their order are told in its list of what is wrong. Drawings are left out where nobody looks at them."""
     reader = Reader()
-    reader.feed(page)
+    reader.feed(page if drawings else re.sub(r"<svg.*?</svg>", "", page, flags=re.S))
     reader.close()
     reader.root.wrong = reader.wrong + ([] if reader.at is reader.root else ["<%s> is not closed" % reader.at.tag])
+    reader.root.regions = reader.regions
     return reader.root
 
 
 def table(root, label):
     """The table of the region with this label: the texts of each line of its bodies and feet, cells over several lines repeated in each."""
-    region = next((element for element in root.all("div") if element.get("aria-label") == label), None)
+    region = root.regions.get(label)
     if region is None:
         return None
     lines, over = [], {}

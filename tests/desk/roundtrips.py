@@ -31,14 +31,11 @@ def seeded_files():
             yield data
 
 
-def through(sheets):
-    """The same sheets as CSV files of both sorts, read again."""
-    yield "commas", tables.read(commas.written(sheets))
-    yield "semicolons", tables.read(commas.written(sheets, ";"))
-    yield "decimal commas", tables.read(commas.written(sheets, ";", comma=True))
+WAYS = (("commas", ",", False), ("semicolons", ";", False), ("decimal commas", ";", True))  # of CSV files, which the ships take in turn
 
 
-def there_and_back(tally, what, data, workbook):
+def there_and_back(tally, number, data):
+    what = "ship %d" % number
     ship = casefile.parse(data)
     if not tally.that(ship is not None and casefile.write(ship) == data, what, "file to ship to file"):
         return
@@ -46,9 +43,9 @@ def there_and_back(tally, what, data, workbook):
     again = tables.ship_of(sheets)
     tally.same(casefile.write(again), data, what + ": file to table to file")
     tally.same(tables.sheets_of(casefile.parse(casefile.write(again))), sheets, what + ": table to file to table")
-    for form, other in through(sheets) if len(ship.rows) < 60 else ():
-        tally.that(casefile.write(other) == data, what, "through CSV files with", form)
-    if workbook:
+    form, separator, comma = WAYS[number % 3]
+    tally.that(casefile.write(tables.read(commas.written(sheets, separator, comma))) == data, what, "through CSV files with", form)
+    if number % WORKBOOKS == 0:
         other = tables.read(binding.bound(sheets))
         tally.that(casefile.write(other) == data and other.source.form == "workbook", what, "through a workbook")
 
@@ -93,7 +90,7 @@ def names_and_order(tally):
 if __name__ == "__main__":
     tally, files = Tally(), list(seeded_files())
     for number, data in enumerate(files):
-        there_and_back(tally, "ship %d" % number, data, number % WORKBOOKS == 0)
+        there_and_back(tally, number, data)
     all_kinds_were_there(tally, files)
     examples(tally)
     names_and_order(tally)

@@ -13,7 +13,7 @@ from frontdesk import casefile, doubts, engine, findings, report, slip  # noqa: 
 from tally import Tally  # noqa: E402
 
 LEAST = 45  # tenths: contrast of text with what it stands on
-SHOWN = ("container-ship", "ro-pax-ferry", "reefer", "printed", "day-boat", "paper-carrier")
+SHOWN = ("container-ship", "ferry", "reefer", "printed", "day-boat", "paper-carrier")
 # what is text, and what it stands on
 PAIRS = (
     *product(("ink", "quiet", "meets", "fails", "open", "sea", "loss"), ("paper", "panel")),

@@ -27,7 +27,7 @@ from tally import Tally  # noqa: E402
 
 ROOT = seeds.ROOT
 EXAMPLES = ROOT / "examples"
-FERRY = "ferry" if (EXAMPLES / "ferry.case").exists() else "ro-pax-ferry"
+FERRY = "ferry"
 AUDIT = (Path(__file__).resolve().parent / "audit.js").read_text()
 WIDE, NARROW, PAPER = (1280, 900), (360, 800), (1032, 720)  # pixels; the last is A4 across, within its margins
 tally = Tally()

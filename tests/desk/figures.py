@@ -102,7 +102,7 @@ def workbook():
     """The same as a workbook: text that looks like a formula stays text, and numbers are those of the CSV."""
     import openpyxl
 
-    ship = casefile.parse((seeds.ROOT / "examples/ro-pax-ferry.case").read_bytes())
+    ship = casefile.parse((seeds.ROOT / "examples/ferry.case").read_bytes())
     ship = replace(ship, rows=(replace(ship.rows[0], name="=1+1"), replace(ship.rows[1], name="tank \x07 ä"), *ship.rows[2:]))
     found = findings.find(library, ship)
     book = openpyxl.load_workbook(io.BytesIO(exports.workbook(found)))

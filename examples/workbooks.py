@@ -14,9 +14,9 @@ sys.path[:0] = [str(HERE), str(HERE.parent)]
 
 from fleet import FLEET  # noqa: E402
 from flooding import exact, is_opened, opens_garage  # noqa: E402
-from frontdesk import binding, casefile, commas, intake, tables  # noqa: E402
-from frontdesk.mistakes import Mistakes  # noqa: E402
-from frontdesk.units import plain  # noqa: E402
+from frontdesk.reading import binding, casefile, commas, intake, tables  # noqa: E402
+from frontdesk.reading.mistakes import Mistakes  # noqa: E402
+from frontdesk.reading.units import plain  # noqa: E402
 
 IN_METRES = {ship.name: ship for ship in FLEET}
 AS_CSV = ("coaster",)

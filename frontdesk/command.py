@@ -5,8 +5,9 @@ import os
 import sys
 import traceback
 
-from . import engine, outputs
-from .mistakes import Mistakes, of_the_file
+from frontdesk import outputs
+from frontdesk.figures import engine
+from frontdesk.reading.mistakes import Mistakes, of_the_file
 
 DONE, ERROR, STOPPED, READER_GONE = 0, 2, 130, 141
 PACKAGES = {"jinja2": ("Jinja2", "python3-jinja2"), "markupsafe": ("Jinja2", "python3-jinja2"), "openpyxl": ("openpyxl", "python3-openpyxl")}
@@ -79,13 +80,13 @@ def add_against(one):
 
 
 def report(words):
-    from . import enquiry, summary
+    from frontdesk import enquiry, summary
 
     free(words.input, words.output, words.csv, words.xlsx)
     answer = enquiry.asked(engine.load(), enquiry.named(words.input), given(words.input), words.against, words.licensed_slip)
     contents = {words.output: answer.page} if words.output else {}
     if words.csv or words.xlsx:
-        from . import exports
+        from frontdesk.figures import exports
 
         contents.update({words.csv: exports.commas(answer.findings)} if words.csv else {})
         contents.update({words.xlsx: exports.workbook(answer.findings)} if words.xlsx else {})
@@ -96,7 +97,8 @@ def report(words):
 
 
 def case(words):
-    from . import casefile, enquiry, summary
+    from frontdesk import enquiry, summary
+    from frontdesk.reading import casefile
 
     free(words.input, words.output)
     ship = enquiry.read(engine.load(), enquiry.named(words.input), given(words.input), words.against)
@@ -107,7 +109,8 @@ def case(words):
 
 
 def table(words):
-    from . import binding, commas, enquiry, tables
+    from frontdesk import enquiry
+    from frontdesk.reading import binding, commas, tables
 
     free(words.input, words.output)
     sheets = tables.sheets_of(enquiry.read(engine.load(), enquiry.named(words.input), given(words.input)))
@@ -126,7 +129,7 @@ def table(words):
 
 
 def new(words):
-    from . import blank
+    from frontdesk.reading import blank
 
     if not words.output.lower().endswith(".xlsx"):
         raise of_the_file("", "%s: a workbook's name ends in .xlsx." % words.output)
@@ -139,7 +142,7 @@ def new(words):
 
 
 def batch(words):
-    from . import batch as batches
+    from frontdesk.studies import batch as batches
 
     if not os.path.isdir(words.input):
         raise of_the_file("", "%s is no folder." % words.input)
@@ -149,7 +152,7 @@ def batch(words):
 
 
 def serve(words):
-    from . import serve as page
+    from frontdesk.serving import serve as page
 
     if not 0 <= words.port <= 65535:
         raise of_the_file("", "--port %d: a port is 0 to 65535." % words.port)

@@ -3,8 +3,8 @@
 from fractions import Fraction
 from typing import NamedTuple
 
-from .decimals import cut, lifted
-from .ship import DRAUGHTS, NO_OPENING, PASSENGER
+from frontdesk.figures.decimals import cut, lifted
+from frontdesk.ship import DRAUGHTS, NO_OPENING, PASSENGER
 
 ONE_DEGREE = 100  # hundredths
 LARGEST_LEVER = 2_000  # mm: about twice the largest of all examples, 1,034 mm in an intermediate stage of the ferry

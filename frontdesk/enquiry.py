@@ -4,8 +4,10 @@ import os
 from dataclasses import dataclass
 from typing import Any
 
-from . import casefile, doubts, findings, intake
-from .mistakes import Mistake, Mistakes
+from frontdesk import doubts
+from frontdesk.figures import findings
+from frontdesk.reading import casefile, intake
+from frontdesk.reading.mistakes import Mistake, Mistakes
 
 
 @dataclass(frozen=True)
@@ -23,7 +25,7 @@ class Answer:
     @property
     def page(self):
         """The report as HTML."""
-        from . import report
+        from frontdesk.page import report
 
         return report.page(self.findings, self.doubts, self.slip)
 
@@ -43,7 +45,7 @@ def asked(engine, name, source, against=False, licensed_slip=False):
     found = findings.find(engine, ship)
     slipped = None
     if licensed_slip:
-        from . import slip
+        from frontdesk.figures import slip
 
         slipped = slip.slip(found)
     return Answer(found, tuple(doubts.of(ship, found)), slipped)

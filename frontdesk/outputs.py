@@ -6,7 +6,7 @@ import sys
 import tempfile
 from pathlib import Path
 
-from .mistakes import of_the_file
+from frontdesk.reading.mistakes import of_the_file
 
 STANDARD_OUTPUT = "-"
 

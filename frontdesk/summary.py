@@ -1,7 +1,7 @@
 """What `desk report` prints on a terminal: the verdict in words, the indices against their marks, what is doubtful, and what was written."""
 
-from .decimals import BILLION, cut, lifted
-from .engine import FAILS, MEETS, UNSETTLED
+from frontdesk.figures.decimals import BILLION, cut, lifted
+from frontdesk.figures.engine import FAILS, MEETS, UNSETTLED
 
 PLACES = 6
 VERDICTS = {

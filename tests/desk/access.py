@@ -9,7 +9,10 @@ sys.path.insert(0, str(Path(__file__).resolve().parent))
 
 import pages  # noqa: E402
 import seeds  # noqa: E402
-from frontdesk import casefile, doubts, engine, findings, report, slip  # noqa: E402
+from frontdesk import doubts  # noqa: E402
+from frontdesk.figures import engine, findings, slip  # noqa: E402
+from frontdesk.page import report  # noqa: E402
+from frontdesk.reading import casefile  # noqa: E402
 from tally import Tally  # noqa: E402
 
 LEAST = 45  # tenths: contrast of text with what it stands on

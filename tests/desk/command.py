@@ -131,8 +131,10 @@ def cannot_read(folder):
 
 def unforeseen():
     """A refusal that the desk did not foresee is told with its number, its row and a sentence: here the rule on the rows' order is taken out of the desk."""
-    from frontdesk import casefile, engine, enquiry
-    from frontdesk.mistakes import Mistakes
+    from frontdesk import enquiry
+    from frontdesk.figures import engine
+    from frontdesk.reading import casefile
+    from frontdesk.reading.mistakes import Mistakes
 
     ship = casefile.parse((EXAMPLES / "coaster.case").read_bytes())
     read, enquiry.intake.read = enquiry.intake.read, lambda *_, **__: dataclasses.replace(

@@ -12,9 +12,9 @@ from books import cargo, passenger  # noqa: E402
 from generator.dice import Dice  # noqa: E402
 from tally import Tally  # noqa: E402
 
-from frontdesk import tables, units  # noqa: E402
-from frontdesk.columns import OF_SHEET  # noqa: E402
-from frontdesk.mistakes import Mistakes  # noqa: E402
+from frontdesk.reading import tables, units  # noqa: E402
+from frontdesk.reading.columns import OF_SHEET  # noqa: E402
+from frontdesk.reading.mistakes import Mistakes  # noqa: E402
 
 THOUSANDTHS = [  # a cell, and what it is in thousandths: the number itself, or next below and above where it is between two
     ("0.12", 120), (0.125, 125), (0.1255, (125, 126)), ("0.1255", (125, 126)), (16, 16_000), (16.0, 16_000), ("1e-3", 1), ("1E3", 1_000_000), (".5", 500),

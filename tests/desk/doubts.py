@@ -8,7 +8,9 @@ from pathlib import Path
 sys.path.insert(0, str(Path(__file__).resolve().parent))
 
 import seeds  # noqa: E402
-from frontdesk import casefile, doubts, engine, findings  # noqa: E402
+from frontdesk import doubts  # noqa: E402
+from frontdesk.figures import engine, findings  # noqa: E402
+from frontdesk.reading import casefile  # noqa: E402
 from frontdesk.ship import NO_OPENING, Result, Row, Source  # noqa: E402
 from tally import Tally  # noqa: E402
 

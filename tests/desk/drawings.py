@@ -6,9 +6,11 @@ from pathlib import Path
 sys.path.insert(0, str(Path(__file__).resolve().parent))
 
 import seeds  # noqa: E402
-from frontdesk import casefile, engine, findings, pictures  # noqa: E402
-from frontdesk.drawings import bars, gauge, pen, sections, triangle  # noqa: E402
-from frontdesk.drawings.pen import Area, Box, Line  # noqa: E402
+from frontdesk.figures import engine, findings  # noqa: E402
+from frontdesk.page import pictures  # noqa: E402
+from frontdesk.reading import casefile  # noqa: E402
+from frontdesk.page.drawings import bars, gauge, pen, sections, triangle  # noqa: E402
+from frontdesk.page.drawings.pen import Area, Box, Line  # noqa: E402
 from tally import Tally  # noqa: E402
 
 RANDOM = 60  # ships of each type

@@ -15,7 +15,7 @@ from pathlib import Path
 sys.path.insert(0, str(Path(__file__).resolve().parent))
 
 import seeds  # noqa: E402
-from frontdesk import engine  # noqa: E402
+from frontdesk.figures import engine  # noqa: E402
 from tally import Tally  # noqa: E402
 
 CALL = 10e-6  # seconds: the most that a call may cost beside the library

@@ -12,7 +12,7 @@ ROOT = Path(__file__).resolve().parent.parent.parent
 sys.path[:0] = [str(ROOT / "tests" / "desk"), str(ROOT / "examples"), str(ROOT)]
 
 import workbooks  # noqa: E402
-from frontdesk import casefile, intake  # noqa: E402
+from frontdesk.reading import casefile, intake  # noqa: E402
 from openpyxl.packaging.core import DocumentProperties  # noqa: E402
 from tally import Tally  # noqa: E402
 

@@ -10,7 +10,8 @@ from pathlib import Path
 sys.path.insert(0, str(Path(__file__).resolve().parent))
 
 import seeds  # noqa: E402
-from frontdesk import casefile, decimals, engine, exports, findings, reasons  # noqa: E402
+from frontdesk.figures import decimals, engine, exports, findings, reasons  # noqa: E402
+from frontdesk.reading import casefile  # noqa: E402
 from frontdesk.ship import Flooding, Result, Row  # noqa: E402
 from independent import answer, reading  # noqa: E402
 from independent.regulation import draughts, group_share, marks, row_share, row_v  # noqa: E402

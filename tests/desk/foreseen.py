@@ -13,10 +13,10 @@ from generator.seeded import seeded_case  # noqa: E402
 from independent.casefile import Refusal, reading  # noqa: E402
 from tally import Tally  # noqa: E402
 
-from frontdesk import casefile, tables, units  # noqa: E402
-from frontdesk.columns import CARGO_BREADTH, CARGO_LENGTH, KNOWN, OF_SHEET, folded  # noqa: E402
-from frontdesk.mistakes import Mistakes  # noqa: E402
-from frontdesk.sheets import Sheet  # noqa: E402
+from frontdesk.reading import casefile, tables, units  # noqa: E402
+from frontdesk.reading.columns import CARGO_BREADTH, CARGO_LENGTH, KNOWN, OF_SHEET, folded  # noqa: E402
+from frontdesk.reading.mistakes import Mistakes  # noqa: E402
+from frontdesk.reading.sheets import Sheet  # noqa: E402
 
 CHANGES = 3_000
 WORDS = ("", "B/2", "top", "none", "yes", "no", "earlier", "2020", "cargo", "passenger", "1", "1-2", "2-20", "0", "-1", "1e2")

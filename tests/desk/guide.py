@@ -12,8 +12,8 @@ sys.dont_write_bytecode = True
 ROOT = Path(__file__).resolve().parent.parent.parent
 sys.path[:0] = [str(ROOT / "tests" / "desk"), str(ROOT)]
 
-from frontdesk import blank  # noqa: E402
-from frontdesk.columns import SHEETS  # noqa: E402
+from frontdesk.reading import blank  # noqa: E402
+from frontdesk.reading.columns import SHEETS  # noqa: E402
 from tally import Tally  # noqa: E402
 
 CHAPTER = re.compile(r"^## From a table to a report\n(.*?)(?=^## )", re.M | re.S)
@@ -53,7 +53,7 @@ def check_columns(text):
 
 def check_parts(text):
     """The parts of the report, by their numbers and headings."""
-    pages = "".join(path.read_text(encoding="utf-8") for path in sorted((ROOT / "frontdesk" / "templates").glob("*.html"))).lower()
+    pages = "".join(path.read_text(encoding="utf-8") for path in sorted((ROOT / "frontdesk" / "page" / "templates").glob("*.html"))).lower()
     for rows in cells(text, r"part \| what it tells") or [[]]:
         numbers = [part.partition(" ") for part, _ in rows if part[0].isdigit()]
         tally.same([number for number, _, _ in numbers], [str(number) for number in range(1, 9)], "the numbers of the report's parts")
@@ -73,7 +73,7 @@ def are_said(told, words):
 
 def check_errors(text):
     """What an error is said to say is the desk's own words."""
-    words = words_of(*(ROOT / "frontdesk").glob("*.py"))
+    words = words_of(*(ROOT / "frontdesk").rglob("*.py"))
     rows = [row for rows in cells(text, r"it says \| do") for row in rows]
     tally.that(len(rows) >= 8, "the table of errors")
     for told, _ in rows:
@@ -101,7 +101,7 @@ def check_tests():
 def check_modules():
     """docs/ARCHITECTURE.md names each module of the desk."""
     page = (ROOT / "docs" / "ARCHITECTURE.md").read_text(encoding="utf-8").partition("\n## The desk\n")[2]
-    modules = {path.stem for path in (ROOT / "frontdesk").glob("*.py")} - {"__init__"}
+    modules = {path.stem for path in (ROOT / "frontdesk").rglob("*.py") if path.parent.name != "drawings"} - {"__init__"}
     tally.same(sorted(modules - set(re.findall(r"`(\w+)`", page))), [], "modules that docs/ARCHITECTURE.md does not name")
 
 

@@ -6,8 +6,8 @@ import zipfile
 from books import cargo
 from independent.casefile import Refusal, reading
 
-from frontdesk import intake
-from frontdesk.mistakes import Mistakes
+from frontdesk.reading import intake
+from frontdesk.reading.mistakes import Mistakes
 
 SHEET = "xl/worksheets/sheet3.xml"  # of cases
 

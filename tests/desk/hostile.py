@@ -14,13 +14,13 @@ from books import cargo  # noqa: E402
 from handed import SHEET, begins, repacked, told, with_cases  # noqa: E402
 from tally import Tally  # noqa: E402
 
-from frontdesk import archive, tables  # noqa: E402
+from frontdesk.reading import archive, tables  # noqa: E402
 
 ROOM = 120  # MB: what a process may take for the worst of these files, the interpreter and openpyxl among it
 ALONE = """
 import sys
 sys.path.insert(0, sys.argv[1])
-from frontdesk import intake, mistakes
+from frontdesk.reading import intake, mistakes
 line = "read"
 try:
     intake.read("book.xlsx", sys.stdin.buffer.read())

@@ -11,9 +11,9 @@ from books import cargo, passenger  # noqa: E402
 from handed import begins, refusal, told  # noqa: E402
 from tally import Tally  # noqa: E402
 
-from frontdesk import blank, casefile, commas, intake, refusals, tables, workbook  # noqa: E402
-from frontdesk.mistakes import Mistakes, Refused  # noqa: E402
-from frontdesk.sheets import Sheet  # noqa: E402
+from frontdesk.reading import blank, casefile, commas, intake, refusals, tables, workbook  # noqa: E402
+from frontdesk.reading.mistakes import Mistakes, Refused  # noqa: E402
+from frontdesk.reading.sheets import Sheet  # noqa: E402
 
 COASTER = (ROOT / "examples" / "coaster.case").read_bytes()
 

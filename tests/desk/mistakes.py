@@ -10,8 +10,8 @@ sys.path[:0] = [str(ROOT), str(ROOT / "tests" / "desk")]
 from books import cargo, passenger  # noqa: E402
 from tally import Tally  # noqa: E402
 
-from frontdesk import intake  # noqa: E402
-from frontdesk.mistakes import MOST_SHOWN, Mistakes  # noqa: E402
+from frontdesk.reading import intake  # noqa: E402
+from frontdesk.reading.mistakes import MOST_SHOWN, Mistakes  # noqa: E402
 
 OF_SHIP = "name; type; Ls m; B m; deepest draught m; light draught m; persons in lifeboats; persons beyond; rule"
 OF_CASES = ("zones; b m; H m; case; lever m, DRAUGHT; range deg, DRAUGHT; heel deg, DRAUGHT; opening m, DRAUGHT; second lever m, DRAUGHT; "

@@ -12,7 +12,9 @@ sys.path.insert(0, str(Path(__file__).resolve().parent))
 
 import pages  # noqa: E402
 import seeds  # noqa: E402
-from frontdesk import casefile, engine, findings, report, slip, twin  # noqa: E402
+from frontdesk.figures import engine, findings, slip, twin  # noqa: E402
+from frontdesk.page import report  # noqa: E402
+from frontdesk.reading import casefile  # noqa: E402
 from frontdesk.doubts import Doubt  # noqa: E402
 from frontdesk.ship import DRAUGHTS, Source  # noqa: E402
 from pages import whole  # noqa: E402

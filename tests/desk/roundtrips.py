@@ -13,7 +13,7 @@ from generator.seeded import seeded_case  # noqa: E402
 from independent.casefile import Refusal, reading  # noqa: E402
 from tally import Tally  # noqa: E402
 
-from frontdesk import binding, casefile, commas, tables  # noqa: E402
+from frontdesk.reading import binding, casefile, commas, tables  # noqa: E402
 
 SHIPS = 1_000
 WORKBOOKS = 25  # one ship in so many goes through a workbook too

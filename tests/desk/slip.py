@@ -8,7 +8,8 @@ from pathlib import Path
 sys.path.insert(0, str(Path(__file__).resolve().parent))
 
 import seeds  # noqa: E402
-from frontdesk import casefile, engine, findings, slip  # noqa: E402
+from frontdesk.figures import engine, findings, slip  # noqa: E402
+from frontdesk.reading import casefile  # noqa: E402
 from frontdesk.ship import Ship  # noqa: E402
 from independent import reading  # noqa: E402
 from independent.regulation import Q, group_share, group_terms, row_share  # noqa: E402

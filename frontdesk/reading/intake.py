@@ -2,8 +2,8 @@
 
 from pathlib import Path
 
-from frontdesk import archive, casefile, refusals, tables
-from frontdesk.mistakes import of_the_file
+from frontdesk.reading import archive, casefile, refusals, tables
+from frontdesk.reading.mistakes import of_the_file
 
 LONGEST_FILE = 20_000_000  # bytes that are read of a file
 KINDS = "an .xlsx workbook, a folder with ship.csv, zones.csv and cases.csv, or a case file"

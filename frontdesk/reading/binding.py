@@ -5,10 +5,10 @@ import io
 import re
 import zipfile
 
-from frontdesk.columns import CASES, GROUP, KNOWN, NOTES, SHIP, ZONES, folded
-from frontdesk.sheets import letters
-from frontdesk.units import plain
-from frontdesk.workbook import openpyxl_or_words
+from frontdesk.reading.columns import CASES, GROUP, KNOWN, NOTES, SHIP, ZONES, folded
+from frontdesk.reading.sheets import letters
+from frontdesk.reading.units import plain
+from frontdesk.reading.workbook import openpyxl_or_words
 
 WRITTEN = datetime.datetime(2000, 1, 1)  # every workbook's date, so that the bytes are the sheets' alone
 ROWS = {SHIP: 1, ZONES: 20, CASES: 500}  # that drop-downs and limits are for

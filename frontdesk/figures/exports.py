@@ -4,13 +4,13 @@ import csv
 import io
 from decimal import Decimal
 
-from . import reasons
-from .binding import WRITTEN, repacked
-from .decimals import BILLION, SURVIVALS, TENTHS, exact, text_of
-from .engine import FAILS, MEETS, UNSETTLED
-from .sheets import letters
-from .ship import DRAUGHTS
-from .workbook import openpyxl_or_words
+from frontdesk.figures import reasons
+from frontdesk.reading.binding import WRITTEN, repacked
+from frontdesk.figures.decimals import BILLION, SURVIVALS, TENTHS, exact, text_of
+from frontdesk.figures.engine import FAILS, MEETS, UNSETTLED
+from frontdesk.reading.sheets import letters
+from frontdesk.ship import DRAUGHTS
+from frontdesk.reading.workbook import openpyxl_or_words
 
 VERDICTS = {MEETS: "meets", FAILS: "fails", UNSETTLED: "unsettled"}
 PARTS = ("could add", "adds", "loss")  # as a Worth has them

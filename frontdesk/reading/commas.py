@@ -4,10 +4,10 @@ import csv
 import io
 from pathlib import Path
 
-from frontdesk.columns import SHEETS, nearest
-from frontdesk.mistakes import Mistake, Mistakes
-from frontdesk.sheets import MOST_ROWS, Sheet
-from frontdesk.units import BLANKS, WITH_COMMA, is_blank
+from frontdesk.reading.columns import SHEETS, nearest
+from frontdesk.reading.mistakes import Mistake, Mistakes
+from frontdesk.reading.sheets import MOST_ROWS, Sheet
+from frontdesk.reading.units import BLANKS, WITH_COMMA, is_blank
 
 LONGEST_FILE = 5_000_000  # bytes: 2,000 rows have less
 

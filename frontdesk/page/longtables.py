@@ -2,9 +2,10 @@
 
 from markupsafe import Markup, escape
 
-from . import reasons, wording
-from .decimals import HEIGHTS, SURVIVALS, cut
-from .ship import DRAUGHTS, PASSENGER
+from frontdesk.figures import reasons
+from frontdesk.page import wording
+from frontdesk.figures.decimals import HEIGHTS, SURVIVALS, cut
+from frontdesk.ship import DRAUGHTS, PASSENGER
 
 LINES = "<th scope=row>%s</th>"
 OVER = "<td rowspan=3>%s</td>"

@@ -8,7 +8,7 @@ import sys
 import threading
 from pathlib import Path
 
-TREE = Path(__file__).resolve().parent.parent
+TREE = Path(__file__).resolve().parent.parent.parent
 LIBRARY = "target/library/lib/libdamindex.so"  # below the tree, where ./library makes it
 NAMED_BY = "DAMINDEX_LIBRARY"
 MAJOR = 7  # the version that the desk is written for

@@ -2,11 +2,11 @@
 
 from itertools import groupby
 
-from frontdesk.casefile import LONGEST, MOST_ROWS
-from frontdesk.columns import CASES, DEPTH, GROUP, HEIGHT
-from frontdesk.mistakes import Mistake
+from frontdesk.reading.casefile import LONGEST, MOST_ROWS
+from frontdesk.reading.columns import CASES, DEPTH, GROUP, HEIGHT
+from frontdesk.reading.mistakes import Mistake
 from frontdesk.ship import PASSENGER, TOP_ABOVE_DEEPEST
-from frontdesk.units import plain
+from frontdesk.reading.units import plain
 
 PASSENGER_LINE = 153  # bytes of a passenger ship's row in the file
 

@@ -5,7 +5,7 @@ import re
 from dataclasses import dataclass, replace
 
 from frontdesk.ship import CARGO, DRAUGHTS, PASSENGER
-from frontdesk.units import DOWN, EXACT, UP, plain
+from frontdesk.reading.units import DOWN, EXACT, UP, plain
 
 SHIP, ZONES, CASES, NOTES = "ship", "zones", "cases", "notes"
 SHEETS = (SHIP, ZONES, CASES)

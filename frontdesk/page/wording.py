@@ -5,10 +5,10 @@ from fractions import Fraction
 
 from markupsafe import Markup, escape
 
-from . import reasons
-from .decimals import BILLION, cut, exact, lifted, text_of
-from .engine import FAILS, MEETS, UNSETTLED
-from .ship import NO_OPENING, PASSENGER, RULES
+from frontdesk.figures import reasons
+from frontdesk.figures.decimals import BILLION, cut, exact, lifted, text_of
+from frontdesk.figures.engine import FAILS, MEETS, UNSETTLED
+from frontdesk.ship import NO_OPENING, PASSENGER, RULES
 
 VERDICTS = {MEETS: ("meets", "Meets the required index"), FAILS: ("fails", "Does not meet the required index"), UNSETTLED: ("open", "Unsettled")}
 SHORT = {MEETS: "meets", FAILS: "fails", UNSETTLED: "unsettled"}

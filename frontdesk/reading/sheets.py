@@ -2,9 +2,9 @@
 
 from dataclasses import dataclass
 
-from frontdesk.columns import KNOWN, OF_SHEET, SHEETS, folded, listed, nearest
-from frontdesk.mistakes import Mistake, Mistakes
-from frontdesk.units import EXACT, NoNumber, exact, is_blank, shown
+from frontdesk.reading.columns import KNOWN, OF_SHEET, SHEETS, folded, listed, nearest
+from frontdesk.reading.mistakes import Mistake, Mistakes
+from frontdesk.reading.units import EXACT, NoNumber, exact, is_blank, shown
 
 LONGEST_NAME = 200
 MOST_ROWS = 2_000  # that are read of a sheet

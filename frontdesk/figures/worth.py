@@ -5,9 +5,9 @@ from dataclasses import dataclass
 from itertools import groupby
 from typing import NamedTuple
 
-from . import reasons
-from .decimals import SURVIVALS, per_cent
-from .ship import Row
+from frontdesk.figures import reasons
+from frontdesk.figures.decimals import SURVIVALS, per_cent
+from frontdesk.ship import Row
 
 
 class Ends(NamedTuple):

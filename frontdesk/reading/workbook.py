@@ -4,11 +4,11 @@ import io
 import re
 import warnings
 
-from frontdesk import archive
-from frontdesk.columns import NOTES, SHEETS, folded, nearest
-from frontdesk.mistakes import Mistake, Mistakes, of_the_file
-from frontdesk.sheets import MOST_ROWS, Sheet
-from frontdesk.units import Unstored, is_blank
+from frontdesk.reading import archive
+from frontdesk.reading.columns import NOTES, SHEETS, folded, nearest
+from frontdesk.reading.mistakes import Mistake, Mistakes, of_the_file
+from frontdesk.reading.sheets import MOST_ROWS, Sheet
+from frontdesk.reading.units import Unstored, is_blank
 
 MOST_COLUMNS = 200
 MISSING = "workbooks need openpyxl, which is not installed (Debian: apt install python3-openpyxl). CSV files and case files are read without it."

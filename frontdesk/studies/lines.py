@@ -2,8 +2,8 @@
 
 import os
 
-from . import casefile, intake
-from .mistakes import Mistakes
+from frontdesk.reading import casefile, intake
+from frontdesk.reading.mistakes import Mistakes
 
 HEADINGS = (
     "file", "verdict", "A lower", "A upper", "As lower", "As upper", "Ap lower", "Ap upper", "Al lower", "Al upper",

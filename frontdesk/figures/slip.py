@@ -5,9 +5,9 @@ from fractions import Fraction
 from functools import lru_cache
 from itertools import groupby
 
-from .decimals import BILLION, HEIGHTS, SURVIVALS
-from .engine import FAILS, MEETS, UNSETTLED
-from .worth import Group
+from frontdesk.figures.decimals import BILLION, HEIGHTS, SURVIVALS
+from frontdesk.figures.engine import FAILS, MEETS, UNSETTLED
+from frontdesk.figures.worth import Group
 
 # regulation 7-1 for ships up to 198 m, where the longest damage is 10/33 of the length
 J_M, J_K = Fraction(10, 33), Fraction(5, 33)

@@ -6,7 +6,7 @@ import re
 import zipfile
 from typing import NamedTuple
 
-from frontdesk.mistakes import of_the_file
+from frontdesk.reading.mistakes import of_the_file
 
 MOST_PARTS = 100
 MOST_BYTES = 50_000_000  # unpacked, all parts together

@@ -8,12 +8,12 @@ from functools import cached_property
 from itertools import groupby
 from typing import NamedTuple
 
-from . import casefile
-from .decimals import BILLION, SURVIVALS, nearer
-from .engine import FAILS, MEETS, UNSETTLED
-from .ship import DRAUGHTS, Ship
-from .twin import twin
-from .worth import Ends, Summed, added, cased, caused, counted, grouped, summed
+from frontdesk.reading import casefile
+from frontdesk.figures.decimals import BILLION, SURVIVALS, nearer
+from frontdesk.figures.engine import FAILS, MEETS, UNSETTLED
+from frontdesk.ship import DRAUGHTS, Ship
+from frontdesk.figures.twin import twin
+from frontdesk.figures.worth import Ends, Summed, added, cased, caused, counted, grouped, summed
 
 INDICES = ("A", "As", "Ap", "Al")
 STATUSES = {MEETS: 0, FAILS: 1, UNSETTLED: 3}

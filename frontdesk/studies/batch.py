@@ -8,9 +8,10 @@ import sys
 import time
 from collections import Counter
 
-from . import crew, outputs
-from .lines import CASE, CSV_NAMES, FOLDER, HEADINGS, NO_STAMP, VERDICTS, WORKBOOK, Lines, failed, stamp_of
-from .mistakes import of_the_file
+from frontdesk import outputs
+from frontdesk.studies import crew
+from frontdesk.studies.lines import CASE, CSV_NAMES, FOLDER, HEADINGS, NO_STAMP, VERDICTS, WORKBOOK, Lines, failed, stamp_of
+from frontdesk.reading.mistakes import of_the_file
 
 ENDINGS = {".case": CASE, ".xlsx": WORKBOOK, ".xlsm": WORKBOOK}
 CHUNK = 64  # case files that a process is handed at a time; of the others one

@@ -1,10 +1,10 @@
 """From findings to the plain numbers that the drawings are made of."""
 
-from . import wording
-from .decimals import BILLION, cut
-from .drawings import bars, gauge, sections, triangle, views
-from .engine import FAILS, MEETS
-from .ship import DRAUGHTS
+from frontdesk.page import wording
+from frontdesk.figures.decimals import BILLION, cut
+from frontdesk.page.drawings import bars, gauge, sections, triangle, views
+from frontdesk.figures.engine import FAILS, MEETS
+from frontdesk.ship import DRAUGHTS
 
 WORST = 3  # groups with a letter in the zone diagram and a half section
 RANKS = "abc"

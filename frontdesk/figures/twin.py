@@ -2,7 +2,7 @@
 
 from dataclasses import replace
 
-from .ship import NO_OPENING, Flooding, Result
+from frontdesk.ship import NO_OPENING, Flooding, Result
 
 SURVIVED = (10_000,) * 3  # given survivals of one
 UPRIGHT = (Result(lever=5_000, range=9_000, heel=0, opening=NO_OPENING),) * 3  # above every cap, whatever the displacement

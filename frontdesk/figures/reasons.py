@@ -1,6 +1,6 @@
 """What holds a survival down, in words, from the byte of its marks and the kind of its row."""
 
-from .ship import PASSENGER
+from frontdesk.ship import PASSENGER
 
 LEVER, RANGE, HEEL, OPENING, STAGE, GIVEN = "lever", "range", "heel", "opening", "stage", "given"
 REASONS = (LEVER, RANGE, HEEL, OPENING, STAGE, GIVEN)

@@ -13,16 +13,16 @@ from linking import AT_HOME, COMPILER, ROOT
 
 STATUSES = {1: 0, 2: 2, 3: 3}
 MARKED = ("lever", "range", "heel", "opening")  # the words by which the examples name what holds a survival down, in the order of their marks
-# cases by the start of their names: every byte of marks, which of two sets counts, and what decides in a passenger ship
+# cases by the start of their names: every byte of marks, which of two sets counts, what decides in a passenger ship, and files that list few groups or none
 SHOWN = ("marks/each-byte-", "marks/given-between-", "openings/each-byte-", "openings/given-between-", "second/lower-", "second/equal-",
-         "passengers/each-byte-", "passengers/decided-")
+         "passengers/each-byte-", "passengers/decided-", "hulls/seeded-0", "hulls/ten-", "hulls/twenty-zones-no-")
 EXAMPLE, IN_PYTHON = ROOT / "examples" / "host.c", ROOT / "examples" / "host.py"
 
 
 def example_runs():
     """The printed case with its whole text, then cases of the corpus with their numbers and what holds each survival down: one for each refusal
     and verdict, those that have every byte of marks at every draught, with the opening's and without, and those that tell which of two sets counts, or
-    what decides in a passenger ship."""
+    what decides in a passenger ship, or that leave groups out."""
     printed = (ROOT / "crates" / "damindex" / "stdin").read_bytes()
     yield "the printed case", printed, (HERE / "printed.expected").read_text(encoding="ascii")
     seen = set()

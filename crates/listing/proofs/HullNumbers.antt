@@ -38,7 +38,7 @@ length-numbers : (es : List Ends) → length (numbers es) ≡ 2 * length es
 length-numbers [] = refl
 length-numbers (e ∷ es) = omega (arith, length-numbers es)
 
-length-at : (h : Hull) (a n k : ℕ) → length (groupsAt h a n k) ≡ k
+pub length-at : (h : Hull) (a n k : ℕ) → length (groupsAt h a n k) ≡ k
 unfolding groupsAt
 length-at h a n zero = refl
 length-at h a n (suc k) = ap suc (length-at h a (n + 1) k)

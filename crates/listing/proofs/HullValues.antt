@@ -1,5 +1,5 @@
 -- R, marks and groups' shares as a host gets them: a cargo ship of 99 m, a passenger ship under each rule, and the small ship of docs/ONE-HOLE.md. Assumes nothing.
-use Prim.Native.Nat.{ℕ, _*_, _/_}
+use Prim.Native.Nat.{ℕ}
 use mathlib.Core.Path.{_≡_, refl}
 use mathlib.Core.List.{[], _∷_}
 use Rattle.laws.specs.Fraction.{_less_over_, _⊹_, _⊛_}
@@ -23,11 +23,11 @@ use Rattle.listing.specs.Hull.{requiredNumbers, groupEnds, groupsAt, gro
 -- ---- R and the mark
 
 -- 99 m long and 16 m broad, zones of 30, 30 and 39 m
-abbrev small : Hull
+abbrev pub small : Hull
 small = record { kind = 1; length = 9900; breadth = 1600; deepest = 6000; light = 4000; lifeboats = 0; excess = 0; rule = 0; zones = 3; places = 0 ∷ 3000 ∷ 6000 ∷ 9900 ∷ [] }
 
 -- 25 m long, with so many persons in lifeboats and in excess of them, under a rule
-abbrev ferry : ℕ → ℕ → ℕ → Hull
+abbrev pub ferry : ℕ → ℕ → ℕ → Hull
 ferry n1 n2 rule = record { kind = 6; length = 2500; breadth = 800; deepest = 3000; light = 2000; lifeboats = n1; excess = n2; rule = rule; zones = 1; places = 0 ∷ 2500 ∷ [] }
 
 -- 9900 · 12300 of 128000000 more, and half of it

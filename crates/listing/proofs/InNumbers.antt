@@ -72,6 +72,10 @@ row-put share vs ss at xs p q r t =
     let fourteen : at + 14 ≡ suc (suc (suc (suc (suc (suc (suc (suc (suc (suc (suc (suc (suc (suc at))))))))))))) = omega arith in
     t ∙ rw (r, q, p, two, eight, fourteen) refl
 
+-- with v as it was worked out
+pub row-put-with : (share : Ends) (ss : List Survival) (at : ℕ) (xs : List ℕ) {vs ws ys : List ℕ} → ys ≡ sets xs at (rowNumbers share vs ss) → vs ≡ ws → ys ≡ sets xs at (rowNumbers share ws ss)
+row-put-with share ss at xs p e = p ∙ rw e refl
+
 -- ---- the row that was entered last
 module _ (h : Hull) (kept : List ℕ) (rows : ℕ) (s : Running) (i : ℕ) (g : Reached h kept rows s i) (more : i < rows) where
   module _ (ready : (y : Standing) → Stood h y → Share (shareAt h y)) {t : Running} (after : t ≡ entered h s (row h kept rows s i g more .head) (row h kept rows s i g more .results)) (still : Few (t .part .group)) where
@@ -101,17 +105,17 @@ module _ (h : Hull) (kept : List ℕ) (rows : ℕ) (first : List ℕ) where
   pub no-number : {y : Standing} → y ≡ nowhere → InNumbers first y 0
   no-number e = rw (e, all-left kept rows) (put-none 20 0 first whole)
 
-  pub twenty-more : (y : Standing) (i : ℕ) {out next : List ℕ} {z : Standing} → InNumbers out y i → i < rows → z ≡ stands y (keptRow kept i .head) →
-      next ≡ sets out (20 * i) (numbersAt h (stands y (keptRow kept i .head)) (keptRow kept i .results)) → InNumbers next z (i + 1)
+  pub twenty-more : (y : Standing) (i : ℕ) {out next piece : List ℕ} {z : Standing} → InNumbers out y i → i < rows → z ≡ stands y (keptRow kept i .head) →
+      next ≡ sets out (20 * i) piece → piece ≡ numbersAt h (stands y (keptRow kept i .head)) (keptRow kept i .results) → InNumbers next z (i + 1)
   unfolding numbersFrom
-  twenty-more y i {out} p more there put =
+  twenty-more y i {out} p more there put e =
       let row = keptRow kept i in
       let z = stands y (row .head) in
       let place : 0 + 20 * i ≡ 20 * i = omega arith in
       rw there
       (put-more 20 0 first whole (numbersAt h z (row .results))
       (subst (λ rs. Put 20 0 first whole out (numbersFrom h y rs) i) (one-of-them kept rows i more) p)
-      (length-at h z (row .results)) (put ∙ rw place refl))
+      (length-at h z (row .results)) (put ∙ rw (e, place) refl))
 
   pub all-numbers : (y : Standing) (i : ℕ) {out : List ℕ} → InNumbers out y i → rows ≤ i → 20 * rows ≤ length first → out ≡ whole ++ drop (20 * rows) first
   unfolding numbersFrom

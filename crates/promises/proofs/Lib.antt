@@ -7,6 +7,7 @@ pub mod WitnessSheet
 pub mod WitnessService
 pub mod WitnessSums
 pub mod WitnessBySolas
+pub mod WitnessHull
 pub mod CaseRows
 pub mod Numerators
 pub mod Weighed
@@ -20,7 +21,10 @@ pub mod Files
 pub mod Service
 pub mod Fits
 pub mod Marks
-pub mod Survivals
+pub mod WitnessHostRows
+pub mod OwnNumbers
+pub mod HostRows
+pub mod HostAdds
 pub mod OfSolas
 pub mod SurvivalsOfSolas
 pub mod LayerRows
@@ -34,3 +38,6 @@ pub mod VerdictBySolas
 pub mod Values
 pub mod OneFile
 pub mod Sizes
+pub mod GroupPlaces
+pub mod HostHull
+pub mod GroupSums

@@ -14,9 +14,9 @@ use Rattle.printing.specs.Printed.{printedLength}
 use Rattle.printing.proofs.Whole.{length-printed}
 use Rattle.rows.specs.Standing.{nowhere}
 use Rattle.answers.specs.Answer.{figures, answer, refusal, answered}
-use Rattle.answers.specs.Report.{linesIn, report, survivalsIn}
+use Rattle.answers.specs.Report.{linesIn, report, rowsIn}
 use Rattle.answers.proofs.Prints.{length-lines}
-use Rattle.listing.proofs.AsNumbers.{length-survivals}
+use Rattle.listing.proofs.InNumbers.{length-from}
 use Rattle.promises.specs.Sizes.{shortestReport, longestReport, longestSheet, longestRows, ReportsFit, RowsFit, SheetsServe}
 
 -- a sheet that is long enough for a case's shares
@@ -50,12 +50,12 @@ reports-fit f = by (reading f) (λ c e. sound f c e .1 .few)
     by (refused k l) few = of-refusal k l
     by (accepted c) few = let e = of-case c (few c refl) in let most : length (c .rows) ≤ 500 = few c refl in (omega (arith, e), omega (arith, e))
 
--- ---- and how many numbers its rows' survivals are
+-- ---- and how many numbers its rows are
 
 pub rows-fit : RowsFit
-unfolding survivalsIn
+unfolding rowsIn
 rows-fit f = by (reading f) (λ c e. sound f c e .1 .few)
   where
-    by : (r : Reading) → ((c : Case) → r ≡ accepted c → length (c .rows) ≤ 500) → length (survivalsIn r) ≤ longestRows
+    by : (r : Reading) → ((c : Case) → r ≡ accepted c → length (c .rows) ≤ 500) → length (rowsIn r) ≤ longestRows
     by (refused k l) few = omega arith
-    by (accepted c) few = let most : length (c .rows) ≤ 500 = few c refl in omega (arith, length-survivals (c .rows))
+    by (accepted c) few = let most : length (c .rows) ≤ 500 = few c refl in omega (arith, length-from (c .hull) nowhere (c .rows))

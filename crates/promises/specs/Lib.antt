@@ -3,10 +3,11 @@ pub mod Promises
 pub mod Sheet
 pub mod Service
 pub mod Printing
-pub mod Survivals
+pub mod HostRows
 pub mod OfSolas
 pub mod OneFile
 pub mod Values
 pub mod Sizes
 pub mod Sums
 pub mod VerdictBySolas
+pub mod HostHull

@@ -1,8 +1,7 @@
 -- `listing::list` meets its contract: the numbers of the rows done, with those of the rows left, are those of all. Assumes nothing.
-use Prim.Native.Nat.{_-_, _*_}
-use mathlib.Core.Path.{_∙_, ap}
+use Prim.Native.Nat.{_-_}
+use mathlib.Core.Path.{ap}
 use native.Mathlib.Omega.{arith}
-use lib.Seq.{sets}
 use Rattle.rows.specs.declared.Running.{Running}
 use Rattle.rows.specs.Running.{begun}
 use Rattle.rows.proofs.InTurn.{Reached, starts, may-enter, stands-there, goes-on}
@@ -74,7 +73,8 @@ loop-again c =
       goes-on (r .args .h) (r .args .kept .now) (r .args .rows) (l .loop .s) (l .loop .i) (l .loop .inv .0) more (r .pre .0 .shares) (step .0) (step .1),
       twenty-more (r .args .h) (r .args .kept .now) (r .args .rows) (r .args .out .now) (l .loop .s .standing) (l .loop .i) (l .loop .inv .1) more
           (stands-there (r .args .h) (r .args .kept .now) (r .args .rows) (l .loop .s) (l .loop .i) (l .loop .inv .0) more (r .pre .0 .shares) (step .0) (step .1))
-          (put .put-entered .ensures ∙ ap (sets (l .loop .out) (20 * l .loop .i)) (numbers-there (r .args .h) (r .args .kept .now) (r .args .rows) (l .loop .s) (l .loop .i) (l .loop .inv .0) more (r .pre .0 .shares) (step .0) (step .1) (l .before .before .three-draughts .ensures))),
+          (put .put-entered .ensures)
+          (numbers-there (r .args .h) (r .args .kept .now) (r .args .rows) (l .loop .s) (l .loop .i) (l .loop .inv .0) more (r .pre .0 .shares) (step .0) (step .1) (l .before .before .three-draughts .ensures)),
     )
 
 same-length : tie.Need-same-length Inv-loop μ-loop

@@ -1,7 +1,5 @@
 -- `listing::put_entered` meets its contract. Assumes nothing.
-use mathlib.Core.Path.{_∙_, ap}
-use lib.Seq.{sets}
-use Rattle.listing.specs.Rows.{rowNumbers}
+use Rattle.listing.proofs.InNumbers.{row-put-with}
 use borrow.Author.Needs.{needs}
 use Rattle.listing.proofs.put_entered.Statement.{statement}
 use Rattle.listing.proofs.put_entered.Tie as tie
@@ -23,7 +21,7 @@ returns c =
     let put = c .before .before in
     let vs = put .before .before in
     let r = vs .before .before .before .before .before .before .before in
-    put .put-row .ensures ∙ ap (λ ws. sets (r .args .out .now) (r .args .at) (rowNumbers (r .args .s .part .share) ws (r .args .s .survivals))) (vs .row-factors .ensures)
+    row-put-with (r .args .s .part .share) (r .args .s .survivals) (r .args .at) (r .args .out .now) (put .put-row .ensures) (vs .row-factors .ensures)
 
 pub put-entered-spec : {M : Type 1} → statement M
 put-entered-spec = tie.close (tie.spec row-factors-requires put-row-requires same-length returns)

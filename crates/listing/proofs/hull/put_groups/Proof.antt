@@ -3,7 +3,6 @@ use Prim.Native.Nat.{_+_, _-_, _*_}
 use native.Mathlib.Omega.{arith}
 use Rattle.listing.proofs.HullNumbers.{few-groups}
 use Rattle.listing.proofs.InGroups.{InGroups, no-group, group-is, room, next-group, next-zone, all-groups}
-use borrow.Author.Needs.{needs}
 use Rattle.listing.proofs.hull.put_groups.Statement.{statement}
 use Rattle.listing.proofs.hull.put_groups.Tie as tie
 

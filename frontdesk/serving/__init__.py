@@ -1,0 +1,1 @@
+"""The page for the browser, on the loopback address."""

@@ -1,0 +1,1 @@
+"""Many ships at once: a line for each, on all processors."""

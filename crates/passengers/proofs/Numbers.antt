@@ -20,13 +20,13 @@ use Rattle.moments.proofs.Rooted.{rooted-exactly, top-at-most-one}
 use Rattle.moments.proofs.Against.{power-positive}
 use Rattle.moments.proofs.Defined.{final-rooted, held-rounded}
 use Rattle.results.specs.Parts.{InParts, parts}
+use Rattle.results.proofs.Parts.{nothing-parts, parts-below, lesser-parts, rounded-parts, ratio-crossed}
 use Rattle.survival.specs.Survival.{root, ends, fourthPower, scaledOf, roundedOf}
 use Rattle.survival.specs.Passengers.{intOf, finalOf, momOf}
 use Rattle.survival.specs.declared.Roots.{Roots}
 use Rattle.survival.proofs.Factors.{same-roots}
 use Rattle.survival.proofs.Bounds.{proper}
 use Rattle.survival.specs.Worse.{LesserEnds}
-use Rattle.results.proofs.Parts.{nothing-parts, parts-below, lesser-parts, rounded-parts, ratio-crossed}
 use Rattle.survival.proofs.Worse.{lesser-has-lesser-ends, bottom-rises, top-rises}
 use Rattle.survival.proofs.Portions.{one-times, product-below-first, fourth-power-sensible, fourth-power-one}
 use Rattle.survival.proofs.Passengers.{int-sensible, final-sensible, mom-sensible, held-sensible}

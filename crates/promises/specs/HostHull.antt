@@ -3,19 +3,21 @@
 use Prim.Native.Nat.{ℕ, zero, suc, _+_, _-_, _*_, _^_, _≤_}
 use mathlib.Core.Path.{_≡_}
 use mathlib.Core.List.{List, [], _∷_}
+use mathlib.Core.Logic.{_⊎_}
 use lib.ListN.{length, getD}
-use Rattle.laws.specs.Fraction.{Fraction, _over_, whole, _≈_, _≼_}
+use Rattle.laws.specs.Fraction.{Fraction, _over_, whole, _≈_, _≼_, _⊹_}
 use Rattle.records.specs.declared.Hull.{Hull}
 use Rattle.numbers.specs.Figures.{billionths}
-use Rattle.solas.specs.Count.{Group}
+use Rattle.solas.specs.Count.{Group, groups}
 use Rattle.spans.specs.Hull.{shipOf}
+use Rattle.indices.specs.Exact.{AtAll}
 use Rattle.verdicts.specs.Required.{requiredOf, markOf}
 use Rattle.printing.specs.Written.{countIn, writtenIn}
 use Rattle.casefile.specs.Record.{Case}
 use Rattle.casefile.specs.Reading.{refused, accepted, reading}
 use Rattle.listing.specs.Hull.{groupEnds}
 use Rattle.answers.specs.Report.{requiredIn, groupsIn}
-use Rattle.promises.specs.Rows.{groupShare}
+use Rattle.promises.specs.Rows.{rowsOf, chances, groupShare, Listed}
 use Rattle.promises.specs.Sheet.{ShareBetween}
 
 -- ---- R and the mark
@@ -90,6 +92,13 @@ upperEnds (lower ∷ upper ∷ numbers) = upper + upperEnds numbers
 
 abbrev pub GroupsAreAll : Type 0
 GroupsAreAll = (f : List ℕ) (c : Case) → reading f ≡ accepted c → (lowerEnds (groupsIn (reading f)) ≤ 10 ^ 9) × (10 ^ 9 ≤ upperEnds (groupsIn (reading f)))
+
+-- what a file leaves out: the exact chances of its listed cases, with the upper ends of the groups that are not listed, come to at least one at each draught.
+-- u has a number for each group, which is not below the upper end where the group is not listed
+abbrev pub GroupsLeftOut : Type 0
+GroupsLeftOut = (f : List ℕ) (c : Case) → reading f ≡ accepted c → (u : ℕ → ℕ → ℕ) →
+    ((a n : ℕ) → Group (shipOf (c .hull)) a n → Listed c a n ⊎ (getD (groupsIn (reading f)) (groupPlace (c .hull) a n + 1) 0 ≤ u a n)) →
+    AtAll (λ rows. whole 1 ≼ chances rows ⊹ billionths (groups u (c .hull .zones))) (rowsOf c)
 
 -- ---- what a host may lend
 

@@ -106,7 +106,7 @@ module _ (h : Hull) (v : ValidHull h) where
         record {
           low = ≼-trans (b .low) (≼-of-≈ same-share);
           high = ≼-trans (≼-of-≈ (≈-sym same-share)) (b .high);
-          near = shares-near (shipOf h) a n 0 (h .breadth / 2) as-row .near;
+          near = omega (arith, shares-near (shipOf h) a n 0 (h .breadth / 2) as-row .near);
         }
 
 pub groups-enclose : GroupsEnclose

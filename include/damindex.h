@@ -195,8 +195,8 @@ size_t damindex_required(const uint8_t *input, size_t input_length, uint64_t *nu
  * Takes a case file in `input`, and room for two numbers a group in `numbers`. Where the file is accepted it writes them to the front of `numbers`:
  * lower and upper end of the group's share of all damages, in billionths, groups ordered by their first zone and then by how many they have, which
  * is the order of the rows: 1, 1-2, 1-3 and so on to the last zone, then 2, 2-3 and so on, the last zone alone at the end. So it does of every group of
- * zones that lie side by side, also of those that no damage can reach, whose lower end is 0. A group's v is one in all, and what a group that is not
- * listed could add to each partial index is its upper end at most. Returns how many numbers that is: m zones have m (m + 1), at most
+ * zones that lie side by side, also of those that no damage can reach, whose lower end is 0. What the groups that are not listed could add to each
+ * partial index is together at most the sum of their upper ends (proved). Returns how many numbers that is: m zones have m (m + 1), at most
  * DAMINDEX_LONGEST_GROUPS.
  *
  * Where the file is refused, or `numbers` is too short for all of them, it returns 0 and writes nothing. */

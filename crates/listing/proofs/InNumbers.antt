@@ -1,10 +1,11 @@
 -- The rows as numbers, row by row: twenty each. Assumes nothing.
 use Prim.Native.Nat.{ℕ, suc, _+_, _*_, _≤_, _<_}
-use mathlib.Core.Path.{_≡_, refl, _∙_, ap, subst}
+use mathlib.Core.Path.{_≡_, refl, sym, _∙_, ap, subst}
 use mathlib.Core.List.{List, [], _∷_, _++_}
 use native.Mathlib.Omega.{arith}
 use lib.ListN.{length, set, drop, length-append}
 use lib.Seq.{sets}
+use Rattle.laws.proofs.Lists.{sets-append}
 use Rattle.laws.proofs.Pieces.{Put, put-none, put-more, put-all, put-in-front}
 use Rattle.records.specs.declared.Ends.{Ends}
 use Rattle.records.specs.declared.Hull.{Hull}
@@ -66,11 +67,13 @@ pub row-put : (share : Ends) (vs : List ℕ) (ss : List Survival) (at : ℕ) (xs
     bs ≡ sets ws (at + 2) (draughtNumbers share vs ss 0) → cs ≡ sets bs (at + 8) (draughtNumbers share vs ss 1) → ds ≡ sets cs (at + 14) (draughtNumbers share vs ss 2) →
     ds ≡ sets xs at (rowNumbers share vs ss)
 unfolding rowNumbers sixNumbers
-row-put share vs ss at xs p q r t =
-    let two : at + 2 ≡ suc (suc at) = omega arith in
-    let eight : at + 8 ≡ suc (suc (suc (suc (suc (suc (suc (suc at))))))) = omega arith in
-    let fourteen : at + 14 ≡ suc (suc (suc (suc (suc (suc (suc (suc (suc (suc (suc (suc (suc (suc at))))))))))))) = omega arith in
-    t ∙ rw (r, q, p, two, eight, fourteen) refl
+row-put share vs ss at xs {ws} {bs} {cs} {ds} p q r t =
+    let six = draughtNumbers share vs ss in
+    let eight : at + 8 ≡ at + 2 + 6 = omega arith in
+    let fourteen : at + 14 ≡ at + 8 + 6 = omega arith in
+    let light : ds ≡ sets bs (at + 8) (six 1 ++ six 2) = t ∙ rw (r, fourteen) (sym (sets-append bs (at + 8) (six 1) (six 2))) in
+    let partial : ds ≡ sets ws (at + 2) (six 0 ++ six 1 ++ six 2) = light ∙ rw (q, eight) (sym (sets-append ws (at + 2) (six 0) (six 1 ++ six 2))) in
+    partial ∙ rw p (sym (sets-append xs at (share .lower ∷ share .upper ∷ []) (six 0 ++ six 1 ++ six 2)))
 
 -- with v as it was worked out
 pub row-put-with : (share : Ends) (ss : List Survival) (at : ℕ) (xs : List ℕ) {vs ws ys : List ℕ} → ys ≡ sets xs at (rowNumbers share vs ss) → vs ≡ ws → ys ≡ sets xs at (rowNumbers share ws ss)

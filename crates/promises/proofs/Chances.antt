@@ -79,13 +79,13 @@ module _ (c : Case) (v : Valid c) where
   pub sizes : Sizes h
   sizes = sizes-are h (holds (sizesFit h) (v .hull .sizes))
 
-  half : 2 * deep ≡ h .breadth
+  pub half : 2 * deep ≡ h .breadth
   half = omega (arith, sizes .even)
 
-  abbrev f : ℕ → ℕ → ℕ
+  abbrev pub f : ℕ → ℕ → ℕ
   f a n = gives s a n 0 deep
 
-  grouped : Every (λ (r : Row). OfGroup h (r .head)) (c .rows)
+  pub grouped : Every (λ (r : Row). OfGroup h (r .head)) (c .rows)
   grouped = of-groups h (c .rows) (v .rows)
 
   -- a group gives something exactly when its share is not 0
@@ -103,13 +103,13 @@ module _ (c : Case) (v : Valid c) where
       (l .row, l .among, l .first, l .count)
 
   module _ (i d : ℕ) (afloat : d ≤ h .deepest) (v-is : (H′ H : ℕ) → getD (rowVs H′ H (draughts (h .deepest) (h .light))) i 0 ≡ rowV H′ H d) where
-    weigh : rowsWeigh h sound d afloat nowhere (c .rows) ≡ 916500 * sumOf (groupGives h sound d afloat) (groupsIn (c .rows))
+    pub weigh : rowsWeigh h sound d afloat nowhere (c .rows) ≡ 916500 * sumOf (groupGives h sound d afloat) (groupsIn (c .rows))
     weigh = case-weighs h sound d afloat (c .rows) (v .order) (rows-follow c v)
 
-    at-draught : Is (chances (map (rowAt i) (exactRows h nowhere (c .rows)))) (rowsWeigh h sound d afloat nowhere (c .rows)) 0 (over s * 916500)
+    pub at-draught : Is (chances (map (rowAt i) (exactRows h nowhere (c .rows)))) (rowsWeigh h sound d afloat nowhere (c .rows)) 0 (over s * 916500)
     at-draught = is-chances h sound i d afloat v-is nowhere (c .rows) (rows-follow c v)
 
-    D-positive : 0 < over s * 916500
+    pub D-positive : 0 < over s * 916500
     D-positive = mul-pos (over-positive s sound) (lit< tt)
 
     at-most-one-at : chances (map (rowAt i) (exactRows h nowhere (c .rows))) ≼ whole 1

@@ -22,7 +22,7 @@ use Rattle.spans.specs.Hull.{shipOf, Hulled}
 use Rattle.spans.proofs.Places.{ship-sound}
 use Rattle.chances.specs.Promises.{Row}
 use Rattle.chances.proofs.Row.{shares-enclosed, shares-near}
-use Rattle.verdicts.proofs.ByHull.{required-of-not-negative, mark-of-not-negative}
+use Rattle.verdicts.proofs.ByHull.{required-of-not-negative, mark-of-not-negative, passenger-mark-of, cargo-mark-of}
 use Rattle.printing.specs.Written.{countIn, writtenIn}
 use Rattle.casefile.specs.Limits.{sizesFit}
 use Rattle.casefile.specs.Record.{Case}
@@ -35,7 +35,8 @@ use Rattle.listing.proofs.HullNumbers.{length-groups, few-groups}
 use Rattle.answers.specs.Report.{requiredIn, groupsIn}
 use Rattle.answers.proofs.ValidCase.{hulled}
 use Rattle.promises.specs.Rows.{groupShare}
-use Rattle.promises.specs.HostHull.{RequiredOf, RequiredTells, GroupsTell, ShareBetween, GroupsEnclose, GroupsOfNoShare, longestGroups, GroupsFit, RefusedTellsNothing}
+use Rattle.promises.specs.Sheet.{ShareBetween}
+use Rattle.promises.specs.HostHull.{RequiredOf, RequiredTells, GroupsTell, GroupsEnclose, GroupsOfNoShare, longestGroups, GroupsFit, RefusedTellsNothing}
 use Rattle.promises.proofs.GroupPlaces.{places-told}
 -- checked first, so that a sentence that is not so is refused at a number
 use Rattle.promises.proofs.WitnessHull.{required-told, pair-between, twenty-zones}
@@ -56,6 +57,8 @@ required-of h = record {
   all = refl;
   required = record { some = ratio-positive _; exact = by-ratio (required-of-not-negative h) };
   mark = record { some = ratio-positive _; exact = by-ratio (mark-of-not-negative h) };
+  cargo = λ n. let e = cargo-mark-of h n in record { numerator = rw e (omega arith); denominator = rw e refl };
+  passengers = λ k. let e = passenger-mark-of h k in record { numerator = rw e refl; denominator = rw e refl };
 }
 
 pub required-tells : RequiredTells
@@ -103,7 +106,7 @@ module _ (h : Hull) (v : ValidHull h) where
         record {
           low = ≼-trans (b .low) (≼-of-≈ same-share);
           high = ≼-trans (≼-of-≈ (≈-sym same-share)) (b .high);
-          near = shares-near (shipOf h) a n 0 (h .breadth / 2) as-row .near;
+          near = omega (arith, shares-near (shipOf h) a n 0 (h .breadth / 2) as-row .near);
         }
 
 pub groups-enclose : GroupsEnclose

@@ -18,6 +18,7 @@ use Rattle.casefile.specs.Record.{Row, Case}
 use Rattle.rows.specs.declared.Standing.{Standing}
 use Rattle.rows.specs.Standing.{nowhere}
 use Rattle.listing.specs.Rows.{rowNumbers, numbersAt, numbersFrom}
+use Rattle.listing.proofs.InNumbers.{length-from}
 use Rattle.answers.specs.Answer.{shares}
 use Rattle.answers.specs.Report.{rowsIn}
 use Rattle.promises.specs.HostRows.{numberOf, RowTold, RowsTell, RefusedTellsNone}
@@ -76,4 +77,4 @@ module _ (c : Case) (i : ℕ) (r : Row) (l : i < length (c .rows)) (e : getD (c 
 
 pub rows-tell : RowsTell
 unfolding rowsIn
-rows-tell f c e i r l m = rw e (row-told c i r l m)
+rows-tell f c e = rw e (length-from (c .hull) nowhere (c .rows), λ i r l m. row-told c i r l m)

@@ -41,3 +41,4 @@ pub mod Sizes
 pub mod GroupPlaces
 pub mod HostHull
 pub mod GroupSums
+pub mod GroupsLeft

@@ -1,9 +1,10 @@
 -- The numbers that a host gets, row by row: number k of row i is number k of that row's own twenty, and what each of these is. Assumes nothing.
 use Prim.Native.Nat.{ℕ, zero, suc, _+_, _*_, _<_}
-use mathlib.Core.Path.{_≡_, refl, _∙_}
+use mathlib.Core.Path.{_≡_, refl, _∙_, ap}
 use mathlib.Core.List.{List, [], _∷_, _++_}
 use native.Mathlib.Omega.{arith}
 use lib.ListN.{length, getD, List·getD-append}
+use lib.Seq.{getD-append-add}
 use Rattle.records.specs.declared.Ends.{Ends}
 use Rattle.records.specs.declared.Hull.{Hull}
 use Rattle.records.specs.declared.Survival.{Survival}
@@ -73,10 +74,9 @@ pub in-row : (h : Hull) (z : Standing) (rs : Results) (rest : List ℕ) (k : ℕ
 in-row h z rs rest k b = List·getD-append (numbersAt h z rs) rest 0 k (omega (arith, length-at h z rs))
 
 pub behind : (h : Hull) (z : Standing) (rs : Results) (rest : List ℕ) (at : ℕ) → getD (numbersAt h z rs ++ rest) (20 + at) 0 ≡ getD rest at 0
-unfolding numbersAt rowNumbers sixNumbers
 behind h z rs rest at =
-    let far : 20 + at ≡ suc (suc (suc (suc (suc (suc (suc (suc (suc (suc (suc (suc (suc (suc (suc (suc (suc (suc (suc (suc at))))))))))))))))))) = omega arith in
-    rw far refl
+    let far : 20 + at ≡ length (numbersAt h z rs) + at = omega (arith, length-at h z rs) in
+    ap (λ p. getD (numbersAt h z rs ++ rest) p 0) far ∙ getD-append-add (numbersAt h z rs) rest at 0
 
 pub first-row : (h : Hull) (z : Standing) (rs : Results) (rest : List ℕ) (k : ℕ) → k < 20 → numberOf (numbersAt h z rs ++ rest) 0 k ≡ getD (numbersAt h z rs) k 0
 first-row h z rs rest k b = let place : 20 * 0 + k ≡ k = omega arith in rw place (in-row h z rs rest k b)

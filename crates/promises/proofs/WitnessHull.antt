@@ -2,6 +2,7 @@
 use Prim.Native.Nat.{ℕ, _*_}
 use mathlib.Core.Path.{_≡_, refl}
 use mathlib.Core.List.{List, [], _∷_}
+use native.Mathlib.Omega.{arith}
 use lib.Dec.{lit≤}
 use Rattle.laws.specs.Fraction.{_less_over_, _⊹_, _⊝_, _⊛_}
 use Rattle.solas.specs.Span.{touch, p, P}
@@ -11,13 +12,14 @@ use Rattle.solas.specs.Index.{R, partialMark}
 use Rattle.verdicts.specs.Required.{requiredOf, markOf}
 use Rattle.listing.proofs.HullValues.{small}
 use Rattle.promises.specs.Rows.{groupShare}
-use Rattle.promises.specs.HostHull.{RequiredOf, begunBy, groupPlace, ShareBetween, lowerEnds, upperEnds, longestGroups}
+use Rattle.promises.specs.Sheet.{ShareBetween}
+use Rattle.promises.specs.HostHull.{RequiredOf, begunBy, groupPlace, lowerEnds, upperEnds, longestGroups}
 use Rattle.promises.proofs.WitnessNumbers.{Compared}
 
 -- 12177/24977 and half of it
 pub required-told : RequiredOf small (121770000 ∷ 249770000 ∷ 121770000 ∷ 499540000 ∷ [])
 unfolding requiredOf markOf R partialMark _⊛_ _less_over_
-required-told = record { all = refl; required = record { some = lit≤ tt; exact = record { cross = refl } }; mark = record { some = lit≤ tt; exact = record { cross = refl } } }
+required-told = record { all = refl; required = record { some = lit≤ tt; exact = record { cross = refl } }; mark = record { some = lit≤ tt; exact = record { cross = refl } }; cargo = λ n. record { numerator = refl; denominator = refl }; passengers = λ k. absurd (omega (arith, k)) }
 
 -- three groups begin with zone 1, two with zone 2, one with zone 3
 pub groups-placed : (groupPlace small 1 1 ≡ 0) × (groupPlace small 1 2 ≡ 2) × (groupPlace small 1 3 ≡ 4) × (groupPlace small 2 1 ≡ 6) × (groupPlace small 2 2 ≡ 8) × (groupPlace small 3 1 ≡ 10)

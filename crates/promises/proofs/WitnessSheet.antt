@@ -9,7 +9,7 @@ use Rattle.solas.specs.Span.{touch, p, P}
 use Rattle.solas.specs.Penetration.{C, G1, G3, G, Q}
 use Rattle.solas.specs.Share.{within, share, rowShare}
 use Rattle.promises.specs.Rows.{exactRow}
-use Rattle.promises.specs.Sheet.{Told}
+use Rattle.promises.specs.Sheet.{ShareBetween}
 use Rattle.promises.proofs.WitnessNumbers.{Compared}
 use Rattle.promises.proofs.WitnessCases.{decked}
 
@@ -17,10 +17,10 @@ use Rattle.promises.proofs.WitnessCases.{decked}
 abbrev layer : ℕ → ℕ → exact.Row
 layer b′ b = exactRow (decked .hull) (record { head = record { kind = 3; first = 1; count = 1; depth = b; height = 18500 }; before = b′; below = 0 }) (found [])
 
-pub outer : Compared (λ (t : Told 710990416 710990417 (layer 0 400)). t .low) × Compared (λ (t : Told 710990416 710990417 (layer 0 400)). t .high)
+pub outer : Compared (λ (t : ShareBetween 710990416 710990417 (layer 0 400 .share)). t .low) × Compared (λ (t : ShareBetween 710990416 710990417 (layer 0 400 .share)). t .high)
 unfolding rowShare share within Q G P p C G1 G3 touch _⊹_ _⊝_ _⊛_ _less_over_
 outer = (λ t. refl, λ t. refl)
 
-pub inner : Compared (λ (t : Told 289009583 289009584 (layer 400 800)). t .low) × Compared (λ (t : Told 289009583 289009584 (layer 400 800)). t .high)
+pub inner : Compared (λ (t : ShareBetween 289009583 289009584 (layer 400 800 .share)). t .low) × Compared (λ (t : ShareBetween 289009583 289009584 (layer 400 800 .share)). t .high)
 unfolding rowShare share within Q G P p C G1 G3 touch _⊹_ _⊝_ _⊛_ _less_over_
 inner = (λ t. refl, λ t. refl)

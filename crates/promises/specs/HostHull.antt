@@ -3,19 +3,22 @@
 use Prim.Native.Nat.{ℕ, zero, suc, _+_, _-_, _*_, _^_, _≤_}
 use mathlib.Core.Path.{_≡_}
 use mathlib.Core.List.{List, [], _∷_}
+use mathlib.Core.Logic.{_⊎_}
 use lib.ListN.{length, getD}
-use Rattle.laws.specs.Fraction.{Fraction, _over_, whole, _≈_, _≼_}
+use Rattle.laws.specs.Fraction.{Fraction, _over_, whole, _≈_, _≼_, _⊹_}
 use Rattle.records.specs.declared.Hull.{Hull}
 use Rattle.numbers.specs.Figures.{billionths}
-use Rattle.solas.specs.Count.{Group}
+use Rattle.solas.specs.Count.{Group, groups}
 use Rattle.spans.specs.Hull.{shipOf}
+use Rattle.indices.specs.Exact.{AtAll}
 use Rattle.verdicts.specs.Required.{requiredOf, markOf}
 use Rattle.printing.specs.Written.{countIn, writtenIn}
 use Rattle.casefile.specs.Record.{Case}
 use Rattle.casefile.specs.Reading.{refused, accepted, reading}
 use Rattle.listing.specs.Hull.{groupEnds}
 use Rattle.answers.specs.Report.{requiredIn, groupsIn}
-use Rattle.promises.specs.Rows.{groupShare}
+use Rattle.promises.specs.Rows.{rowsOf, chances, groupShare, Listed}
+use Rattle.promises.specs.Sheet.{ShareBetween}
 
 -- ---- R and the mark
 
@@ -24,11 +27,18 @@ pub record FractionAt (numbers : List ℕ) (at : ℕ) (f : Fraction) : Type 0 wh
   pub some : 1 ≤ getD numbers (at + 1) 0
   pub exact : getD numbers at 0 over getD numbers (at + 1) 0 ≈ f
 
--- four numbers: R, then the mark of each partial index
+-- the mark's two numbers are those of R, so many times
+pub record TimesR (numbers : List ℕ) (up down : ℕ) : Type 0 where
+  pub numerator : getD numbers 2 0 ≡ getD numbers 0 0 * up
+  pub denominator : getD numbers 3 0 ≡ getD numbers 1 0 * down
+
+-- four numbers: R, then the mark of each partial index, half of R or of a passenger ship nine tenths, not reduced
 pub record RequiredOf (h : Hull) (numbers : List ℕ) : Type 0 where
   pub all : length numbers ≡ 4
   pub required : FractionAt numbers 0 (requiredOf h)
   pub mark : FractionAt numbers 2 (markOf h)
+  pub cargo : (h .kind ≡ 6 → ⊥) → TimesR numbers 1 2
+  pub passengers : h .kind ≡ 6 → TimesR numbers 9 10
 
 abbrev pub RequiredTells : Type 0
 RequiredTells = (f : List ℕ) (c : Case) → reading f ≡ accepted c → RequiredOf (c .hull) (requiredIn (reading f))
@@ -57,12 +67,7 @@ abbrev pub GroupsTell : Type 0
 GroupsTell = (f : List ℕ) (c : Case) → reading f ≡ accepted c → (length (groupsIn (reading f)) ≡ c .hull .zones * (c .hull .zones + 1))
     × ((a n : ℕ) → Group (shipOf (c .hull)) a n → GroupAt (c .hull) (groupsIn (reading f)) a n)
 
--- and its exact share lies between them, which are at most 32 billionths apart
-pub record ShareBetween (lower upper : ℕ) (share : Fraction) : Type 0 where
-  pub low : billionths lower ≼ share
-  pub high : share ≼ billionths upper
-  pub near : upper ≤ lower + 32
-
+-- and its exact share lies between them, as a row's does on the sheet
 abbrev pub GroupsEnclose : Type 0
 GroupsEnclose = (f : List ℕ) (c : Case) → reading f ≡ accepted c → (a n : ℕ) → Group (shipOf (c .hull)) a n →
     let place = groupPlace (c .hull) a n in
@@ -87,6 +92,13 @@ upperEnds (lower ∷ upper ∷ numbers) = upper + upperEnds numbers
 
 abbrev pub GroupsAreAll : Type 0
 GroupsAreAll = (f : List ℕ) (c : Case) → reading f ≡ accepted c → (lowerEnds (groupsIn (reading f)) ≤ 10 ^ 9) × (10 ^ 9 ≤ upperEnds (groupsIn (reading f)))
+
+-- what a file leaves out: the exact chances of its listed cases, with the upper ends of the groups that are not listed, come to at least one at each draught.
+-- u has a number for each group, which is not below the upper end where the group is not listed
+abbrev pub GroupsLeftOut : Type 0
+GroupsLeftOut = (f : List ℕ) (c : Case) → reading f ≡ accepted c → (u : ℕ → ℕ → ℕ) →
+    ((a n : ℕ) → Group (shipOf (c .hull)) a n → Listed c a n ⊎ (getD (groupsIn (reading f)) (groupPlace (c .hull) a n + 1) 0 ≤ u a n)) →
+    AtAll (λ rows. whole 1 ≼ chances rows ⊹ billionths (groups u (c .hull .zones))) (rowsOf c)
 
 -- ---- what a host may lend
 

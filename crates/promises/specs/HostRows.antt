@@ -53,8 +53,10 @@ pub record RowTold (c : Case) (numbers : List ℕ) (i : ℕ) (r : Row) : Type 0 
   pub upper : numberOf numbers i 1 ≡ getD (shares c) (2 * i + 1) 0
   pub draught : (j : ℕ) → j < 3 → DraughtTold c numbers i r j
 
+-- twenty a row and no more
 abbrev pub RowsTell : Type 0
-RowsTell = (f : List ℕ) (c : Case) → reading f ≡ accepted c → (i : ℕ) (r : Row) → i < length (c .rows) → getD (c .rows) i r ≡ r → RowTold c (rowsIn (reading f)) i r
+RowsTell = (f : List ℕ) (c : Case) → reading f ≡ accepted c → (length (rowsIn (reading f)) ≡ 20 * length (c .rows))
+    × ((i : ℕ) (r : Row) → i < length (c .rows) → getD (c .rows) i r ≡ r → RowTold c (rowsIn (reading f)) i r)
 
 -- ---- what they come to
 

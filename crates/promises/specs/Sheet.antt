@@ -3,7 +3,7 @@ use Prim.Native.Nat.{ℕ, _+_, _*_, _≤_}
 use mathlib.Core.Path.{_≡_}
 use mathlib.Core.List.{List, [], _∷_}
 use lib.ListN.{length, drop}
-use Rattle.laws.specs.Fraction.{_≼_}
+use Rattle.laws.specs.Fraction.{Fraction, _≼_}
 use Rattle.numbers.specs.Figures.{billionths}
 use Rattle.indices.specs.Exact as exact
 use Rattle.casefile.specs.Record.{Case}
@@ -12,10 +12,10 @@ use Rattle.rows.specs.Standing.{nowhere}
 use Rattle.answers.specs.Answer.{sheetAfter}
 use Rattle.promises.specs.Rows.{exactRows}
 
--- the two numbers tell the row's exact share
-pub record Told (lower upper : ℕ) (r : exact.Row) : Type 0 where
-  pub low : billionths lower ≼ r .share
-  pub high : r .share ≼ billionths upper
+-- an exact share lies between the two numbers that tell it, which are at most 32 billionths apart
+pub record ShareBetween (lower upper : ℕ) (share : Fraction) : Type 0 where
+  pub low : billionths lower ≼ share
+  pub high : share ≼ billionths upper
   pub near : upper ≤ lower + 32
 
 -- two numbers a row, from the front on
@@ -23,7 +23,7 @@ abbrev pub TellsRows : List ℕ → List exact.Row → Type 0
 TellsRows sheet [] = Unit {0}
 TellsRows [] (r ∷ rs) = ⊥
 TellsRows (lower ∷ []) (r ∷ rs) = ⊥
-TellsRows (lower ∷ upper ∷ sheet) (r ∷ rs) = Told lower upper r × TellsRows sheet rs
+TellsRows (lower ∷ upper ∷ sheet) (r ∷ rs) = ShareBetween lower upper (r .share) × TellsRows sheet rs
 
 pub record SheetOf (c : Case) (before after : List ℕ) : Type 0 where
   pub tells : TellsRows after (exactRows (c .hull) nowhere (c .rows))

@@ -43,7 +43,7 @@ returns-2 : tie.Need-returns-2
 returns-2 c =
     let judged = c .before .before .before .before in
     let r = judged .before .before .before .before in
-    report-too-long (r .args .input .now) (judged .judge .ensures .0) (search needs) _ (judged .judge .ensures .1) (r .args .out .now) (c .if2 .taken)
+    report-too-long (r .args .input .now) (judged .judge .ensures .0) (search needs) _ (judged .judge .ensures .1) (r .args .out .now) (omega (arith, c .if2 .taken))
 
 slice-aggregate-put-case : tie.Need-slice-aggregate-put-case
 slice-aggregate-put-case c = search needs

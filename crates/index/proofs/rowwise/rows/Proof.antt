@@ -29,7 +29,7 @@ returns-2 : tie.Need-returns-2
 returns-2 c =
     let judged = c .before .before .before .before in
     let r = judged .before .before .before .before in
-    list-too-long (r .args .input .now) (judged .judge .ensures .0) (search needs) _ (judged .judge .ensures .1) (r .args .out .now) (c .if2 .taken)
+    list-too-long (r .args .input .now) (judged .judge .ensures .0) (search needs) _ (judged .judge .ensures .1) (r .args .out .now) (omega (arith, c .if2 .taken))
 
 slice-aggregate-put-rows : tie.Need-slice-aggregate-put-rows
 slice-aggregate-put-rows c = search needs

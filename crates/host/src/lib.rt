@@ -54,7 +54,7 @@ pub extern "C" fn damindex_figures(input: &[u8], sheet: &mut [u64], figures: &mu
 pub extern "C" fn damindex_rows(input: &[u8], rows: &mut [u64]) -> usize
     ensures { λ r. ⌜ (r ≡ countIn (rowsIn (reading (now (input .entry)))) (now (rows .entry))) × (now (rows .exit) ≡ writtenIn (rowsIn (reading (now (input .entry)))) (now (rows .entry))) ⌝ }
 {
-    index::rowwise::rows(input, rows)
+    workings::rows(input, rows)
 }
 
 // R and the mark of a partial index of any bytes that are accepted, numerator and denominator of each in front of those lent. How many numbers that is: none,
@@ -63,7 +63,7 @@ pub extern "C" fn damindex_rows(input: &[u8], rows: &mut [u64]) -> usize
 pub extern "C" fn damindex_required(input: &[u8], numbers: &mut [u64]) -> usize
     ensures { λ r. ⌜ (r ≡ countIn (requiredIn (reading (now (input .entry)))) (now (numbers .entry))) × (now (numbers .exit) ≡ writtenIn (requiredIn (reading (now (input .entry)))) (now (numbers .entry))) ⌝ }
 {
-    index::hullwise::required(input, numbers)
+    workings::required(input, numbers)
 }
 
 // The share of each group of zones of any bytes that are accepted, down to half the breadth, lower end and upper end in front of those lent. How many numbers
@@ -72,5 +72,5 @@ pub extern "C" fn damindex_required(input: &[u8], numbers: &mut [u64]) -> usize
 pub extern "C" fn damindex_groups(input: &[u8], numbers: &mut [u64]) -> usize
     ensures { λ r. ⌜ (r ≡ countIn (groupsIn (reading (now (input .entry)))) (now (numbers .entry))) × (now (numbers .exit) ≡ writtenIn (groupsIn (reading (now (input .entry)))) (now (numbers .entry))) ⌝ }
 {
-    index::hullwise::groups(input, numbers)
+    workings::groups(input, numbers)
 }

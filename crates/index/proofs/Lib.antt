@@ -1,3 +1,2 @@
-mod Accepted
+pub mod Accepted
 mod Reported
-mod HullTold

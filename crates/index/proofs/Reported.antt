@@ -1,9 +1,9 @@
--- What is written into a lent buffer is the printed answer, or the rows' numbers, of any file by its judgement. Assumes nothing.
+-- What is written into a lent buffer is the printed answer of any file, by its judgement. Assumes nothing.
 use Prim.Native.Nat.{ℕ, _+_, _*_, _≤_, _<_}
 use mathlib.Core.Path.{_≡_, refl, sym, _∙_, ap}
-use mathlib.Core.List.{List, _++_}
+use mathlib.Core.List.{List}
 use native.Mathlib.Omega.{arith}
-use lib.ListN.{length, drop}
+use lib.ListN.{length}
 use Rattle.hexadecimal.specs.Hex.{lineOf}
 use Rattle.digits.specs.Splice.{splice}
 use Rattle.records.specs.declared.Answer.{Answer}
@@ -17,13 +17,11 @@ use Rattle.casefile.proofs.Kept.{length-kept}
 use Rattle.printing.specs.Printed.{refusalFrame, figuresFrame, rowLines, printed, printedLength}
 use Rattle.printing.specs.Written.{countIn, writtenIn}
 use Rattle.printing.proofs.Whole.{length-printed, rows-then-figures}
-use Rattle.printing.proofs.Written.{too-little, enough, in-front}
+use Rattle.printing.proofs.Written.{too-little, enough}
 use Rattle.rows.specs.Standing.{nowhere}
 use Rattle.rows.specs.Work.{linesFrom}
-use Rattle.listing.specs.Rows.{numbersFrom}
-use Rattle.listing.proofs.InNumbers.{length-from}
 use Rattle.answers.specs.Answer.{figures, answer}
-use Rattle.answers.specs.Report.{linesIn, report, rowsIn}
+use Rattle.answers.specs.Report.{linesIn, report}
 use Rattle.answers.proofs.Prints.{length-lines, report-refused, report-accepted}
 use Rattle.index.specs.Kept.{keptCase}
 use Rattle.index.proofs.Accepted.{known-case, few-rows}
@@ -51,11 +49,6 @@ refusal-printed (refused k l) out {j} e some (p, q) =
     (p ∙ ap (λ t. countIn t out) same, q ∙ ap (λ t. writtenIn t out) same)
 refusal-printed (accepted c) out e some w = absurd (some (ap (λ (j : Judgement). j .number) e))
 
-pub refusal-lists-none : (r : Reading) (out : List ℕ) {j : Judgement} → j ≡ judgementOf r → (j .number ≡ 0 → ⊥) → (0 ≡ countIn (rowsIn r) out) × (out ≡ writtenIn (rowsIn r) out)
-unfolding rowsIn
-refusal-lists-none (refused k l) out e some = in-front _ out refl (omega arith) refl
-refusal-lists-none (accepted c) out e some = absurd (some (ap (λ (j : Judgement). j .number) e))
-
 -- ---- an accepted file, whose rows are kept
 
 module _ (f : List ℕ) {j : Judgement} (e : j ≡ judgementOf (reading f)) (z : j .number ≡ 0) (kept : List ℕ) (k : Keeps (reading f) kept) where
@@ -78,17 +71,3 @@ module _ (f : List ℕ) {j : Judgement} (e : j ≡ judgementOf (reading f)) (z :
   pub report-written : (out : List ℕ) → 69 + 25 * j .rows ≤ length out → {after : List ℕ} → after ≡ splice 0 (printed (answer case) (linesIn (accepted case))) out →
       (69 + 25 * j .rows ≡ countIn (report (reading f)) out) × (after ≡ writtenIn (report (reading f)) out)
   report-written out l p = rw text-is (enough _ out length-is l p)
-
-  rows-are : rowsIn (reading f) ≡ numbersFrom (j .hull) nowhere (keptRows (j .rows) kept 0)
-  unfolding rowsIn
-  rows-are = rw (known-case f e z kept k) refl
-
-  twenty-a-row : length (numbersFrom (j .hull) nowhere (keptRows (j .rows) kept 0)) ≡ 20 * j .rows
-  twenty-a-row = length-from (j .hull) nowhere (keptRows (j .rows) kept 0) ∙ ap (λ n. 20 * n) as-many
-
-  pub list-too-long : (out : List ℕ) → length out < 20 * j .rows → (0 ≡ countIn (rowsIn (reading f)) out) × (out ≡ writtenIn (rowsIn (reading f)) out)
-  list-too-long out l = rw rows-are (too-little _ out twenty-a-row l)
-
-  pub list-written : (out : List ℕ) → 20 * j .rows ≤ length out → {after : List ℕ} → after ≡ numbersFrom (j .hull) nowhere (keptRows (j .rows) kept 0) ++ drop (20 * j .rows) out →
-      (20 * j .rows ≡ countIn (rowsIn (reading f)) out) × (after ≡ writtenIn (rowsIn (reading f)) out)
-  list-written out l p = rw rows-are (in-front _ out twenty-a-row l p)

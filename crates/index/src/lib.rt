@@ -18,9 +18,7 @@ use records::Trio;
 use rows::sheet::fill;
 use spans::TABLE;
 
-pub mod hullwise; // what the hull decides, as numbers for a host
 pub mod printed; // the printed answer
-pub mod rowwise; // the rows as numbers for a host
 
 // A refusal's number and line, and zeros.
 fn refuse(number: u64, line: u64) -> Answer

@@ -1,10 +1,10 @@
--- `index::hullwise::groups` meets its contract: a refusal, too little room, or two numbers for each group. Assumes nothing.
+-- `groups` meets its contract: a refusal, too little room, or two numbers for each group. Assumes nothing.
 use native.Mathlib.Omega.{arith}
 use Rattle.casefile.specs.Reading.{reading}
-use Rattle.index.proofs.HullTold.{refusal-tells-none, its-hull, few-zones, groups-too-long, groups-written}
+use Rattle.workings.proofs.Told.{refusal-tells-none, its-hull, few-zones, groups-too-long, groups-written}
 use borrow.Author.Needs.{needs}
-use Rattle.index.proofs.hullwise.groups.Statement.{statement}
-use Rattle.index.proofs.hullwise.groups.Tie as tie
+use Rattle.workings.proofs.groups.Statement.{statement}
+use Rattle.workings.proofs.groups.Tie as tie
 
 slice-aggregate-judge : tie.Need-slice-aggregate-judge
 slice-aggregate-judge c = search needs
@@ -16,7 +16,7 @@ returns : tie.Need-returns
 returns c =
     let judged = c .before .before .before in
     let r = judged .before .before .before .before in
-    refusal-tells-none (reading (r .args .input .now)) (r .args .out .now) (judged .judge .ensures .0) (c .if1 .taken) .1
+    refusal-tells-none (reading (r .args .input .now)) (r .args .out .now) (judged .judge .ensures .0) (c .if1 .taken) .2
 
 add-n : tie.Need-add-n
 add-n c =

@@ -1,11 +1,11 @@
--- `index::rowwise::rows` meets its contract: a refusal, too little room, or all numbers. Assumes nothing.
+-- `rows` meets its contract: a refusal, too little room, or all numbers. Assumes nothing.
 use native.Mathlib.Omega.{arith}
 use Rattle.casefile.specs.Reading.{reading}
 use Rattle.index.proofs.Accepted.{few-rows, valid-case}
-use Rattle.index.proofs.Reported.{refusal-lists-none, list-too-long, list-written}
+use Rattle.workings.proofs.Told.{refusal-tells-none, rows-too-long, rows-written}
 use borrow.Author.Needs.{needs}
-use Rattle.index.proofs.rowwise.rows.Statement.{statement}
-use Rattle.index.proofs.rowwise.rows.Tie as tie
+use Rattle.workings.proofs.rows.Statement.{statement}
+use Rattle.workings.proofs.rows.Tie as tie
 
 slice-aggregate-judge : tie.Need-slice-aggregate-judge
 slice-aggregate-judge c = search needs
@@ -17,7 +17,7 @@ returns : tie.Need-returns
 returns c =
     let judged = c .before .before .before in
     let r = judged .before .before .before .before in
-    refusal-lists-none (reading (r .args .input .now)) (r .args .out .now) (judged .judge .ensures .0) (c .if1 .taken)
+    refusal-tells-none (reading (r .args .input .now)) (r .args .out .now) (judged .judge .ensures .0) (c .if1 .taken) .0
 
 mul-n : tie.Need-mul-n
 mul-n c =
@@ -29,7 +29,7 @@ returns-2 : tie.Need-returns-2
 returns-2 c =
     let judged = c .before .before .before .before in
     let r = judged .before .before .before .before in
-    list-too-long (r .args .input .now) (judged .judge .ensures .0) (search needs) _ (judged .judge .ensures .1) (r .args .out .now) (omega (arith, c .if2 .taken))
+    rows-too-long (r .args .input .now) (judged .judge .ensures .0) (search needs) _ (judged .judge .ensures .1) (r .args .out .now) (omega (arith, c .if2 .taken))
 
 slice-aggregate-put-rows : tie.Need-slice-aggregate-put-rows
 slice-aggregate-put-rows c = search needs
@@ -51,7 +51,7 @@ returns-3 c =
     let put = c .before .before in
     let judged = put .before .before .before .before .before .before .before .before in
     let r = judged .before .before .before .before in
-    list-written (r .args .input .now) (judged .judge .ensures .0) (search needs) _ (judged .judge .ensures .1) (r .args .out .now) (omega (arith, put .before .before .before .before .if2 .left)) (put .put-rows .ensures)
+    rows-written (r .args .input .now) (judged .judge .ensures .0) (search needs) _ (judged .judge .ensures .1) (r .args .out .now) (omega (arith, put .before .before .before .before .if2 .left)) (put .put-rows .ensures)
 
 pub rows-spec : {M : Type 1} → statement M
 rows-spec =

@@ -1,9 +1,9 @@
--- `index::rowwise::put_rows` meets its contract: a valid case can be worked out. Assumes nothing.
+-- `put_rows` meets its contract: a valid case can be worked out. Assumes nothing.
 use mathlib.Core.Path.{refl}
 use Rattle.index.proofs.Accepted.{hull-is, rows-asked}
 use borrow.Author.Needs.{needs}
-use Rattle.index.proofs.rowwise.put_rows.Statement.{statement}
-use Rattle.index.proofs.rowwise.put_rows.Tie as tie
+use Rattle.workings.proofs.put_rows.Statement.{statement}
+use Rattle.workings.proofs.put_rows.Tie as tie
 
 slice-aggregate-fill-table : tie.Need-slice-aggregate-fill-table
 slice-aggregate-fill-table c = search needs

@@ -1,10 +1,10 @@
--- `index::hullwise::required` meets its contract: a refusal, too little room, or the four numbers. Assumes nothing.
+-- `required` meets its contract: a refusal, too little room, or the four numbers. Assumes nothing.
 use native.Mathlib.Omega.{arith}
 use Rattle.casefile.specs.Reading.{reading}
-use Rattle.index.proofs.HullTold.{refusal-tells-none, its-sizes, required-too-long, required-written}
+use Rattle.workings.proofs.Told.{refusal-tells-none, its-sizes, required-too-long, required-written}
 use borrow.Author.Needs.{needs}
-use Rattle.index.proofs.hullwise.required.Statement.{statement}
-use Rattle.index.proofs.hullwise.required.Tie as tie
+use Rattle.workings.proofs.required.Statement.{statement}
+use Rattle.workings.proofs.required.Tie as tie
 
 slice-aggregate-judge : tie.Need-slice-aggregate-judge
 slice-aggregate-judge c = search needs
@@ -16,7 +16,7 @@ returns : tie.Need-returns
 returns c =
     let judged = c .before .before .before in
     let r = judged .before .before .before .before in
-    refusal-tells-none (reading (r .args .input .now)) (r .args .out .now) (judged .judge .ensures .0) (c .if1 .taken) .0
+    refusal-tells-none (reading (r .args .input .now)) (r .args .out .now) (judged .judge .ensures .0) (c .if1 .taken) .1
 
 returns-2 : tie.Need-returns-2
 returns-2 c =

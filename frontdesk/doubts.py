@@ -54,29 +54,30 @@ def gathered(text, rows):
 
 def hull(ship):
     built = "ships are built with %s to %s times: is one of the two mistyped?"
-    yield from ratio(ship.length, ship.breadth, LENGTH_TO_BREADTH, "Ls is %s times B, and " + built)
-    yield from ratio(10 * ship.breadth, ship.deepest, BREADTH_TO_DRAUGHT, "B is %s times the deepest draught, and " + built)
+    texts = [*ratio(ship.length, ship.breadth, LENGTH_TO_BREADTH, "Ls is %s times B, and " + built),
+             *ratio(10 * ship.breadth, ship.deepest, BREADTH_TO_DRAUGHT, "B is %s times the deepest draught, and " + built)]
     if ship.deepest == ship.light:
-        yield Doubt("The light draught is the deepest one, so that all three are the same: was the light service draught left out?", 0, "ship")
+        texts.append("The light draught is the deepest one, so that all three are the same: was the light service draught left out?")
     if ship.type == PASSENGER and not ship.lifeboats + ship.excess:
-        yield Doubt("This is a passenger ship with no persons at all, and R rises with them: were they left out?", 0, "ship")
+        texts.append("This is a passenger ship with no persons at all, and R rises with them: were they left out?")
+    return [Doubt(text, ship.ship_place, "ship") for text in texts]
 
 
 def ratio(part, whole, bounds, text):
     least, most = bounds
     if not least * whole <= part <= most * whole:
-        yield Doubt(text % (cut(part, 2, whole), cut(least, 1), most), 0, "ship")
+        yield text % (cut(part, 2, whole), cut(least, 1), most)
 
 
 def zones(ship):
-    places = ship.places
-    for number, (aft, forward) in enumerate(zip(places, places[1:]), 1):
+    places, rows = ship.places, ship.zone_places or (0,) * ship.zones
+    for number, (aft, forward, row) in enumerate(zip(places, places[1:], rows), 1):
         length = forward - aft
         about = "Zone %d is %s m long, %s per cent of Ls, and hardly any zone is " % (number, cut(length, 2, 100), cut(100 * length, 1, ship.length))
         if length < SHORTEST_ZONE * ship.length:
-            yield Doubt(about + "below 1 per cent: are its ends right?", 0, "zones")
+            yield Doubt(about + "below 1 per cent: are its ends right?", row, "zones")
         if length > LONGEST_ZONE * ship.length and ship.zones >= ZONES_FOR_LENGTH:
-            yield Doubt(about + "above 35 per cent: is a bulkhead missing?", 0, "zones")
+            yield Doubt(about + "above 35 per cent: is a bulkhead missing?", row, "zones")
 
 
 def layers(ship):

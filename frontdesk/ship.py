@@ -83,6 +83,8 @@ class Ship:
     rule: int = 0
     name: str = ""
     zone_names: tuple = ()  # one a zone, or none at all
+    zone_places: tuple = ()  # the row of each zone in the sheet zones; none of a case file
+    ship_place: int = 0  # its own row in the sheet ship; 0 of a case file
     source: Source = field(default_factory=Source)
 
     @property

@@ -32,7 +32,7 @@ def ship_of(sheets, name="", form="workbook", against=False):
     ledger.close()
     source = Source(file=name, form=form, reordered=reordered, rounded=ledger.rounded)
     return Ship(hull.type, hull.length, hull.breadth, hull.deepest, hull.light, hull.places[1:-1], rows, hull.lifeboats, hull.excess, hull.rule, hull.name,
-                hull.zone_names, source)
+                hull.zone_names, hull.zone_places, hull.ship_place, source)
 
 
 def sheets_of(ship, every=False):

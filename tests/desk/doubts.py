@@ -10,8 +10,8 @@ sys.path.insert(0, str(Path(__file__).resolve().parent))
 import seeds  # noqa: E402
 from frontdesk import doubts  # noqa: E402
 from frontdesk.figures import engine, findings  # noqa: E402
-from frontdesk.reading import casefile  # noqa: E402
-from frontdesk.ship import NO_OPENING, Result, Row, Source  # noqa: E402
+from frontdesk.reading import casefile, commas, tables  # noqa: E402
+from frontdesk.ship import NO_OPENING, Result, Row  # noqa: E402
 from tally import Tally  # noqa: E402
 
 tally = Tally()
@@ -20,9 +20,8 @@ BY_NAME = dict(seeds.examples())
 
 
 def ship_of(name):
-    """An example as a workbook would give it: rows from 2 on."""
-    ship = casefile.parse(BY_NAME[name])
-    return replace(ship, rows=tuple(replace(row, place=at) for at, row in enumerate(ship.rows, 2)), source=Source(file=name + ".xlsx", form="workbook"))
+    """An example as a workbook gives it: rows from 2 on."""
+    return tables.ship_of(tables.sheets_of(casefile.parse(BY_NAME[name])), name + ".xlsx")
 
 
 def doubted(ship):
@@ -47,7 +46,7 @@ def with_row(ship, at, **fields):
 
 
 def hulls(coaster, ferry):
-    place = "ship"
+    place = "ship, row 2"
     warns("Ls above 12 B", small(length=12_002, breadth=1_000), "Ls is 12.00 times B", place, small(length=12_000, breadth=1_000))
     warns("Ls below 2.5 B", small(length=9_999, breadth=4_000, deepest=8_000), "Ls is 2.49 times B", place, small(length=10_000, breadth=4_000, deepest=8_000))
     warns("B above 8 ds", small(breadth=2_002, deepest=2_500), "B is 8.00 times", place, small(breadth=2_000, deepest=2_500))
@@ -61,14 +60,20 @@ def hulls(coaster, ferry):
 def small(length=10_000, breadth=2_000, deepest=6_000, light=None, bulkheads=(2_000, 4_000, 6_000, 8_000), rows=()):
     """A ship of five zones without a row, or with these."""
     light = light if light is not None else deepest - 1_000
-    return replace(ship_of("coaster"), length=length, breadth=breadth, deepest=deepest, light=light, bulkheads=bulkheads, rows=tuple(rows))
+    return replace(ship_of("coaster"), length=length, breadth=breadth, deepest=deepest, light=light, bulkheads=bulkheads, rows=tuple(rows),
+                   zone_places=tuple(range(2, len(bulkheads) + 3)))
 
 
 def zones():
-    place = "zones"
-    warns("a short zone", small(bulkheads=(99, 3_000, 6_000, 8_000)), "Zone 1 is 0.99 m long, 0.9 per cent", place, small(bulkheads=(100, 3_000, 6_000, 8_000)))
-    warns("a long zone", small(bulkheads=(3_000, 5_000, 6_499)), "Zone 4 is 35.01 m long, 35.0 per cent", place, small(bulkheads=(3_000, 5_000, 6_500)))
+    warns("a short zone", small(bulkheads=(99, 3_000, 6_000, 8_000)), "Zone 1 is 0.99 m long, 0.9 per cent", "zones, row 2", small(bulkheads=(100, 3_000, 6_000, 8_000)))
+    warns("a long zone", small(bulkheads=(3_000, 5_000, 6_499)), "Zone 4 is 35.01 m long, 35.0 per cent", "zones, row 5", small(bulkheads=(3_000, 5_000, 6_500)))
     tally.same([doubt for doubt in doubted(small(bulkheads=(5_000, 6_000))) if doubt.sheet == "zones"], [], "of three zones one is long for that reason alone")
+    rows = b"zone,aft m,forward m\n5,80,100\n\n4,60,80\n3,30,60\n2,0.99,30\n1,0,0.99\n"  # from forward aft, and one that is empty
+    files = commas.written(tables.sheets_of(small(rows=[given(1, 1, 1_000, 18_500, 2)], light=6_000)))
+    folder = tables.read({**files, "zones.csv": rows, "ship.csv": files["ship.csv"].replace(b"\n", b"\n,,,\n", 1)})
+    for ship, wanted in ((folder, ["ship, row 3", "zones, row 7"]), (casefile.parse(casefile.write(folder)), ["line 1", "line 1"])):
+        found = [doubt.where for doubt in doubted(ship) if doubt.text.startswith(("Zone", "The light draught"))]
+        tally.same(found, wanted, "a %s: ship and zones by row" % ship.source.form)
 
 
 def given(first, count, depth, height, place):
@@ -147,7 +152,7 @@ def examples():
         found = doubted(ship)
         tally.same(["less than one" in doubt.text and "and 31 more" in doubt.text for doubt in found],
                 [True] if name == "container-ship" else [], "%s: its doubts" % name)
-    plain = replace(ship_of("coaster"), light=5_400, source=Source())
+    plain = replace(casefile.parse(BY_NAME["coaster"]), light=5_400)
     tally.same([str(doubt)[:30] for doubt in doubted(plain)], ["line 1: The light draught is t"], "a case file has lines and no sheets")
 
 

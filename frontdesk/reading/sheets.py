@@ -16,6 +16,7 @@ class Sheet:
     headings: tuple
     rows: tuple  # of (number as the spreadsheet counts, cells)
     comma: bool = False  # numbers have a decimal comma
+    unseen: tuple = ()  # hidden rows, hidden columns, sheets of like names that are passed over; where there are any
 
 
 def laid_out(name, columns, rows):

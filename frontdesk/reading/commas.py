@@ -2,13 +2,15 @@
 
 import csv
 import io
+import re
 from pathlib import Path
 
 from frontdesk.reading.columns import SHEETS, nearest
 from frontdesk.reading.mistakes import Mistake, Mistakes
 from frontdesk.reading.sheets import MOST_ROWS, Sheet
-from frontdesk.reading.units import BLANKS, WITH_COMMA, is_blank
+from frontdesk.reading.units import BLANKS, WITH_COMMA, is_blank, shown
 
+SEPARATOR_LINE = re.compile(r"\s*\"?sep=", re.IGNORECASE)
 LONGEST_FILE = 5_000_000  # bytes: 2,000 rows have less
 
 
@@ -59,6 +61,9 @@ def table(sheet, file, data):
     if len(data) > LONGEST_FILE:
         raise Mistakes([Mistake(file, 0, "", "the file has more than %d bytes; expected a table of cases." % LONGEST_FILE)])
     text = decoded(file, data)
+    if SEPARATOR_LINE.match(text):
+        found = "found %s, which is for a spreadsheet program; expected the headings in this line. Delete it."
+        raise Mistakes([Mistake(file, 1, "", found % shown(text.splitlines()[0]), "line")])
     separator = separator_of(file, text)
     rows = []
     reader = csv.reader(io.StringIO(text, newline=""), delimiter=separator, strict=True)

@@ -67,6 +67,7 @@ class Source:
     form: str = "case file"  # or "workbook", "CSV files"
     reordered: bool = False  # the table's rows were not in the file's order
     rounded: int = 0  # numbers that --against rounded
+    unseen: tuple = ()  # (sheet, hidden rows, hidden columns, sheets of like names that are passed over), where a workbook has such
 
 
 @dataclass(frozen=True)

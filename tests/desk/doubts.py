@@ -1,5 +1,6 @@
 """Each doubt with a ship that has it and its nearest neighbour that has not; and which doubts the examples have."""
 
+import io
 import re
 import sys
 from dataclasses import replace
@@ -11,7 +12,7 @@ import seeds  # noqa: E402
 from frontdesk import doubts  # noqa: E402
 from frontdesk.figures import engine, findings  # noqa: E402
 from frontdesk.reading import casefile, commas, tables  # noqa: E402
-from frontdesk.ship import NO_OPENING, Result, Row  # noqa: E402
+from frontdesk.ship import NO_OPENING, Result, Row, Source  # noqa: E402
 from tally import Tally  # noqa: E402
 
 tally = Tally()
@@ -128,7 +129,74 @@ def entries(coaster, bulk):
           with_row(upright, wing.place - 2, results=tuple(result._replace(heel=1) for result in upright.rows[wing.place - 2].results)))  # fmt: skip
 
 
+    radians = changed(bulk, lambda result: result._replace(heel=min(result.heel, 99)))
+    steep = with_row(radians, wing.place - 2, results=tuple(result._replace(heel=100) for result in radians.rows[wing.place - 2].results))
+    warns("heels below one degree", radians, "The heel is below one degree in every row, 0.99 at most", "cases, row %d" % wing.place, steep)
+
+
+def openings(coaster):
+    """Half of the results with a lever immersed raise no doubt, one more does."""
+    def sunk(count):
+        left, rows = [count], []
+        for row in coaster.rows:
+            results = []
+            for result in row.results:
+                left[0] -= bool(result.lever)
+                results.append(result._replace(opening=-1 if result.lever and left[0] >= 0 else result.opening))
+            rows.append(replace(row, results=tuple(results)))
+        return replace(coaster, rows=tuple(rows))
+
+    levers = sum(bool(result.lever) for row in coaster.rows for result in row.results)
+    first = next(row for row in coaster.rows if any(result.lever for result in row.results))
+    warns("openings turned", sunk(levers // 2 + 1), "In %d of the %d results with a righting lever the opening" % (levers // 2 + 1, levers),
+          "cases, row %d" % first.place, sunk(levers // 2))  # fmt: skip
+
+
+def floodings(ferry):
+    def flooded(at=3, **fields):
+        return with_row(ferry, at, floodings=tuple(each._replace(**fields) for each in ferry.rows[at].floodings))
+
+    three = ferry.rows[3].floodings
+    warns("displacements turned", with_row(ferry, 3, floodings=three[::-1]), "The displacement is less at the deepest draught", "cases, row 5", ferry)
+    box = 41 * ferry.length * ferry.breadth * ferry.light // (40 * 10**7)
+    warns("more than a box", flooded(displacement=box + 1), "A displacement of %d t" % (box + 1), "cases, row 5", flooded(displacement=box))
+    warns("a displacement in thousands", flooded(displacement=9), "A displacement of 9 t", "cases, row 5", ferry)
+    crowd = 75 * 45 * (ferry.lifeboats + ferry.excess) * ferry.breadth / 10**7
+    low = int(crowd / 2)
+    warns("a moment in thousands", flooded(moment=low), "A heeling moment of %d tm" % low, "cases, row 5", flooded(moment=low + 1))
+
+
+def unseen():
+    """Hidden rows and columns, and a copy of a sheet, through a workbook; empty ones that are hidden are nothing."""
+    import openpyxl
+
+    def read(change):
+        book = openpyxl.load_workbook(seeds.ROOT / "examples/coaster.xlsx")
+        change(book)
+        written = io.BytesIO()
+        book.save(written)
+        return tables.read(written.getvalue(), "coaster.xlsx")
+
+    def rows(book, *numbers):
+        for number in numbers:
+            book["cases"].row_dimensions[number].hidden = True
+
+    def column(book, letter):
+        book["cases"].column_dimensions[letter].hidden = True
+
+    plain = read(lambda book: (rows(book, 700), column(book, "AZ")))
+    tally.same(plain.source.unseen, (), "what is hidden and empty is nothing")
+    warns("hidden rows", read(lambda book: rows(book, 5, 6, 9)), "This row is hidden in the workbook", "cases, row 5", plain)
+    tally.that("So are 2 more rows." in doubted(read(lambda book: rows(book, 5, 6, 9)))[0].text, "how many more rows are hidden")
+    warns("a hidden column", read(lambda book: column(book, "E")), "Column E is hidden in the workbook", "cases", plain)
+    warns("a copy of a sheet", read(lambda book: book.create_sheet("Cases (2)")), 'The sheet "Cases (2)" is passed over', "cases", plain)
+
+
 def survivals(coaster):
+    for what, order in (("partial", (1, 0, 2)), ("light", (0, 2, 1))):
+        two = replace(coaster, rows=tuple(replace(row, results=tuple(row.results[at] for at in order if row.results)) for row in coaster.rows))
+        found = [doubt.text for doubt in doubted(two) if "the survival falls" in doubt.text]
+        tally.that(len(found) == 1 and "draught to the %s:" % what in found[0], "two columns turned, the %s one lower" % what, found)
     turned = replace(coaster, rows=tuple(replace(row, results=row.results[::-1]) for row in coaster.rows))
     first = next(row for row in turned.rows if row.results and row.results[0].lever > row.results[2].lever)
     warns("columns turned", turned, "the survival falls from the deepest draught to the light", "cases, row %d" % first.place, coaster)
@@ -163,6 +231,9 @@ def main():
     zones()
     layers()
     entries(coaster, bulk)
+    openings(coaster)
+    floodings(ferry)
+    unseen()
     survivals(coaster)
     chances(coaster)
     examples()

@@ -107,6 +107,8 @@ def csv_files(tally):
             ("cases.csv", b"zones,b m,H m,lever m,deepest\n",
              'cases, row 1, "lever m": this heading is not known. In a CSV file a heading with a comma stands in quotation marks.'),
             ("Ship.csv", b"name", "found ship.csv and Ship.csv; expected one file ship.csv."),
+            ("cases.csv", cases.replace(b"b m", b"\x1b[2Jb m", 1), 'cases, row 1, "?[2Jb m": this heading is not known.'),
+            ("cases.csv", cases.replace(b",0.1,", b',"0,125",', 1), 'cases, row 2, "lever m, deepest": found "0,125"; expected 0 to 5 m. Write the decimal comma as'),
             ("cases.csv", cases.replace(b",0.1,", b',"0,1",', 1), 'cases, row 2, "lever m, deepest": found "0,1"; expected 0 to 5 m. Write the decimal comma')):
         begins(tally, {**good, file: content}, words)
     windows = {name: b"\xef\xbb\xbf" + content.replace(b"\n", b"\r\n") for name, content in good.items()}
@@ -121,7 +123,7 @@ def csv_files(tally):
            "there is no file cases.csv; found case.csv, ship.csv, zones.csv. Did you mean case.csv?")
     mixed = commas.written(tables.sheets_of(tables.read(passenger().bytes())), ";", comma=True)
     begins(tally, {**mixed, "cases.csv": mixed["cases.csv"].replace(b";9460;", b";9.460;", 1)},
-           'cases, row 2, "displacement t, deepest": found 9.460; expected 1 to 300000 t. This file has decimal commas: write 9,460.')
+           'cases, row 2, "displacement t, deepest": found 9.460; expected 1 to 300000 t. Write thousands without a mark: 9460.')
 
 
 def empty_workbooks(tally):

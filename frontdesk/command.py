@@ -12,6 +12,7 @@ from frontdesk.reading.mistakes import Mistakes, of_the_file
 DONE, ERROR, STOPPED, READER_GONE = 0, 2, 130, 141
 PACKAGES = {"jinja2": ("Jinja2", "python3-jinja2"), "markupsafe": ("Jinja2", "python3-jinja2"), "openpyxl": ("openpyxl", "python3-openpyxl")}
 PORT = 8765
+SHEET_FILES = ("ship.csv", "zones.csv", "cases.csv")
 
 USE = """\
 The damage subdivision index of a ship (SOLAS II-1 Part B-1) from an office's own table. Every figure is the proved library's, or a sum of such.
@@ -90,8 +91,7 @@ def report(words):
 
         contents.update({words.csv: exports.commas(answer.findings)} if words.csv else {})
         contents.update({words.xlsx: exports.workbook(answer.findings)} if words.xlsx else {})
-    for path, content in contents.items():
-        outputs.put(path, content)
+    outputs.put_all(contents)
     print(summary.text(answer, contents), file=sys.stderr if outputs.STANDARD_OUTPUT in contents else sys.stdout)
     return answer.findings.status
 
@@ -123,8 +123,7 @@ def table(words):
         os.makedirs(words.output, exist_ok=True)
     except OSError as error:
         raise outputs.cannot(words.output, error) from None
-    for name, content in commas.written(sheets).items():
-        outputs.put(os.path.join(words.output, name), content)
+    outputs.put_all({os.path.join(words.output, name): content for name, content in commas.written(sheets).items()})
     return DONE
 
 
@@ -160,12 +159,14 @@ def serve(words):
 
 
 def free(source, *outputs_asked):
-    """Stops where an output would be written over the input, or two outputs to one file."""
+    """Stops where an output would be written over the input or a sheet of its folder, or two outputs to one file."""
     taken = [os.path.realpath(source)]
+    if os.path.isdir(source):
+        taken += [os.path.realpath(os.path.join(source, name)) for name in os.listdir(source) if name.casefold() in SHEET_FILES]
     for path in outputs_asked:
         if path and path != outputs.STANDARD_OUTPUT:
             if os.path.realpath(path) in taken:
-                raise of_the_file("", "%s is named twice: an output needs a file of its own." % path)
+                raise of_the_file("", "%s is named twice, or belongs to the input: an output needs a file of its own." % path)
             taken.append(os.path.realpath(path))
 
 
@@ -190,7 +191,16 @@ def tell(mistakes):
 
 def main(arguments=None):
     """Runs a command and returns its exit status."""
-    words = parser().parse_args(arguments)
+    status = carried_out(parser().parse_args(arguments))
+    try:
+        sys.stdout.flush()
+    except OSError:  # told already: what cannot be written is not tried once more at the end
+        os.dup2(os.open(os.devnull, os.O_WRONLY), sys.stdout.fileno())
+    return status
+
+
+def carried_out(words):
+    """The exit status of a command, what keeps it from being done told in words."""
     try:
         status = words.does(words)
         sys.stdout.flush()
@@ -208,7 +218,7 @@ def main(arguments=None):
         print("desk: %s is not installed. On Debian: apt-get install %s; elsewhere pyproject.toml names what is needed."
                 % PACKAGES[missing.name], file=sys.stderr)
     except OSError as error:
-        print("desk: %s: %s." % (error.filename or "desk", outputs.reason(error)), file=sys.stderr)
+        print("desk: %s: %s." % (error.filename or "standard output", outputs.reason(error)), file=sys.stderr)
     except MemoryError:
         print("desk: there is not enough memory for this.", file=sys.stderr)
     except KeyboardInterrupt:

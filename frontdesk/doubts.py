@@ -15,6 +15,9 @@ THINNEST = 20  # cm: a wing tank or a strip between two longitudinal bulkheads t
 LOWEST_STEP = 200  # mm between two decks; the bulk carrier has that
 LENGTH_TO_BREADTH = (Fraction(5, 2), 12)  # the examples have 3.8 to 6.6
 BREADTH_TO_DRAUGHT = (Fraction(3, 2), 8)  # the examples have 2.5 to 4.6
+BOX = (Fraction(3, 10), 1)  # of Ls times B times the draught in sea water that a ship displaces; the examples have 0.51 to 0.60
+SEA_WATER = Fraction(41, 40)  # t a cubic metre
+CROWDED = Fraction(75, 1_000) * Fraction(45, 100)  # tm a passenger and metre of B, where all are on one side
 MOST_NAMED = 8  # groups that a doubt names before it counts the others
 
 
@@ -35,7 +38,7 @@ class Doubt(NamedTuple):
 
 def of(ship, findings):
     """Every doubt about a ship, in the order of the sheets."""
-    found = [*hull(ship), *zones(ship), *layers(ship), *entries(ship), *survivals(findings), *chances(findings)]
+    found = [*unseen(ship), *hull(ship), *zones(ship), *layers(ship), *entries(ship), *floodings(ship), *survivals(findings), *chances(findings)]
     return [placed(doubt, ship) for doubt in found]
 
 
@@ -52,31 +55,44 @@ def gathered(text, rows):
     return Doubt(text + more, rows[0].place, "cases")
 
 
+def unseen(ship):
+    """What a workbook has and does not show, or shows and is not read."""
+    for sheet, rows, columns, others in ship.source.unseen:
+        if rows:
+            more = " So are %d more rows." % (len(rows) - 1) if len(rows) > 2 else " So is row %d." % rows[1] if len(rows) == 2 else ""
+            yield Doubt("This row is hidden in the workbook, and counts as the others do: was it filtered out?" + more, rows[0], sheet)
+        if columns:
+            yield Doubt("Column %s is hidden in the workbook, and counts as the others do." % " and ".join(columns), 0, sheet)
+        for title in others:
+            yield Doubt('The sheet "%s" is passed over: this one alone is read.' % title, 0, sheet)
+
+
 def hull(ship):
     built = "ships are built with %s to %s times: is one of the two mistyped?"
-    yield from ratio(ship.length, ship.breadth, LENGTH_TO_BREADTH, "Ls is %s times B, and " + built)
-    yield from ratio(10 * ship.breadth, ship.deepest, BREADTH_TO_DRAUGHT, "B is %s times the deepest draught, and " + built)
+    texts = [*ratio(ship.length, ship.breadth, LENGTH_TO_BREADTH, "Ls is %s times B, and " + built),
+             *ratio(10 * ship.breadth, ship.deepest, BREADTH_TO_DRAUGHT, "B is %s times the deepest draught, and " + built)]
     if ship.deepest == ship.light:
-        yield Doubt("The light draught is the deepest one, so that all three are the same: was the light service draught left out?", 0, "ship")
+        texts.append("The light draught is the deepest one, so that all three are the same: was the light service draught left out?")
     if ship.type == PASSENGER and not ship.lifeboats + ship.excess:
-        yield Doubt("This is a passenger ship with no persons at all, and R rises with them: were they left out?", 0, "ship")
+        texts.append("This is a passenger ship with no persons at all, and R rises with them: were they left out?")
+    return [Doubt(text, ship.ship_place, "ship") for text in texts]
 
 
 def ratio(part, whole, bounds, text):
     least, most = bounds
     if not least * whole <= part <= most * whole:
-        yield Doubt(text % (cut(part, 2, whole), cut(least, 1), most), 0, "ship")
+        yield text % (cut(part, 2, whole), cut(least, 1), most)
 
 
 def zones(ship):
-    places = ship.places
-    for number, (aft, forward) in enumerate(zip(places, places[1:]), 1):
+    places, rows = ship.places, ship.zone_places or (0,) * ship.zones
+    for number, (aft, forward, row) in enumerate(zip(places, places[1:], rows), 1):
         length = forward - aft
         about = "Zone %d is %s m long, %s per cent of Ls, and hardly any zone is " % (number, cut(length, 2, 100), cut(100 * length, 1, ship.length))
         if length < SHORTEST_ZONE * ship.length:
-            yield Doubt(about + "below 1 per cent: are its ends right?", 0, "zones")
+            yield Doubt(about + "below 1 per cent: are its ends right?", row, "zones")
         if length > LONGEST_ZONE * ship.length and ship.zones >= ZONES_FOR_LENGTH:
-            yield Doubt(about + "above 35 per cent: is a bulkhead missing?", 0, "zones")
+            yield Doubt(about + "above 35 per cent: is a bulkhead missing?", row, "zones")
 
 
 def layers(ship):
@@ -111,9 +127,44 @@ def entries(ship):
     afloat = [row for row in entered if any(result.lever for result in row.results)]
     if len(afloat) >= FEWEST and all(result.opening == NO_OPENING for row in afloat for result in row.results if result.lever):
         yield Doubt("No row has an opening, and there is no ship without air pipes or ventilators: were they left out?", afloat[0].place, "cases")
+    yield from openings(afloat)
     wings = [row for row in afloat if row.depth < ship.half_breadth]
-    if len(wings) >= FEWEST and not any(result.heel for row in entered for result in row.results):
-        yield Doubt("The heel is 0 in every row, also in those that flood one side alone (b below B/2): was it left out?", wings[0].place, "cases")
+    steepest = max((result.heel for row in entered for result in row.results), default=0)
+    if len(wings) >= FEWEST and steepest < ONE_DEGREE:
+        told = "below one degree in every row, %s at most, also" % cut(steepest, 2, 100) if steepest else "0 in every row, also"
+        asked = "is it in degrees?" if steepest else "was it left out?"
+        yield Doubt("The heel is %s in those that flood one side alone (b below B/2): %s" % (told, asked), wings[0].place, "cases")
+
+
+def openings(afloat):
+    """Where most ships that are afloat have their opening under water, the sign may be turned."""
+    told = [(result.opening < 0, row) for row in afloat for result in row.results if result.lever]
+    immersed = [row for under, row in told if under]
+    if len(immersed) >= FEWEST and 2 * len(immersed) > len(told):
+        text = "In %d of the %d results with a righting lever the opening is below zero, immersed: is its height above the water entered, and not its depth?"
+        yield Doubt(text % (len(immersed), len(told)), immersed[0].place, "cases")
+
+
+def floodings(ship):
+    """Displacements and heeling moments of a passenger ship that cannot be the hull's and the persons'."""
+    turned, unlike, low = [], [], []
+    persons = ship.lifeboats + ship.excess
+    for row in (row for row in ship.rows if row.floodings):
+        if row.floodings[0].displacement < row.floodings[2].displacement:
+            turned.append(row)
+        boxes = [SEA_WATER * ship.length * ship.breadth * draught / 10**7 for draught in ship.draughts]
+        odd = [each.displacement for each, box in zip(row.floodings, boxes) if not BOX[0] * box <= each.displacement <= BOX[1] * box]
+        unlike += [(row, odd[0])] if odd else []
+        least = min(each.moment for each in row.floodings)
+        low += [(row, least)] if 2 * least < CROWDED * persons * ship.breadth / 100 else []
+    if turned:
+        yield gathered("The displacement is less at the deepest draught than at the light: are the columns of the draughts turned?", turned)
+    if unlike:
+        text = "A displacement of %d t, and a ship of this Ls and B has 0.3 to 1 times their product with the draught in sea water: is it in tonnes?"
+        yield gathered(text % unlike[0][1], [row for row, _ in unlike])
+    if low:
+        text = "A heeling moment of %d tm, and %d persons on one side alone have about %s tm: is it in tonne-metres, and the greatest of the three?"
+        yield gathered(text % (low[0][1], persons, cut(CROWDED * persons * ship.breadth / 100, 0)), [row for row, _ in low])
 
 
 def ranges(entered):
@@ -137,12 +188,14 @@ def levers(entered):
 
 
 def survivals(findings):
-    """With less draught there is more freeboard: where most rows are survived worse at the light draught, the columns may be turned."""
-    falls = [case for case in findings.cases if case.at[0].bottom > case.at[2].top]
-    rises = [case for case in findings.cases if case.at[0].top < case.at[2].bottom]
-    if len(falls) + len(rises) >= FEWEST and len(falls) > len(rises):
-        text = "In %d of the %d rows where they differ the survival falls from the %s draught to the %s: are the columns of the draughts turned?"
-        yield Doubt(text % (len(falls), len(falls) + len(rises), DRAUGHTS[0], DRAUGHTS[2]), falls[0].row.place, "cases")
+    """With less draught there is more freeboard: where most rows are survived worse at a lesser draught, the columns may be turned."""
+    for deep, less in ((0, 2), (0, 1), (1, 2)):
+        falls = [case for case in findings.cases if case.at[deep].bottom > case.at[less].top]
+        rises = [case for case in findings.cases if case.at[deep].top < case.at[less].bottom]
+        if len(falls) + len(rises) >= FEWEST and len(falls) > len(rises):
+            text = "In %d of the %d rows where they differ the survival falls from the %s draught to the %s: are the columns of the draughts turned?"
+            yield Doubt(text % (len(falls), len(falls) + len(rises), DRAUGHTS[deep], DRAUGHTS[less]), falls[0].row.place, "cases")
+            return
 
 
 def chances(findings):

@@ -67,6 +67,7 @@ class Source:
     form: str = "case file"  # or "workbook", "CSV files"
     reordered: bool = False  # the table's rows were not in the file's order
     rounded: int = 0  # numbers that --against rounded
+    unseen: tuple = ()  # (sheet, hidden rows, hidden columns, sheets of like names that are passed over), where a workbook has such
 
 
 @dataclass(frozen=True)
@@ -83,6 +84,8 @@ class Ship:
     rule: int = 0
     name: str = ""
     zone_names: tuple = ()  # one a zone, or none at all
+    zone_places: tuple = ()  # the row of each zone in the sheet zones; none of a case file
+    ship_place: int = 0  # its own row in the sheet ship; 0 of a case file
     source: Source = field(default_factory=Source)
 
     @property

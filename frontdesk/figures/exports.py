@@ -5,6 +5,7 @@ import io
 from decimal import Decimal
 
 from frontdesk.figures import reasons
+from frontdesk.outputs import LIKE_FORMULAS
 from frontdesk.reading.binding import WRITTEN, repacked
 from frontdesk.figures.decimals import BILLION, SURVIVALS, TENTHS, exact, text_of
 from frontdesk.figures.engine import FAILS, MEETS, UNSETTLED
@@ -14,7 +15,6 @@ from frontdesk.reading.workbook import openpyxl_or_words
 
 VERDICTS = {MEETS: "meets", FAILS: "fails", UNSETTLED: "unsettled"}
 PARTS = ("could add", "adds", "loss")  # as a Worth has them
-LIKE_FORMULAS = ("=", "+", "-", "@", "\t", "\r")  # what a spreadsheet takes for a formula at the front of a text
 
 
 def headings():

@@ -11,8 +11,8 @@ from typing import NamedTuple
 from frontdesk.reading import casefile
 from frontdesk.figures.decimals import BILLION, SURVIVALS, nearer
 from frontdesk.figures.engine import FAILS, MEETS, UNSETTLED
-from frontdesk.ship import DRAUGHTS, Ship
-from frontdesk.figures.twin import twin
+from frontdesk.ship import DRAUGHTS, PASSENGER, Ship
+from frontdesk.figures.twin import twin, without_final, without_stages
 from frontdesk.figures.worth import Ends, Summed, added, cased, caused, counted, grouped, summed
 
 INDICES = ("A", "As", "Ap", "Al")
@@ -139,7 +139,8 @@ def find(engine, ship):
     rows, could, most_told = engine.rows(data), engine.rows(most), engine.figures(most)
     if not len(rows) == len(could) == len(ship.rows) == told[3]:
         raise RuntimeError("the library has %d rows of the ship's %d, and %d where all are survived" % (len(rows), len(ship.rows), len(could)))
-    cases = tuple(cased(number, *three) for number, three in enumerate(zip(ship.rows, rows, could), 1))
+    relieved = [engine.rows(casefile.write(other(ship))) for other in (without_final, without_stages)] if ship.type == PASSENGER else []
+    cases = tuple(cased(number, *numbers) for number, numbers in enumerate(zip(ship.rows, rows, could, *relieved, strict=True), 1))
     groups, total = grouped(ship, engine.groups(data), cases), summed(cases)
     numbers = engine.required(data)
     required, mark = numbers[:2], numbers[2:]

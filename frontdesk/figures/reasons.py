@@ -8,14 +8,15 @@ MARKED = ((1, LEVER), (2, RANGE), (4, HEEL), (8, OPENING))
 WHOLE = 10_000  # a survival of one
 
 
-def of(row, marks, bottom):
-    """The reasons of a survival below one, none of a survival of one. Of a passenger ship the marks are those of the final stage; without any, it is the
-    intermediate stage or the heeling moment, and which of the two the library does not tell."""
+def of(row, marks, bottom, final=True, stage=False):
+    """The reasons of a survival below one, none of a survival of one. Of a passenger ship the marks are those of the final stage, which hold the survival
+    down where final says so; stage says the same of the intermediate stage or the heeling moment, and which of the two the library does not tell."""
     if bottom == WHOLE:
         return ()
     if row.given:
         return (GIVEN,)
-    return tuple(reason for mark, reason in MARKED if marks & mark) or (STAGE,)
+    marked = tuple(reason for mark, reason in MARKED if marks & mark) if final else ()
+    return marked + (STAGE,) if stage or not marked else marked
 
 
 def words(reason, row, draught):

@@ -1,4 +1,4 @@
-"""The same ship with every case survived: what its rows add is what the ship's own rows could add at most."""
+"""The same ship with every case survived, whose rows add what the ship's own could add at most; and a passenger ship with one of its stages relieved."""
 
 from dataclasses import replace
 
@@ -13,6 +13,20 @@ def survived(row):
     if row.floodings:
         return replace(row, results=UPRIGHT, floodings=UNMOVED)
     return replace(row, results=(), given=SURVIVED)
+
+
+def without_final(ship):
+    """A passenger ship whose final stages hold nothing down: where a survival is as before, the intermediate stage or the moment holds it."""
+    return replace(ship, rows=tuple(replace(row, results=UPRIGHT) for row in ship.rows))
+
+
+def without_stages(ship):
+    """A passenger ship whose intermediate stages and moments hold nothing down; a ro-ro space stays, since the final stage's caps go by it."""
+    return replace(ship, rows=tuple(replace(row, floodings=tuple(replaced(each) for each in row.floodings)) for row in ship.rows))
+
+
+def replaced(flooding):
+    return UNMOVED[0]._replace(ro_ro=flooding.ro_ro)
 
 
 def twin(ship):

@@ -148,14 +148,17 @@ def summed(cases):
     return Summed(three, of_index(three))
 
 
-def cased(number, row, told, could):
-    """A row with its twenty numbers, and those of its twin."""
+def cased(number, row, told, could, upright=None, staged=None):
+    """A row with its twenty numbers and those of its twin; of a passenger ship also those without its final stage, and without its intermediate stage
+    and moment. What the survival rises without holds it down."""
     three = []
     for at in (2, 8, 14):
         v, bottom, top, marks = told[at:at + 4]
+        stage = staged is not None and staged[at + 1:at + 3] != (bottom, top)
+        final = not stage or upright[at + 1:at + 3] != (bottom, top)
         adds, chance = Ends(*told[at + 4:at + 6]), Ends(*could[at + 4:at + 6])
         loss = Ends(0, 0) if bottom == SURVIVALS else Ends(max(chance.lower - adds.upper, 0), chance.upper - adds.lower)
-        three.append(At(v, bottom, top, marks, Worth(chance, adds, loss), reasons.of(row, marks, bottom)))
+        three.append(At(v, bottom, top, marks, Worth(chance, adds, loss), reasons.of(row, marks, bottom, final, stage)))
     return Case(number, row, Ends(*told[:2]), tuple(three), of_index([at.worth for at in three]))
 
 

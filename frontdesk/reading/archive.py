@@ -11,6 +11,7 @@ from frontdesk.reading.mistakes import of_the_file
 MOST_PARTS = 100
 MOST_BYTES = 50_000_000  # unpacked, all parts together
 MOST_TAGS = 1_000_000  # of all parts together; 2,000 rows with every column have less than half of it
+MOST_HIDDEN = 2_000  # rows that are told apart
 PIECE = 1 << 20  # bytes that are looked at in one go
 OVERLAP = 2_100  # bytes of the piece before that are looked at again, so that no tag is cut
 
@@ -18,6 +19,9 @@ OLE = bytes.fromhex("d0cf11e0a1b11ae1")
 MERGED = re.compile(rb'<(?:\w+:)?mergeCell\s[^>]*?ref="([A-Z0-9:]{2,30})"')
 ROW = re.compile(rb'<(?:\w+:)?row\b[^>]{0,2000}>')
 ROW_NUMBER = re.compile(rb'\sr="([0-9]{1,9})"')
+HIDDEN = re.compile(rb'\shidden="(?:1|true)"')
+COLUMN = re.compile(rb'<(?:\w+:)?col\s[^>]{0,500}>')
+ENDS = re.compile(rb'\s(min|max)="([0-9]{1,6})"')
 FORMULA = re.compile(rb"<(?:\w+:)?f[\s/>]")
 SHEET = re.compile(rb'<(?:\w+:)?sheet\s[^>]*>')
 
@@ -29,6 +33,8 @@ class Part(NamedTuple):
     ordered: bool  # the rows stand in the order of their numbers
     formulas: bool
     merged: tuple  # ranges such as A2:A5
+    hidden: tuple = ()  # rows
+    hidden_columns: tuple = ()  # (first, last), from 1
 
 
 def look_over(data, name):
@@ -93,7 +99,7 @@ def scanned(archive, name):
 
 def scan(file, left):
     """How many tags a part has, up to somewhat more than are left, and what is told of it; no number of tags where it has what XML could hide in."""
-    tags, rows, last, ordered, formulas, merged, before = 0, 0, 0, True, False, set(), b""
+    tags, rows, last, ordered, formulas, merged, hidden, columns, before = 0, 0, 0, True, False, set(), set(), set(), b""
     while tags <= left and (piece := file.read(PIECE)):
         whole = before + piece
         if b"<!DOCTYPE" in whole or b"<!ENTITY" in whole or b"\0" in piece or (not before and piece.startswith((b"\xff\xfe", b"\xfe\xff"))):
@@ -103,10 +109,21 @@ def scan(file, left):
             if row.end() > len(before):
                 number = ROW_NUMBER.search(row[0])
                 rows, last, ordered = rows + 1, int(number[1]) if number else last + 1, ordered and (not number or int(number[1]) > last)
+                if len(hidden) < MOST_HIDDEN and HIDDEN.search(row[0]):
+                    hidden.add(last)
         formulas = formulas or FORMULA.search(whole) is not None
         merged.update(MERGED.findall(whole) if len(merged) < 100 else ())
+        columns.update(hidden_columns(whole) if len(columns) < 100 else ())
         before = piece[-OVERLAP:]
-    return tags, Part(rows, ordered, formulas, tuple(sorted(ref.decode("ascii") for ref in merged)))
+    return tags, Part(rows, ordered, formulas, tuple(sorted(ref.decode("ascii") for ref in merged)), tuple(sorted(hidden)), tuple(sorted(columns)))
+
+
+def hidden_columns(text):
+    """First and last of the columns that are hidden together."""
+    for column in COLUMN.findall(text):
+        ends = {name: int(number) for name, number in ENDS.findall(column)}
+        if HIDDEN.search(column) and len(ends) == 2:
+            yield ends[b"min"], ends[b"max"]
 
 
 def sheet_named(archive, part):

@@ -27,6 +27,8 @@ class Hull:
     name: str = ""
     places: Optional[tuple] = None  # aft end, inner bulkheads, forward end
     zone_names: tuple = ()
+    zone_places: tuple = ()
+    ship_place: int = 0
 
 
 def read_ship(table):
@@ -39,7 +41,7 @@ def read_ship(table):
     line = table.lines[0]
     for more in table.lines[1:]:
         more.wrong(None, "found another row; expected one ship, which is in row %d." % line.number)
-    hull.name = line.name(NAME)
+    hull.name, hull.ship_place = line.name(NAME), line.number
     hull.type = line.choice(TYPE) if table.has(TYPE) else None
     own = (CARGO_LENGTH, CARGO_BREADTH) if hull.type == CARGO else (LENGTH, BREADTH)
     hull.length, hull.breadth, hull.deepest, hull.light = (line.whole(column) if table.has(column) else None for column in (*own, DEEPEST, LIGHT))
@@ -108,6 +110,7 @@ def read_zones(table, hull):
     if abut(zones, hull):
         hull.places = (0, *(zone[3] for zone in zones))
         hull.zone_names = tuple(names[at] for at in order) if any(names) else ()
+        hull.zone_places = tuple(line.number for line, *_ in zones)
 
 
 def numbered(found):

@@ -2,7 +2,7 @@
 
 from pathlib import Path
 
-from frontdesk.reading import archive, casefile, refusals, tables
+from frontdesk.reading import archive, casefile, commas, refusals, tables
 from frontdesk.reading.mistakes import of_the_file
 
 LONGEST_FILE = 20_000_000  # bytes that are read of a file
@@ -72,6 +72,10 @@ def unlike(name, data):
     first = data[:2000].split(b"\n")[0]
     if name.casefold().endswith(".csv") or b";" in first or b"," in first and b"\0" not in data[:2000]:
         return "this is a single CSV file; expected a folder with ship.csv, zones.csv and cases.csv."
+    if commas.is_wide(data):
+        return 'this is a text in UTF-16, as "Unicode text" is saved; expected %s. Save each sheet as CSV UTF-8.' % KINDS
+    if b"\t" in first and b"\0" not in first:
+        return "this is a table with tabs between its columns; expected %s. Save each sheet as CSV UTF-8." % KINDS
     for start, what in OTHERS:
         if data.startswith(start):
             return "this is %s; expected %s." % (what, KINDS)

@@ -1,5 +1,6 @@
 """A sheet as it was read, its columns found by their headings, and each cell taken as what its column asks for; what is wrong goes into a ledger."""
 
+import re
 from dataclasses import dataclass
 
 from frontdesk.reading.columns import KNOWN, OF_SHEET, SHEETS, folded, listed, nearest
@@ -7,6 +8,7 @@ from frontdesk.reading.mistakes import Mistake, Mistakes
 from frontdesk.reading.units import EXACT, NoNumber, exact, is_blank, shown
 
 LONGEST_NAME = 200
+THOUSANDS = re.compile(r"[1-9][0-9]{0,2}(\.[0-9]{3})+")  # of a file with decimal commas
 MOST_ROWS = 2_000  # that are read of a sheet
 
 
@@ -16,6 +18,7 @@ class Sheet:
     headings: tuple
     rows: tuple  # of (number as the spreadsheet counts, cells)
     comma: bool = False  # numbers have a decimal comma
+    unseen: tuple = ()  # hidden rows, hidden columns, sheets of like names that are passed over; where there are any
 
 
 def laid_out(name, columns, rows):
@@ -140,7 +143,9 @@ class Line:
         try:
             number = exact(self.cell(column), self.table.sheet.comma)
         except NoNumber as fault:
-            return self.wrong(column, "found %s; expected %s.%s" % (fault.found, column.expected, " " + fault.guess if fault.guess else ""))
+            thousands = not column.places and THOUSANDS.fullmatch(fault.found)
+            guess = "Write thousands without a mark: %s." % fault.found.replace(".", "") if thousands else fault.guess
+            return self.wrong(column, "found %s; expected %s.%s" % (fault.found, column.expected, " " + guess if guess else ""))
         ledger, scaled = self.table.ledger, number.times_ten(column.places)
         whole, was_whole = scaled.rounded(column.rounding if ledger.against else EXACT)
         too_low = scaled.below(column.least) if whole is None else whole < column.least
@@ -160,7 +165,8 @@ class Line:
 
 
 def shown_heading(cell):
-    return " ".join(cell.split()) if isinstance(cell, str) else shown(cell)
+    """A heading with its blanks put in order, and without signs that steer a terminal."""
+    return "".join(sign if sign.isprintable() else "?" for sign in " ".join(cell.split())) if isinstance(cell, str) else shown(cell)
 
 
 def letters(at):

@@ -30,9 +30,10 @@ def ship_of(sheets, name="", form="workbook", against=False):
     read_zones(places, hull)
     rows, reordered = read_cases(cases, hull)
     ledger.close()
-    source = Source(file=name, form=form, reordered=reordered, rounded=ledger.rounded)
+    unseen = tuple((sheet.name, *sheet.unseen) for sheet in sheets.values() if sheet.unseen)
+    source = Source(file=name, form=form, reordered=reordered, rounded=ledger.rounded, unseen=unseen)
     return Ship(hull.type, hull.length, hull.breadth, hull.deepest, hull.light, hull.places[1:-1], rows, hull.lifeboats, hull.excess, hull.rule, hull.name,
-                hull.zone_names, source)
+                hull.zone_names, hull.zone_places, hull.ship_place, source)
 
 
 def sheets_of(ship, every=False):

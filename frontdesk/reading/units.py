@@ -93,7 +93,7 @@ def meant(text, comma):
         return "A formula of the spreadsheet ended in an error."
     if comma and NUMBER.fullmatch(text):
         return "This file has decimal commas: write %s." % text.replace(".", ",")
-    if grouped and "," in text and not grouped[3]:
+    if grouped and "," in text and not grouped[3] and not grouped[1].lstrip("+-").startswith("0"):
         return "Write %s or %s." % (text.replace(",", ".", 1), re.sub("[^0-9+-]", "", text))
     if WITH_COMMA.fullmatch(text):
         return "Write the decimal comma as a point: %s." % text.replace(",", ".")

@@ -7,7 +7,7 @@ import warnings
 from frontdesk.reading import archive
 from frontdesk.reading.columns import NOTES, SHEETS, folded, nearest
 from frontdesk.reading.mistakes import Mistake, Mistakes, of_the_file
-from frontdesk.reading.sheets import MOST_ROWS, Sheet
+from frontdesk.reading.sheets import MOST_ROWS, Sheet, letters
 from frontdesk.reading.units import Unstored, is_blank
 
 MOST_COLUMNS = 200
@@ -46,11 +46,12 @@ def opened(openpyxl, data, parts):
         if wrong:
             raise Mistakes(wrong)
         read = {name: rows_of(name, sheet) for name, sheet in chosen.items()}
+        titles = [sheet.title for sheet in book.worksheets]
     finally:
         book.close()
     if any(part.formulas for part in seen.values()):
         mark_unstored(openpyxl, data, {name: sheet.title for name, sheet in chosen.items()}, read)
-    return {name: made(name, rows) for name, rows in read.items()}
+    return {name: made(name, rows, unseen(name, rows, seen[name], titles)) for name, rows in read.items()}
 
 
 def choose(book):
@@ -117,8 +118,18 @@ def value_at(rows, number, at):
     return cells[at] if at < len(cells) else None
 
 
-def made(name, rows):
+def unseen(name, rows, part, titles):
+    """Hidden rows and columns that have something in them, and sheets that may be another state of this one; nothing where there are none."""
+    filled = tuple(number for number in part.hidden if number > 1 and not all(is_blank(cell) for cell in rows.get(number, ())))
+    width = max((len(cells) for cells in rows.values()), default=0)
+    hidden = [at for first, last in part.hidden_columns for at in range(first - 1, min(last, width))]
+    columns = tuple(letters(at) for at in hidden if any(not is_blank(value_at(rows, number, at)) for number in rows))
+    others = tuple(title for title in titles if folded(title) != name and re.match(r"%s\b" % name, folded(title)))
+    return (filled, columns, others) if filled or columns or others else ()
+
+
+def made(name, rows, unseen=()):
     headings = tuple(rows.get(1, ()))
     if all(is_blank(cell) for cell in headings):
         raise Mistakes([Mistake(name, 1, "", "found nothing; expected the headings in this row.")])
-    return Sheet(name, headings, tuple((number, tuple(cells)) for number, cells in sorted(rows.items()) if number > 1))
+    return Sheet(name, headings, tuple((number, tuple(cells)) for number, cells in sorted(rows.items()) if number > 1), unseen=unseen)

@@ -20,6 +20,7 @@ from frontdesk.reading.mistakes import Mistakes, of_the_file
 
 ADDRESS = "127.0.0.1"
 LARGEST = 4_000_000  # bytes of an upload: a workbook of 500 rows has a fortieth of it
+MOST_DIGITS = 15  # of a length; no upload has so many bytes
 KEPT, KEPT_FOR = 8, 3600  # reports that are kept to be looked at again and downloaded, and for how many seconds
 MOST_AT_ONCE = 16  # connections
 PATIENCE, UPLOAD_TIME = 20, 60  # seconds that a connection may say nothing, and that an upload may take
@@ -113,7 +114,7 @@ class Handler(BaseHTTPRequestHandler):
         """Nothing is told of what is asked for."""
 
     def do_GET(self):
-        path = urlsplit(self.path).path
+        path = path_of(self.path)
         wanted = REPORT.fullmatch(path)
         if not self.known_host():
             return
@@ -140,10 +141,10 @@ class Handler(BaseHTTPRequestHandler):
     def do_POST(self):
         if not self.known_host() or not self.known_origin():
             return
-        if urlsplit(self.path).path != "/report":
+        if path_of(self.path) != "/report":
             return self.refuse(404, "There is no such page: the desk has one, with a form.", drain=True)
         length = self.headers.get("Content-Length", "")
-        if not length.isascii() or not length.isdigit() or "Transfer-Encoding" in self.headers:
+        if not length.isascii() or not length.isdigit() or len(length) > MOST_DIGITS or "Transfer-Encoding" in self.headers:
             return self.refuse(411, "The upload does not say how long it is.", drain=True)
         if int(length) > LARGEST:
             return self.refuse(413, TOO_LARGE % ("{:,}".format(int(length)), "{:,}".format(LARGEST)), drain=True)
@@ -226,6 +227,14 @@ class Handler(BaseHTTPRequestHandler):
         self.end_headers()
         if self.command != "HEAD":
             self.wfile.write(data)
+
+
+def path_of(target):
+    """The path of what was asked for, without its query; nothing where it is no address."""
+    try:
+        return urlsplit(target).path
+    except ValueError:
+        return ""
 
 
 def chosen(files):

@@ -2,6 +2,7 @@
 
 import csv
 import fcntl
+import hashlib
 import io
 import os
 import sys
@@ -10,13 +11,13 @@ from collections import Counter
 
 from frontdesk import outputs
 from frontdesk.studies import crew
-from frontdesk.studies.lines import CASE, CSV_NAMES, FOLDER, HEADINGS, NO_STAMP, VERDICTS, WORKBOOK, Lines, failed, stamp_of
+from frontdesk.studies.lines import CASE, CSV_NAMES, FOLDER, HEADINGS, NO_STAMP, VERDICTS, WORKBOOK, Lines, failed, listed, stamp_of
 from frontdesk.reading.mistakes import of_the_file
 
 ENDINGS = {".case": CASE, ".xlsx": WORKBOOK, ".xlsm": WORKBOOK}
 CHUNK = 64  # case files that a process is handed at a time; of the others one
 BETWEEN = 0.1  # seconds between two states of the progress line
-FORMAT = 1  # of the part file: another one is not gone on with
+FORMAT = 2  # of the part file: another one is not gone on with
 
 
 def found(folder):
@@ -47,8 +48,8 @@ def found(folder):
 class Part:
     """The lines that are there already, each with its input's stamp, in a file beside the result: what an interrupted run leaves behind."""
 
-    def __init__(self, path, version):
-        self.path, self.head = path, "desk batch %d,library %s\n" % (FORMAT, version)
+    def __init__(self, path, version, folder):
+        self.path, self.head = path, "desk batch %d,library %s,folder %s\n" % (FORMAT, version, digest(folder))
         try:
             self.handle = os.open(path, os.O_RDWR | os.O_CREAT | os.O_CLOEXEC, 0o666)
             fcntl.flock(self.handle, fcntl.LOCK_EX | fcntl.LOCK_NB)
@@ -86,6 +87,11 @@ class Part:
 
     def __exit__(self, *_):
         os.close(self.handle)
+
+
+def digest(folder):
+    """What tells a folder from others, whatever signs its name has: files of one name, size and time may lie in two."""
+    return hashlib.sha256(os.fsencode(os.path.realpath(folder))).hexdigest()
 
 
 def row_text(fields):
@@ -150,7 +156,7 @@ def taken_over(folder, inputs, kept):
     """The lines of a run before whose inputs have not changed since, by number."""
     lines = {}
     for number, (path, form) in enumerate(inputs):
-        stamp, verdict, line = kept.get(path, (NO_STAMP, "", ""))
+        stamp, verdict, line = kept.get(listed(path), (NO_STAMP, "", ""))
         if stamp != NO_STAMP:
             try:
                 if stamp == stamp_of(os.path.join(folder, path), form):
@@ -160,13 +166,25 @@ def taken_over(folder, inputs, kept):
     return lines
 
 
+def spare(folder, inputs, out):
+    """Stops where the result would be written over an input."""
+    name = os.path.basename(out).lower()
+    if not os.path.exists(out) or os.path.splitext(name)[1] not in ENDINGS and name not in CSV_NAMES:
+        return
+    for path, form in inputs:
+        place = os.path.join(folder, path, os.path.basename(out)) if form == FOLDER else os.path.join(folder, path)
+        if os.path.exists(place) and os.path.samefile(place, out):
+            raise of_the_file("", "%s is an input of this batch: the result needs a file of its own." % out)
+
+
 def run(folder, out, engine, stream=None):
     """Judges everything below the folder and writes the result; returns the exit status."""
     begun, stream = time.monotonic(), stream or sys.stderr
     inputs = found(folder)
     if not inputs:
         raise of_the_file("", "%s has no workbook (.xlsx, .xlsm), no folder of CSV files (ship.csv, zones.csv, cases.csv) and no case file (.case)." % folder)
-    with Part(out + ".part", engine.version) as part:
+    spare(folder, inputs, out)
+    with Part(out + ".part", engine.version, folder) as part:
         lines = taken_over(folder, inputs, part.lines())
         before, progress = len(lines), Progress(len(inputs), stream)
         try:

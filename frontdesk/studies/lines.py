@@ -2,6 +2,7 @@
 
 import os
 
+from frontdesk.outputs import LIKE_FORMULAS
 from frontdesk.reading import casefile, intake
 from frontdesk.reading.mistakes import Mistakes
 
@@ -68,7 +69,7 @@ class Lines:
         a, b, c, d, e, f, g, h = ends
         up, down, part_up, part_down = marks.bounds
         line = "%s,%s,%s,%s,%s,%s,%s,%s,%s,%s,%s,%s,%s,%s,%s,%d,\n" % (
-            quoted(path), word, nine(a), nine(b), nine(c), nine(d), nine(e), nine(f), nine(g), nine(h), marks.text,
+            quoted(listed(path)), word, nine(a), nine(b), nine(c), nine(d), nine(e), nine(f), nine(g), nine(h), marks.text,
             margin(a, b, up, down), margin(c, d, part_up, part_down), margin(e, f, part_up, part_down), margin(g, h, part_up, part_down), rows,
         )  # fmt: skip
         return word, line
@@ -107,16 +108,25 @@ def read_case(path):
             content += more
     finally:
         os.close(handle)
-    return "%d:%d" % (about.st_size, about.st_mtime_ns), content
+    return stamped(about), content
+
+
+def stamped(about):
+    """Size, and the times at which the content and anything else of a file were changed: a copy may keep the first of the two."""
+    return "%d:%d:%d" % (about.st_size, about.st_mtime_ns, about.st_ctime_ns)
 
 
 def stamp_of(path, form):
-    """Size and time of a file, or of each sheet of a folder: what tells that it is the same as before."""
+    """Size and times of a file, or of each sheet of a folder: what tells that it is the same as before."""
     stamps = []
     for name in [path] if form != FOLDER else sorted(os.path.join(path, name) for name in os.listdir(path) if name.lower() in CSV_NAMES):
-        about = os.stat(name)
-        stamps.append("%d:%d" % (about.st_size, about.st_mtime_ns))
+        stamps.append(stamped(os.stat(name)))
     return "+".join(stamps)
+
+
+def listed(path):
+    """A path as its line has it: one that a spreadsheet would take for a formula begins with its folder."""
+    return "./" + path if path.startswith(LIKE_FORMULAS) else path
 
 
 def quoted(text):
@@ -133,4 +143,4 @@ def told(items):
 
 
 def failed(path, words):
-    return "%s,%s%s%s\n" % (quoted(path), VERDICTS[0], "," * (len(HEADINGS) - 2), quoted(" ".join(words.split())))
+    return "%s,%s%s%s\n" % (quoted(listed(path)), VERDICTS[0], "," * (len(HEADINGS) - 2), quoted(" ".join(words.split())))

@@ -195,7 +195,7 @@ def resumed(folder, out, before):
     tally.same([line for line in found if line["file"] != changed], [line for line in before if line["file"] != changed], "the result is the same")
     tally.same(next(line["A lower"] for line in found if line["file"] == changed), "0.874789561", "but for the file that was changed")
     stamp = lines.stamp_of(folder / "part 0/ship-000.case", lines.CASE)
-    part.write_text("desk batch 1,library 0.0.0\n" + "part 0/ship-000.case,meets" + "," * 17 + ",%s\n" % stamp)
+    part.write_text("desk batch %d,library 0.0.0,folder %s\n" % (batch.FORMAT, batch.digest(folder)) + "part 0/ship-000.case,meets" + "," * 17 + ",%s\n" % stamp)
     tally.same(run(folder, out)[2], found, "lines of another library are not taken over")
     with open(part, "wb") as held:
         fcntl.flock(held, fcntl.LOCK_EX)
@@ -205,6 +205,32 @@ def resumed(folder, out, before):
         except Mistakes as mistakes:
             tally.that("another run" in str(mistakes), "two runs at once are told", mistakes)
     part.unlink()
+
+
+def elsewhere(folder, out):
+    """A part file of another folder is not gone on with, though its files have the same names, sizes and times; an input is not written over."""
+    part, text = Path(str(out) + ".part"), (ROOT / "examples/printed.case").read_bytes()
+    for name in ("one", "other"):
+        (folder / name).mkdir(parents=True)
+        (folder / name / "ship.case").write_bytes(text)
+        os.utime(folder / name / "ship.case", (1_000_000_000, 1_000_000_000))
+    stamp = lines.stamp_of(folder / "other/ship.case", lines.CASE)
+    for theirs in ("one", "other"):
+        line = "ship.case,meets" + "," * 17 + ",%s\n" % stamp
+        part.write_text("desk batch %d,library %s,folder %s\n" % (batch.FORMAT, library.version, batch.digest(folder / theirs)) + line)
+        taken = run(folder / "other", out)[2][0]["A lower"] == ""
+        tally.same(taken, theirs == "other", "a line of the folder %s is taken over" % theirs)
+    first = lines.stamp_of(folder / "one/ship.case", lines.CASE)
+    os.utime(folder / "one/ship.case", (1_000_000_000, 1_000_000_000))
+    tally.that(first != lines.stamp_of(folder / "one/ship.case", lines.CASE), "a file that was touched with its old time has another stamp")
+    (folder / "one" / "=1+1.case").write_bytes(text)
+    tally.same([line["file"] for line in run(folder / "one", out)[2]], ["./=1+1.case", "ship.case"], "no name begins as a formula")
+    try:
+        run(folder / "one", folder / "one" / "ship.case")
+        tally.that(False, "a result over an input")
+    except Mistakes as mistakes:
+        tally.that("is an input" in str(mistakes), "a result over an input is told", mistakes)
+    tally.same((folder / "one" / "ship.case").read_bytes(), text, "and the input is left as it was")
 
 
 def ended(folder, out, before):
@@ -263,6 +289,7 @@ def main():
         ended(folder / "study", out, before)
         resumed(folder / "study", out, before)
         from_outside(folder / "study", out)
+        elsewhere(folder / "two", out)
         tally.that(crew.processors() >= 1, "processors")
     finally:
         shutil.rmtree(folder)

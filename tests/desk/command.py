@@ -104,6 +104,14 @@ def cannot_write(folder):
     kept.write_bytes(case.read_bytes())
     told("an output over the input", ["case", kept, "-o", kept], 2, "is named twice")
     tally.same(kept.read_bytes(), case.read_bytes(), "the input is left as it was")
+    shutil.copytree(EXAMPLES / "coaster", folder / "sheets")
+    told("an output over a sheet", ["report", folder / "sheets", "--csv", folder / "sheets" / "cases.csv"], 2, "belongs to the input")
+    tally.same((folder / "sheets/cases.csv").read_bytes(), (EXAMPLES / "coaster/cases.csv").read_bytes(), "the sheet is left as it was")
+    told("an output beside the sheets", ["report", folder / "sheets", "-o", folder / "sheets" / "report.html"], 0)
+    told("the same again", ["report", folder / "sheets", "-o", folder / "sheets" / "report.html"], 0)
+    shutil.rmtree(folder / "sheets")
+    told("one output of two that cannot be written", ["report", case, "-o", folder / "two.html", "--csv", folder / "none" / "x.csv"], 2, "cannot be written")
+    tally.that(not (folder / "two.html").exists(), "the other is not written either")
     told("two outputs to one file", ["report", case, "-o", folder / "one", "--csv", folder / "one"], 2, "is named twice")
     kept.unlink()
     tally.same(sorted(folder.iterdir()), there, "nothing is left behind")
@@ -116,6 +124,11 @@ def cannot_write(folder):
     tally.same(sorted(folder.iterdir()), there, "nothing is left behind in the middle either")
     if os.path.exists("/dev/full"):
         told("a full device", ["report", case, "-o", "/dev/full"], 2, "/dev/full cannot be written: no space left on device.")
+        for words in (["report", case], ["case", case]):
+            with open("/dev/full", "wb") as full:
+                run = subprocess.run([str(ROOT / "desk"), *map(str, words)], stdout=full, stderr=subprocess.PIPE, check=False)
+            tally.that(run.returncode == 2 and run.stderr.startswith(b"desk: standard output") and run.stderr.count(b"\n") == 1,
+                       "standard output that is full", run.returncode, run.stderr)
 
 
 def cannot_read(folder):

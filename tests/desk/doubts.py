@@ -1,5 +1,6 @@
 """Each doubt with a ship that has it and its nearest neighbour that has not; and which doubts the examples have."""
 
+import io
 import re
 import sys
 from dataclasses import replace
@@ -10,7 +11,7 @@ sys.path.insert(0, str(Path(__file__).resolve().parent))
 import seeds  # noqa: E402
 from frontdesk import doubts  # noqa: E402
 from frontdesk.figures import engine, findings  # noqa: E402
-from frontdesk.reading import casefile  # noqa: E402
+from frontdesk.reading import casefile, commas, tables  # noqa: E402
 from frontdesk.ship import NO_OPENING, Result, Row, Source  # noqa: E402
 from tally import Tally  # noqa: E402
 
@@ -20,9 +21,8 @@ BY_NAME = dict(seeds.examples())
 
 
 def ship_of(name):
-    """An example as a workbook would give it: rows from 2 on."""
-    ship = casefile.parse(BY_NAME[name])
-    return replace(ship, rows=tuple(replace(row, place=at) for at, row in enumerate(ship.rows, 2)), source=Source(file=name + ".xlsx", form="workbook"))
+    """An example as a workbook gives it: rows from 2 on."""
+    return tables.ship_of(tables.sheets_of(casefile.parse(BY_NAME[name])), name + ".xlsx")
 
 
 def doubted(ship):
@@ -47,7 +47,7 @@ def with_row(ship, at, **fields):
 
 
 def hulls(coaster, ferry):
-    place = "ship"
+    place = "ship, row 2"
     warns("Ls above 12 B", small(length=12_002, breadth=1_000), "Ls is 12.00 times B", place, small(length=12_000, breadth=1_000))
     warns("Ls below 2.5 B", small(length=9_999, breadth=4_000, deepest=8_000), "Ls is 2.49 times B", place, small(length=10_000, breadth=4_000, deepest=8_000))
     warns("B above 8 ds", small(breadth=2_002, deepest=2_500), "B is 8.00 times", place, small(breadth=2_000, deepest=2_500))
@@ -61,14 +61,20 @@ def hulls(coaster, ferry):
 def small(length=10_000, breadth=2_000, deepest=6_000, light=None, bulkheads=(2_000, 4_000, 6_000, 8_000), rows=()):
     """A ship of five zones without a row, or with these."""
     light = light if light is not None else deepest - 1_000
-    return replace(ship_of("coaster"), length=length, breadth=breadth, deepest=deepest, light=light, bulkheads=bulkheads, rows=tuple(rows))
+    return replace(ship_of("coaster"), length=length, breadth=breadth, deepest=deepest, light=light, bulkheads=bulkheads, rows=tuple(rows),
+                   zone_places=tuple(range(2, len(bulkheads) + 3)))
 
 
 def zones():
-    place = "zones"
-    warns("a short zone", small(bulkheads=(99, 3_000, 6_000, 8_000)), "Zone 1 is 0.99 m long, 0.9 per cent", place, small(bulkheads=(100, 3_000, 6_000, 8_000)))
-    warns("a long zone", small(bulkheads=(3_000, 5_000, 6_499)), "Zone 4 is 35.01 m long, 35.0 per cent", place, small(bulkheads=(3_000, 5_000, 6_500)))
+    warns("a short zone", small(bulkheads=(99, 3_000, 6_000, 8_000)), "Zone 1 is 0.99 m long, 0.9 per cent", "zones, row 2", small(bulkheads=(100, 3_000, 6_000, 8_000)))
+    warns("a long zone", small(bulkheads=(3_000, 5_000, 6_499)), "Zone 4 is 35.01 m long, 35.0 per cent", "zones, row 5", small(bulkheads=(3_000, 5_000, 6_500)))
     tally.same([doubt for doubt in doubted(small(bulkheads=(5_000, 6_000))) if doubt.sheet == "zones"], [], "of three zones one is long for that reason alone")
+    rows = b"zone,aft m,forward m\n5,80,100\n\n4,60,80\n3,30,60\n2,0.99,30\n1,0,0.99\n"  # from forward aft, and one that is empty
+    files = commas.written(tables.sheets_of(small(rows=[given(1, 1, 1_000, 18_500, 2)], light=6_000)))
+    folder = tables.read({**files, "zones.csv": rows, "ship.csv": files["ship.csv"].replace(b"\n", b"\n,,,\n", 1)})
+    for ship, wanted in ((folder, ["ship, row 3", "zones, row 7"]), (casefile.parse(casefile.write(folder)), ["line 1", "line 1"])):
+        found = [doubt.where for doubt in doubted(ship) if doubt.text.startswith(("Zone", "The light draught"))]
+        tally.same(found, wanted, "a %s: ship and zones by row" % ship.source.form)
 
 
 def given(first, count, depth, height, place):
@@ -123,7 +129,74 @@ def entries(coaster, bulk):
           with_row(upright, wing.place - 2, results=tuple(result._replace(heel=1) for result in upright.rows[wing.place - 2].results)))  # fmt: skip
 
 
+    radians = changed(bulk, lambda result: result._replace(heel=min(result.heel, 99)))
+    steep = with_row(radians, wing.place - 2, results=tuple(result._replace(heel=100) for result in radians.rows[wing.place - 2].results))
+    warns("heels below one degree", radians, "The heel is below one degree in every row, 0.99 at most", "cases, row %d" % wing.place, steep)
+
+
+def openings(coaster):
+    """Half of the results with a lever immersed raise no doubt, one more does."""
+    def sunk(count):
+        left, rows = [count], []
+        for row in coaster.rows:
+            results = []
+            for result in row.results:
+                left[0] -= bool(result.lever)
+                results.append(result._replace(opening=-1 if result.lever and left[0] >= 0 else result.opening))
+            rows.append(replace(row, results=tuple(results)))
+        return replace(coaster, rows=tuple(rows))
+
+    levers = sum(bool(result.lever) for row in coaster.rows for result in row.results)
+    first = next(row for row in coaster.rows if any(result.lever for result in row.results))
+    warns("openings turned", sunk(levers // 2 + 1), "In %d of the %d results with a righting lever the opening" % (levers // 2 + 1, levers),
+          "cases, row %d" % first.place, sunk(levers // 2))  # fmt: skip
+
+
+def floodings(ferry):
+    def flooded(at=3, **fields):
+        return with_row(ferry, at, floodings=tuple(each._replace(**fields) for each in ferry.rows[at].floodings))
+
+    three = ferry.rows[3].floodings
+    warns("displacements turned", with_row(ferry, 3, floodings=three[::-1]), "The displacement is less at the deepest draught", "cases, row 5", ferry)
+    box = 41 * ferry.length * ferry.breadth * ferry.light // (40 * 10**7)
+    warns("more than a box", flooded(displacement=box + 1), "A displacement of %d t" % (box + 1), "cases, row 5", flooded(displacement=box))
+    warns("a displacement in thousands", flooded(displacement=9), "A displacement of 9 t", "cases, row 5", ferry)
+    crowd = 75 * 45 * (ferry.lifeboats + ferry.excess) * ferry.breadth / 10**7
+    low = int(crowd / 2)
+    warns("a moment in thousands", flooded(moment=low), "A heeling moment of %d tm" % low, "cases, row 5", flooded(moment=low + 1))
+
+
+def unseen():
+    """Hidden rows and columns, and a copy of a sheet, through a workbook; empty ones that are hidden are nothing."""
+    import openpyxl
+
+    def read(change):
+        book = openpyxl.load_workbook(seeds.ROOT / "examples/coaster.xlsx")
+        change(book)
+        written = io.BytesIO()
+        book.save(written)
+        return tables.read(written.getvalue(), "coaster.xlsx")
+
+    def rows(book, *numbers):
+        for number in numbers:
+            book["cases"].row_dimensions[number].hidden = True
+
+    def column(book, letter):
+        book["cases"].column_dimensions[letter].hidden = True
+
+    plain = read(lambda book: (rows(book, 700), column(book, "AZ")))
+    tally.same(plain.source.unseen, (), "what is hidden and empty is nothing")
+    warns("hidden rows", read(lambda book: rows(book, 5, 6, 9)), "This row is hidden in the workbook", "cases, row 5", plain)
+    tally.that("So are 2 more rows." in doubted(read(lambda book: rows(book, 5, 6, 9)))[0].text, "how many more rows are hidden")
+    warns("a hidden column", read(lambda book: column(book, "E")), "Column E is hidden in the workbook", "cases", plain)
+    warns("a copy of a sheet", read(lambda book: book.create_sheet("Cases (2)")), 'The sheet "Cases (2)" is passed over', "cases", plain)
+
+
 def survivals(coaster):
+    for what, order in (("partial", (1, 0, 2)), ("light", (0, 2, 1))):
+        two = replace(coaster, rows=tuple(replace(row, results=tuple(row.results[at] for at in order if row.results)) for row in coaster.rows))
+        found = [doubt.text for doubt in doubted(two) if "the survival falls" in doubt.text]
+        tally.that(len(found) == 1 and "draught to the %s:" % what in found[0], "two columns turned, the %s one lower" % what, found)
     turned = replace(coaster, rows=tuple(replace(row, results=row.results[::-1]) for row in coaster.rows))
     first = next(row for row in turned.rows if row.results and row.results[0].lever > row.results[2].lever)
     warns("columns turned", turned, "the survival falls from the deepest draught to the light", "cases, row %d" % first.place, coaster)
@@ -147,7 +220,7 @@ def examples():
         found = doubted(ship)
         tally.same(["less than one" in doubt.text and "and 31 more" in doubt.text for doubt in found],
                 [True] if name == "container-ship" else [], "%s: its doubts" % name)
-    plain = replace(ship_of("coaster"), light=5_400, source=Source())
+    plain = replace(casefile.parse(BY_NAME["coaster"]), light=5_400)
     tally.same([str(doubt)[:30] for doubt in doubted(plain)], ["line 1: The light draught is t"], "a case file has lines and no sheets")
 
 
@@ -158,6 +231,9 @@ def main():
     zones()
     layers()
     entries(coaster, bulk)
+    openings(coaster)
+    floodings(ferry)
+    unseen()
     survivals(coaster)
     chances(coaster)
     examples()

@@ -37,6 +37,8 @@ def kinds(tally):
         begins(tally, "/dev/null", "none: this is no file", name="none")
         (place / "ZONES.CSV").unlink()
         begins(tally, place, "there is no file zones.csv; found CASES.CSV, SHIP.CSV.")
+        (place / "Zones.txt").write_bytes("zone\tname".encode("utf-16"))
+        begins(tally, place, "there is no file zones.csv; found CASES.CSV, SHIP.CSV, Zones.txt. Save Zones.txt as CSV UTF-8.")
     tally.same([row.place for row in casefile.parse(COASTER).rows][:3], [2, 3, 4], "a row's place is its line")
 
 
@@ -44,7 +46,9 @@ def neither(tally):
     """What is none of the three kinds."""
     for data, words, name in ((b"", "the file is empty", "x"), (b" \n", "the file is empty", "x"), (b"%PDF-1.4", "this is a PDF document", "x"),
                               (b"<html>", "this is a web page", "x"), (b"zone,name\n1,a\n", "this is a single CSV file", "zones.csv"),
-                              (b"zone;name\n", "this is a single CSV file", "x"), (bytes(range(256)), "this is no file that the desk can read", "x"),
+                              (b"zone;name\n", "this is a single CSV file", "x"), (b"zone\tname\n", "this is a table with tabs between its columns", "x"),
+                              ("zone\tname".encode("utf-16"), "this is a text in UTF-16", "zones.txt"),
+                              ("zone".encode("utf-16-be"), "this is a text in UTF-16", "zones.txt"), (bytes(range(256)), "this is no file that the desk can read", "x"),
                               (b"7" * 20_000_001, "the file has more than 20 MB", "x"), (b"0" * 70_000, "found more than 65536 bytes", "x")):
         begins(tally, data, "%s: %s" % (name, words), name=name)
 
@@ -86,7 +90,15 @@ def csv_files(tally):
     for file, content, words in (
             ("zones.csv", b"zone\tname\taft m\tforward m\n", "zones.csv, line 1: the columns are separated by tabs"),
             ("zones.csv", zones.replace(b"hold", b"h\xfcld"), "zones.csv, line 3: byte fc is no UTF-8"),
-            ("zones.csv", "zone".encode("utf-16"), "zones.csv, line 1: this is UTF-16"),
+            *(("zones.csv", "zone\tname".encode(code), 'zones.csv, line 1: this is UTF-16, as "Unicode text" is saved; expected UTF-8. Save it as CSV UTF-8.')
+              for code in ("utf-16", "utf-16-le", "utf-16-be")),
+            ("zones.csv", b"sep=\t\nzone\tname\n", "zones.csv, line 1: found sep= with a tab behind it; expected sep=, or sep=;"),
+            ("zones.csv", b"sep=|\nzone|name\n", 'zones.csv, line 1: found sep= with "|" behind it'),
+            ("zones.csv", b"sep=\r\nzone,name\n", "zones.csv, line 1: found sep= with nothing behind it"),
+            ("zones.csv", b"sep=,\n" + zones + b'4,"open\n', "zones.csv, line 6: this cannot be read as CSV"),
+            ("zones.csv", b"sep=,\n", "zones, row 1: found nothing; expected the headings"),
+            ("zones.csv", b"sep=,\n" + zones.replace(b"1,", b"1x,", 1), 'zones, row 2, "zone": found "1x"'),
+            ("zones.csv", b"sep=;\n" + zones, 'zones, row 1, "zone,name,aft m,forward m": this heading is not known'),
             ("zones.csv", b"", "zones, row 1: found nothing; expected the headings"),
             ("zones.csv", zones + b'4,"open\n', "zones.csv, line 5: this cannot be read as CSV"),
             ("zones.csv", zones + b"4,\0\n", "zones.csv, line 5: found a zero byte"),
@@ -95,15 +107,23 @@ def csv_files(tally):
             ("cases.csv", b"zones,b m,H m,lever m,deepest\n",
              'cases, row 1, "lever m": this heading is not known. In a CSV file a heading with a comma stands in quotation marks.'),
             ("Ship.csv", b"name", "found ship.csv and Ship.csv; expected one file ship.csv."),
+            ("cases.csv", cases.replace(b"b m", b"\x1b[2Jb m", 1), 'cases, row 1, "?[2Jb m": this heading is not known.'),
+            ("cases.csv", cases.replace(b",0.1,", b',"0,125",', 1), 'cases, row 2, "lever m, deepest": found "0,125"; expected 0 to 5 m. Write the decimal comma as'),
             ("cases.csv", cases.replace(b",0.1,", b',"0,1",', 1), 'cases, row 2, "lever m, deepest": found "0,1"; expected 0 to 5 m. Write the decimal comma')):
         begins(tally, {**good, file: content}, words)
     windows = {name: b"\xef\xbb\xbf" + content.replace(b"\n", b"\r\n") for name, content in good.items()}
     tally.same(told(windows), [], "a byte order mark and the line ends of Windows")
+    for ends in (b"\n", b"\r\n", b"\r"):
+        for separator, comma in ((",", False), (";", True), (";", False)):
+            files = commas.written(tables.sheets_of(tables.read(cargo().bytes())), separator, comma)
+            marked = {name: (b"\xef\xbb\xbfsep=%s\n" % separator.encode() + content).replace(b"\n", ends) for name, content in files.items()}
+            tally.same((told(marked), [row.place for row in tables.read(marked).rows]), ([], [row.place for row in tables.read(good).rows]),
+                       "a first line that names %s as the separator is not counted" % separator)
     begins(tally, {"case.csv": b"", "ship.csv": good["ship.csv"], "zones.csv": zones},
            "there is no file cases.csv; found case.csv, ship.csv, zones.csv. Did you mean case.csv?")
     mixed = commas.written(tables.sheets_of(tables.read(passenger().bytes())), ";", comma=True)
     begins(tally, {**mixed, "cases.csv": mixed["cases.csv"].replace(b";9460;", b";9.460;", 1)},
-           'cases, row 2, "displacement t, deepest": found 9.460; expected 1 to 300000 t. This file has decimal commas: write 9,460.')
+           'cases, row 2, "displacement t, deepest": found 9.460; expected 1 to 300000 t. Write thousands without a mark: 9460.')
 
 
 def empty_workbooks(tally):

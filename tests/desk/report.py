@@ -16,7 +16,10 @@ from frontdesk.figures import engine, findings, slip, twin  # noqa: E402
 from frontdesk.page import report  # noqa: E402
 from frontdesk.reading import casefile  # noqa: E402
 from frontdesk.doubts import Doubt  # noqa: E402
-from frontdesk.ship import DRAUGHTS, Source  # noqa: E402
+from frontdesk.ship import DRAUGHTS, Flooding, Result, Source  # noqa: E402
+from independent.casefile import Result as Second, Stage  # noqa: E402
+from independent.regulation import passenger_s_fourth  # noqa: E402
+from independent.rounding import survival_ends  # noqa: E402
 from pages import whole  # noqa: E402
 from tally import Tally  # noqa: E402
 
@@ -67,6 +70,29 @@ def indices(root, told):
     return wrong
 
 
+def held_down(row, i, marked):
+    """What holds a survival below one down; of a passenger ship by the second program, in exact fourth powers cut as the library cuts them."""
+    if not row.floodings:
+        return marked
+    result, stage = Second(*row.results[i]), Stage(*row.floodings[i])
+    now, upright, unmoved = (survival_ends(passenger_s_fourth(*two)) for two in (
+        (result, stage), (Second(5_000, 9_000, 0, 30_000), stage), (result, Stage(300_000, 1, 5_000, 9_000, 0, stage.roro))))
+    staged = unmoved != now
+    marked = marked if upright != now or not staged else []
+    return marked + ["stage or moment"] if staged or not marked else marked
+
+
+def stages():
+    """A lever that is a millimetre short does not hold down what a far worse intermediate stage does, and the other way round."""
+    ferry = casefile.parse(dict(seeds.examples())["ferry"])
+    short, poor = Result(119, 2_000, 300, 500), Result(10, 2_000, 300, 500)
+    good, weak, heavy = Flooding(10_000, 1, 100, 2_000, 0, False), Flooding(10_000, 1, 5, 100, 0, False), Flooding(100, 2_000, 100, 2_000, 0, False)
+    for result, flooding, wanted in (short, weak, ("stage",)), (short, good, ("lever",)), (poor, good, ("lever",)), (short, heavy, ("lever", "stage")):
+        ship = replace(ferry, rows=(replace(ferry.rows[0], height=ferry.top, results=(result,) * 3, floodings=(flooding,) * 3),))
+        found = findings.find(library, ship)
+        tally.same([at.reasons for at in found.cases[0].at], [wanted] * 3, "what holds a passenger ship's survival down")
+
+
 def cases(root, told, ship):
     """The long table: twenty numbers of the library in three lines a case, what they add to A, and the sums at the foot."""
     lines = pages.table(root, "All cases") or []
@@ -77,8 +103,7 @@ def cases(root, told, ship):
         adds = [a + b for a, b in zip(adds, weighed)]
         for i, line in enumerate(whole_row):
             v, bottom, top, marks, low, high = row[2 + 6 * i:8 + 6 * i]
-            held = [name for mark, name in MARKS if marks & mark]
-            held = [] if bottom == 10_000 else ["given"] if given else held or ["stage or moment"]
+            held = [] if bottom == 10_000 else ["given"] if given else held_down(ship.rows[number], i, [name for mark, name in MARKS if marks & mark])
             found = [int(line[0]), whole(line[5], 9), whole(line[6], 9), line[7], whole(line[8], 6), survival(line[9]), survival(line[10]), line[11]]
             if found != [number + 1, *row[:2], DRAUGHTS[i], v * 10**6 // 916_500, bottom, top, ", ".join(held)]:
                 wrong.append("case %d %r" % (number + 1, line))
@@ -262,6 +287,7 @@ def main():
     for passengers in (False, True):
         for name, data in seeds.random_files(RANDOM, passengers, most=8):
             ship_page(name, data)
+    stages()
     states(ships["reefer"])
     odd_names(ships["day-boat"])
     large(ships["container-ship"])

@@ -163,6 +163,20 @@ def refused(server):
     tally.same(server.ask("POST", "/report", body[:-30], {"Content-Type": kind})[0], 400, "a form cut off")
 
 
+def nonsense(server):
+    """Requests that no browser sends are answered in words too, and nothing is told where the desk was started."""
+    host = b"Host: 127.0.0.1:%d\r\n" % server.port
+    for what, request, status in (
+        ("a length of 5,000 digits", b"POST /report HTTP/1.1\r\n" + host + b"Content-Length: " + b"9" * 5_000 + b"\r\n\r\n", b"411"),
+        ("an address that is none", b"POST http://[x/report HTTP/1.1\r\n" + host + b"Content-Length: 0\r\n\r\n", b"404"),
+        ("the same by GET", b"GET http://[x/ HTTP/1.1\r\n" + host + b"\r\n", b"404"),
+    ):
+        with socket.create_connection(("127.0.0.1", server.port), timeout=10) as plain:
+            plain.sendall(request)
+            answer = plain.recv(1 << 16)
+        tally.that(answer.startswith(b"HTTP/1.1 " + status), what, answer[:60])
+
+
 def huge_is_not_read(server):
     """An upload that says it has a gigabyte is answered before it comes."""
     with socket.create_connection(("127.0.0.1", server.port), timeout=10) as plain:
@@ -255,6 +269,7 @@ def main():
         wrong(server, sheets, library)
         refused(server)
         huge_is_not_read(server)
+        nonsense(server)
         many(server, sheets, library)
         listens_here_alone(server)
         gone(server)

@@ -72,7 +72,7 @@ def zoned(findings):
 def _zones_said(findings, shown):
     listed = sum(group.listed for group in shown)
     worst = worst_groups(findings)
-    told = "%d groups of zones have a share of the damage; %d are listed, %d are not." % (len(shown), listed, len(shown) - listed)
+    told = "Groups of zones that are listed: %d; that have a share of the damage and are not: %d." % (listed, len(shown) - listed)
     if worst:
         told += " Most is lost in " + ", ".join("%s: %s" % (letter, wording.zones_of(g.first, g.count)) for letter, g in zip(RANKS, worst)) + "."
     return told + " The table below has every figure of the drawing."

@@ -209,7 +209,12 @@ def many(server, sheets, library):
 
 
 def crowd(server):
-    """More connections than seats: the others are told to come back, and it goes on afterwards."""
+    """More connections than seats: the others are told to come back, and it goes on afterwards, also where they say a byte now and then."""
+    stay, serve.LONGEST_STAY = serve.LONGEST_STAY, 1
+    with socket.create_connection(("127.0.0.1", server.port), timeout=5) as slow:
+        slow.sendall(b"GET / HTTP/1.1\r\nX: ")
+        tally.same(slow.recv(1), b"", "a connection that says nothing whole is ended")
+    serve.LONGEST_STAY = stay
     held = [socket.create_connection(("127.0.0.1", server.port), timeout=10) for _ in range(serve.MOST_AT_ONCE)]
     time.sleep(0.3)
     with socket.create_connection(("127.0.0.1", server.port), timeout=10) as late:

@@ -62,7 +62,7 @@ def zoned(findings):
     levels = []
     for count in findings.counts:
         if any(group.listed or group.surely for group in count.groups):
-            kept = count.whole.kept
+            kept = count.kept
             levels.append(triangle.Level(count.zones, thousandths(count.share), "%d%% survives" % kept if count.listed and kept is not None else "not listed"))
     drawing = triangle.drawn(ship.places, cells, levels, _views(findings), ship.zone_names)
     drawing.says = _zones_said(findings, shown)

@@ -78,6 +78,8 @@ def sums(name, found):
     tally.same(len(found.groups), found.ship.zones * (found.ship.zones + 1) // 2, name + ": every group")
     tally.that(all(part.chance.lower <= BILLION for part in found.total.at), name + ": chances are at most one")
     tally.that(all(one.whole.kept is None or 0 <= one.whole.kept <= 100 for one in (*found.groups, *found.counts)), name + ": kept is a per cent")
+    room = 10_000 * (len(found.cases) + len(found.groups))  # of rows' and groups' ends, in tenths of billionths times a hundred
+    tally.that(all((one.kept or 0) * 10 * one.share.lower <= 100 * one.whole.adds.upper + room for one in found.counts), name + ": no more is kept than added")
     tally.same(sum(group.share.upper for group in found.groups if not group.listed), found.missing_most, name + ": missing groups")
     losses = [case.whole.loss.lower for case in found.worst]
     tally.same(losses, sorted(losses, reverse=True), name + ": the worst first")

@@ -130,10 +130,11 @@ def entries(ship):
     yield from openings(afloat)
     wings = [row for row in afloat if row.depth < ship.half_breadth]
     steepest = max((result.heel for row in entered for result in row.results), default=0)
-    if len(wings) >= FEWEST and steepest < ONE_DEGREE:
-        told = "below one degree in every row, %s at most, also" % cut(steepest, 2, 100) if steepest else "0 in every row, also"
-        asked = "is it in degrees?" if steepest else "was it left out?"
-        yield Doubt("The heel is %s in those that flood one side alone (b below B/2): %s" % (told, asked), wings[0].place, "cases")
+    if len(wings) >= FEWEST and not steepest:
+        yield Doubt("The heel is 0 in every row, also in those that flood one side alone (b below B/2): was it left out?", wings[0].place, "cases")
+    elif len(wings) >= FEWEST and steepest < ONE_DEGREE:
+        text = "The heel is below one degree in every row, %s at most, also in those that flood one side alone (b below B/2): is it in degrees?"
+        yield Doubt(text % cut(steepest, 2, 100), wings[0].place, "cases")
 
 
 def openings(afloat):

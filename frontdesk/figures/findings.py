@@ -119,13 +119,24 @@ class Findings:
         return caused(self.cases, lambda found: [(reason,) for reason in found])
 
     @property
+    def input_name(self):
+        """What was read, as a command names it: no option, whatever it begins with."""
+        file = self.ship.source.file or "FILE"
+        return shlex.quote("./" + file if file.startswith("-") else file)
+
+    @property
+    def case_name(self):
+        """The case file, the same way."""
+        return self.input_name if self.ship.source.form == "case file" else "ship.case"
+
+    @property
     def reproduce(self):
         """The commands that make the case file and ask the proved program."""
-        file = shlex.quote(self.ship.source.file or "FILE")
+        asking = ("sha256sum %s" % self.case_name, "./damindex < %s" % self.case_name)
         if self.ship.source.form == "case file":
-            return ("sha256sum %s" % file, "./damindex < %s" % file)
+            return asking
         against = " --against" if self.ship.source.rounded else ""
-        return ("./desk case %s%s -o ship.case" % (file, against), "sha256sum ship.case", "./damindex < ship.case")
+        return ("./desk case %s%s -o ship.case" % (self.input_name, against), *asking)
 
 
 def find(engine, ship):

@@ -116,6 +116,11 @@ class Count(Summed):
     def missing_most(self):
         return sum(group.share.upper for group in self.missing)
 
+    @property
+    def kept(self):
+        """Per cent of these groups' whole share that are survived at least, cut off: what is not listed is not survived."""
+        return per_cent(self.whole.adds.lower, 10 * self.share.upper) if any(group.surely for group in self.missing) else self.whole.kept
+
 
 class Cause(NamedTuple):
     """What is lost of A by these reasons, in tenths of billionths, in how many cases, and the case that loses most by them."""

@@ -62,7 +62,7 @@ def zoned(findings):
     levels = []
     for count in findings.counts:
         if any(group.listed or group.surely for group in count.groups):
-            kept = count.whole.kept
+            kept = count.kept
             levels.append(triangle.Level(count.zones, thousandths(count.share), "%d%% survives" % kept if count.listed and kept is not None else "not listed"))
     drawing = triangle.drawn(ship.places, cells, levels, _views(findings), ship.zone_names)
     drawing.says = _zones_said(findings, shown)
@@ -72,7 +72,7 @@ def zoned(findings):
 def _zones_said(findings, shown):
     listed = sum(group.listed for group in shown)
     worst = worst_groups(findings)
-    told = "%d groups of zones have a share of the damage; %d are listed, %d are not." % (len(shown), listed, len(shown) - listed)
+    told = "Groups of zones that are listed: %d; that have a share of the damage and are not: %d." % (listed, len(shown) - listed)
     if worst:
         told += " Most is lost in " + ", ".join("%s: %s" % (letter, wording.zones_of(g.first, g.count)) for letter, g in zip(RANKS, worst)) + "."
     return told + " The table below has every figure of the drawing."

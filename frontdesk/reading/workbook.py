@@ -11,6 +11,7 @@ from frontdesk.reading.sheets import MOST_ROWS, Sheet, letters
 from frontdesk.reading.units import Unstored, is_blank
 
 MOST_COLUMNS = 200
+EMPTY_TEXT = "str"  # the type that openpyxl leaves to a formula whose value is a text without signs
 MISSING = "workbooks need openpyxl, which is not installed (Debian: apt install python3-openpyxl). CSV files and case files are read without it."
 
 
@@ -98,17 +99,25 @@ def rows_of(name, sheet):
 
 
 def mark_unstored(openpyxl, data, titles, read):
-    """Puts a mark where a formula stands whose value the file does not have."""
-    book = openpyxl.load_workbook(io.BytesIO(data), read_only=True, keep_links=False)
+    """Puts a mark where a formula stands whose value the file does not have; one whose value is an empty text leaves its cell blank."""
+    unstored = {(name, number, at) for name, number, at, cell in cells_of(openpyxl, data, titles)
+                if isinstance(cell.value, str) and cell.value.startswith("=") and is_blank(value_at(read[name], number, at))}
+    if unstored:
+        unstored -= {(name, number, at) for name, number, at, cell in cells_of(openpyxl, data, titles, data_only=True) if cell.data_type == EMPTY_TEXT}
+    for name, number, at in unstored:
+        row = read[name].setdefault(number, [])
+        row.extend([None] * (at + 1 - len(row)))
+        row[at] = Unstored()
+
+
+def cells_of(openpyxl, data, titles, **more):
+    """Every cell of the three sheets, with its sheet, row and column, the column from 0."""
+    book = openpyxl.load_workbook(io.BytesIO(data), read_only=True, keep_links=False, **more)
     try:
         for name, title in titles.items():
             book[title].reset_dimensions()
-            for number, cells in enumerate(book[title].iter_rows(max_col=MOST_COLUMNS, max_row=MOST_ROWS + 1, values_only=True), 1):
-                for at, cell in enumerate(cells):
-                    if isinstance(cell, str) and cell.startswith("=") and is_blank(value_at(read[name], number, at)):
-                        row = read[name].setdefault(number, [])
-                        row.extend([None] * (at + 1 - len(row)))
-                        row[at] = Unstored()
+            for number, cells in enumerate(book[title].iter_rows(max_col=MOST_COLUMNS, max_row=MOST_ROWS + 1), 1):
+                yield from ((name, number, at, cell) for at, cell in enumerate(cells))
     finally:
         book.close()
 

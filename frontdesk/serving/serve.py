@@ -24,6 +24,7 @@ MOST_DIGITS = 15  # of a length; no upload has so many bytes
 KEPT, KEPT_FOR = 8, 3600  # reports that are kept to be looked at again and downloaded, and for how many seconds
 MOST_AT_ONCE = 16  # connections
 PATIENCE, UPLOAD_TIME = 20, 60  # seconds that a connection may say nothing, and that an upload may take
+LONGEST_STAY = 150  # seconds that a connection may last, so that none that says a byte now and then keeps a seat
 DRAINED = 64_000_000  # bytes of a refused upload that are let pass, so that the browser comes to read the answer
 HEADERS = {
     "Content-Security-Policy": "default-src 'none'; style-src 'unsafe-inline'; img-src data:; form-action 'self'; base-uri 'none'; frame-ancestors 'none'",
@@ -75,9 +76,13 @@ class Desk(ThreadingHTTPServer):
             self.shutdown_request(request)
 
     def process_request_thread(self, request, client_address):
+        ended = threading.Timer(LONGEST_STAY, shut, (request,))
+        ended.daemon = True
+        ended.start()
         try:
             super().process_request_thread(request, client_address)
         finally:
+            ended.cancel()
             self.seats.release()
 
     def handle_error(self, request, client_address):
@@ -227,6 +232,13 @@ class Handler(BaseHTTPRequestHandler):
         self.end_headers()
         if self.command != "HEAD":
             self.wfile.write(data)
+
+
+def shut(connection):
+    try:
+        connection.shutdown(socket.SHUT_RDWR)
+    except OSError:
+        pass  # it has ended already
 
 
 def path_of(target):

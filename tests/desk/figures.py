@@ -12,8 +12,10 @@ sys.path.insert(0, str(Path(__file__).resolve().parent))
 import seeds  # noqa: E402
 from frontdesk.figures import decimals, engine, exports, findings, reasons  # noqa: E402
 from frontdesk.reading import casefile  # noqa: E402
-from frontdesk.ship import Flooding, Result, Row  # noqa: E402
+from frontdesk.page import report  # noqa: E402
+from frontdesk.ship import Flooding, Result, Row, Source  # noqa: E402
 from independent import answer, reading  # noqa: E402
+from markupsafe import escape  # noqa: E402
 from independent.regulation import draughts, group_share, marks, row_share, row_v  # noqa: E402
 from independent.rounding import Ends, added_ends  # noqa: E402
 from tally import Tally  # noqa: E402
@@ -76,6 +78,8 @@ def sums(name, found):
     tally.same(len(found.groups), found.ship.zones * (found.ship.zones + 1) // 2, name + ": every group")
     tally.that(all(part.chance.lower <= BILLION for part in found.total.at), name + ": chances are at most one")
     tally.that(all(one.whole.kept is None or 0 <= one.whole.kept <= 100 for one in (*found.groups, *found.counts)), name + ": kept is a per cent")
+    room = 10_000 * (len(found.cases) + len(found.groups))  # of rows' and groups' ends, in tenths of billionths times a hundred
+    tally.that(all((one.kept or 0) * 10 * one.share.lower <= 100 * one.whole.adds.upper + room for one in found.counts), name + ": no more is kept than added")
     tally.same(sum(group.share.upper for group in found.groups if not group.listed), found.missing_most, name + ": missing groups")
     losses = [case.whole.loss.lower for case in found.worst]
     tally.same(losses, sorted(losses, reverse=True), name + ": the worst first")
@@ -195,6 +199,25 @@ def words():
         tally.that(True, "a third is not exact")
 
 
+def commands():
+    """The commands that do it again, for names that a shell or a command would take for something else; and a listed group that no damage reaches."""
+    printed = casefile.parse(dict(seeds.examples())["printed"])
+    for file, form, wanted in (
+        ("-x.case", "case file", ("sha256sum ./-x.case", "./damindex < ./-x.case")), ("a < b.case", "case file", ("sha256sum 'a < b.case'", "./damindex < 'a < b.case'")),
+        ("-x.xlsx", "workbook", ("./desk case ./-x.xlsx -o ship.case", "sha256sum ship.case", "./damindex < ship.case")),
+    ):  # fmt: skip
+        found = findings.find(library, replace(printed, source=Source(file=file, form=form)))
+        tally.same(found.reproduce, wanted, "the commands for %s" % file)
+        told = "--exact %s<" % escape(found.case_name)
+        tally.that(told in report.page(found), "the second program's command for %s" % file)
+    far = replace(printed, bulkheads=tuple(range(500, printed.length - 500, 500))[:19])
+    row = replace(printed.rows[0], first=1, count=far.zones, depth=far.half_breadth, height=far.top)
+    found = findings.find(library, replace(far, rows=(row,)))
+    shown = sum(group.surely for group in found.groups)
+    told = "Groups of zones that are listed: 1; that have a share of the damage and are not: %d." % shown
+    tally.that(found.groups[far.zones - 1].share.lower == 0 and told in report.page(found), "a listed group that no damage reaches is not said to have a share")
+
+
 def main():
     ships = seeds.examples() + [file for passengers in (False, True) for file in seeds.random_files(RANDOM, passengers)]
     for name, data in ships:
@@ -206,6 +229,7 @@ def main():
     differences()
     refusals()
     words()
+    commands()
     tally.that(len(seeds.examples()) >= 14, "the examples are there")
     return tally.close()
 

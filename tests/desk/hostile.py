@@ -54,6 +54,7 @@ def cells(tally):
     """Formulas with and without a stored value, what a formula's arithmetic leaves, and a size that is not true."""
     begins(tally, with_cases(LEVER, b'<c r="E3"><f>1/10</f>'), 'cases, row 3, "lever m, deepest": found a formula without a stored value')
     tally.same(told(with_cases(LEVER, b'<c r="E3"><f>1/10</f><v>0.1</v>')), [], "a formula with its value")
+    begins(tally, with_cases(LEVER, b'<c r="E3" t="str"><f>IF(TRUE,"","x")</f><v></v>'), 'cases, row 3, "lever m, deepest": found nothing; expected')
     begins(tally, with_cases(b"<v>0.1</v>", b"<v>0.30000000000000004</v>"),
            'cases, row 2, "lever m, deepest": found 0.30000000000000004, which is 300.00000000000004 mm; expected whole millimetres.')
     size = with_cases(b'<dimension ref="A1:AE7"', b'<dimension ref="A1:B2"')

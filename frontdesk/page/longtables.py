@@ -8,7 +8,7 @@ from frontdesk.figures.decimals import HEIGHTS, SURVIVALS, cut
 from frontdesk.ship import DRAUGHTS, PASSENGER
 
 LINES = "<th scope=row>%s</th>"
-OVER = "<td rowspan=3>%s</td>"
+OVER = "<td rowspan=3>%s</td>"  # ends stand below each other, so that two tables stand side by side on paper
 DASH = "–"
 
 
@@ -26,27 +26,35 @@ SHORT = {reason: reason for reason in reasons.REASONS} | {reasons.STAGE: "stage 
 def _damage(case, ship, anchor):
     """The first cells of a case, over its three lines."""
     row = case.row
-    number = '<th scope=rowgroup rowspan=3 class=no>%s</th>' % (case.number if anchor else '<a href="#case-%d">%d</a>' % (case.number, case.number))
+    number = case.number if anchor else '<a href="#case-%d">%d</a>' % (case.number, case.number)
     name = ' <span class=name dir=auto>%s</span>' % escape(row.name) if row.name else ""
     zones = row.first if row.count == 1 else "%d–%d" % (row.first, row.first + row.count - 1)
     half, top = row.depth == ship.half_breadth, row.height == ship.top
-    return "%s<td rowspan=3>%s</td><td rowspan=3 class=zones>%s%s</td><td rowspan=3>%s%s</td><td rowspan=3>%s%s</td>" % (
+    return "<th scope=rowgroup rowspan=3>%s<br><span class=at>%s</span></th><td rowspan=3 class=zones>%s%s</td><td rowspan=3>%s%s</td><td rowspan=3>%s%s</td>" % (
         number, row.place or DASH, zones, name, wording.metres(row.depth), "<br>B/2" if half else "", wording.fine_metres(row.height), "<br>top" if top else "")
+
+
+def stacked(texts):
+    return "<br>".join(texts)
+
+
+def of_all(worth):
+    """What a case, or all of them, add to A and lose of it: both ends and the loss, one below the other."""
+    return Markup(stacked(wording.tenths(end) for end in (worth.adds.lower, worth.adds.upper, worth.loss.upper)))
 
 
 def outcomes(findings):
     """One body of three lines for each case: its figures as the library has them."""
     parts = []
     for case in findings.cases:
-        parts.append('<tbody id=case-%d><tr>%s<td rowspan=3>%s</td><td rowspan=3>%s</td>' % (
-            case.number, _damage(case, findings.ship, True), wording.billionths(case.share.lower), wording.billionths(case.share.upper)))
+        share = OVER % stacked(map(wording.billionths, case.share))
+        parts.append("<tbody id=case-%d><tr>%s%s" % (case.number, _damage(case, findings.ship, True), share))
         for i, (at, draught) in enumerate(zip(case.at, DRAUGHTS)):
             parts.append("<th scope=row>%s</th><td>%s</td><td>%s</td><td>%s</td><td class=why>%s</td><td>%s</td><td>%s</td>" % (
                 draught, cut(at.v, 6, HEIGHTS), survival(at.bottom), survival(at.top), held_by(at.reasons),
                 wording.billionths(at.worth.adds.lower), wording.billionths(at.worth.adds.upper)))
             if i == 0:
-                whole = case.whole
-                parts.append("".join(OVER % wording.tenths(end) for end in (whole.adds.lower, whole.adds.upper, whole.loss.upper)))
+                parts.append(OVER % of_all(case.whole))
             parts.append("</tr>" if i == 2 else "</tr><tr>")
         parts.append("</tbody>")
     return Markup("".join(parts))

@@ -48,7 +48,7 @@ def page(findings, doubts=(), slip=None):
         title=ship.name or ship.source.file or "Ship without a name", place=wording.place_name(ship), short=wording.SHORT,
         gauge=pictures.gauged(findings), zones=pictures.zoned(findings) if findings.groups else None, levels=pictures.levelled(findings),
         sections=pictures.sectioned(findings, begins), losses=losses(findings, begins), causes=causes(findings), lost_in_all=findings.total.whole.loss.upper,
-        outcomes=longtables.outcomes(findings), inputs=longtables.inputs(findings), entered_headings=longtables.headings(ship),
+        outcomes=longtables.outcomes(findings), all_added=longtables.of_all(findings.total.whole), inputs=longtables.inputs(findings), entered_headings=longtables.headings(ship),
         counts=[count for count in findings.counts if any(group.listed or group.surely for group in count.groups)], shown=pictures.with_share(findings),
         missing=missing(findings), doubtful=[group for group in findings.missing if not group.surely],
         slip_said={"not_proved": NOT_PROVED, "how": HOW},

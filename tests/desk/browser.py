@@ -29,7 +29,7 @@ ROOT = seeds.ROOT
 EXAMPLES = ROOT / "examples"
 FERRY = "ferry"
 AUDIT = (Path(__file__).resolve().parent / "audit.js").read_text()
-WIDE, NARROW, PAPER = (1280, 900), (360, 800), (1032, 720)  # pixels; the last is A4 across, within its margins
+WIDE, NARROW, PAPER = (1280, 900), (360, 800), (1062, 726)  # pixels; the last is A4 across, within its margins
 tally = Tally()
 
 
@@ -178,7 +178,8 @@ def reports(browser):
             browser.audit("%s, %s" % (name, look), drawings=2)
     browser.look()
     keyboard(browser.driver, 6, "the report")
-    paper(browser, browser.scratch / (FERRY + ".html"))
+    for name, most in ((FERRY, 16), ("container-ship", 25), ("printed", 8)):
+        paper(browser, browser.scratch / (name + ".html"), most)
 
 
 FAULTY = """<!DOCTYPE html><html><head><title> </title></head><body style="background: #fff; color: #000"><main><h1>One</h1><h3>Three</h3><h1>Two</h1>
@@ -212,15 +213,16 @@ def audited(browser):
         tally.that(any(fault.startswith(what) for fault in faults), "the audit finds %r" % what, faults)
 
 
-def paper(browser, page):
+def paper(browser, page, most):
+    """The report on paper: the whole of it, closed parts too, on as few pages as dense tables take."""
     browser.driver.get(page.as_uri())
     printed = browser.driver.execute_cdp_cmd("Page.printToPDF", {"preferCSSPageSize": True, "printBackground": True})
     content = base64.b64decode(printed["data"])
     pages = len(re.findall(rb"/Type\s*/Page\b", content))
     sizes = {tuple(sorted(round(float(side)) for side in box.split()[2:])) for box in re.findall(rb"/MediaBox\s*\[([^\]]*)\]", content)}
-    tally.that(sizes and all(abs(short - 595) <= 1 and abs(long - 842) <= 1 for short, long in sizes), "it prints on A4", sizes)
-    tally.that(3 <= pages <= 40, "on so many pages", pages)
-    (browser.scratch / "printed.pdf").write_bytes(content)
+    tally.that(sizes and all(abs(short - 595) <= 1 and abs(long - 842) <= 1 for short, long in sizes), "%s prints on A4" % page.name, sizes)
+    tally.that(most * 2 // 3 <= pages <= most, "%s is on at most %d pages" % (page.name, most), pages)
+    page.with_suffix(".pdf").write_bytes(content)
 
 
 def pictures(browser, folder):

@@ -104,12 +104,12 @@ def cases(root, told, ship):
         for i, line in enumerate(whole_row):
             v, bottom, top, marks, low, high = row[2 + 6 * i:8 + 6 * i]
             held = [] if bottom == 10_000 else ["given"] if given else held_down(ship.rows[number], i, [name for mark, name in MARKS if marks & mark])
-            found = [int(line[0]), whole(line[5], 9), whole(line[6], 9), line[7], whole(line[8], 6), survival(line[9]), survival(line[10]), line[11]]
-            if found != [number + 1, *row[:2], DRAUGHTS[i], v * 10**6 // 916_500, bottom, top, ", ".join(held)]:
+            found = [*map(int, line[0].split()), *(whole(text, 9) for text in line[4].split()), line[5], whole(line[6], 6), *map(survival, line[7:9]), line[9]]
+            if found != [number + 1, ship.rows[number].place, *row[:2], DRAUGHTS[i], v * 10**6 // 916_500, bottom, top, ", ".join(held)]:
                 wrong.append("case %d %r" % (number + 1, line))
-            if [whole(line[12], 9), whole(line[13], 9)] != [low, high] or [whole(text, 10) for text in line[14:17]] != weighed:
+            if [whole(line[10], 9), whole(line[11], 9)] != [low, high] or [whole(text, 10) for text in line[12].split()] != weighed:
                 wrong.append("case %d adds %r" % (number + 1, line))
-    if lines and [whole(text, 10) for text in lines[-1][-3:]] != adds:
+    if lines and [whole(text, 10) for text in lines[-1][-1].split()] != adds:
         wrong.append("foot %r" % lines[-1])
     if len(lines) != (3 * len(told.rows) + 1 if told.rows else 0):
         wrong.append("%d lines" % len(lines))
@@ -189,7 +189,7 @@ def entered(root, ship):
     lines, wrong = pages.table(root, "The cases as entered") or [], []
     for number, row in enumerate(ship.rows):
         for i, line in enumerate(lines[3 * number:3 * number + 3]):
-            cells = [text for text in line[6:] if text]
+            cells = [text for text in line[5:] if text]
             numbers = [whole(text.replace(",", ""), places) if text != "none" else 30_000 for text, places in zip(cells, places_of(row))]
             results = [number for result in row.results[i::3] for number in result]
             wanted = results + ([*row.floodings[i][:5]] if row.floodings else []) + ([row.given[i]] if row.given else [])
@@ -197,7 +197,7 @@ def entered(root, ship):
                 numbers = [survival(cells[0])]
             ro_ro = cells[-1] if row.floodings else None
             zones = str(row.first) if row.count == 1 else "%d–%d" % (row.first, row.first + row.count - 1)
-            where = [line[2].split()[0], whole(line[3].split()[0], 2), whole(line[4].split()[0], 3)]
+            where = [line[1].split()[0], whole(line[2].split()[0], 2), whole(line[3].split()[0], 3)]
             if numbers != wanted or where != [zones, row.depth, row.height] or ro_ro not in (None, "yes" if row.floodings and row.floodings[i].ro_ro else "no"):
                 wrong.append("entered %r" % line)
     zones = [[whole(text, 2) for text in line[-2:]] for line in pages.table(root, "The zones as entered")]
@@ -260,7 +260,7 @@ def odd_names(found):
     zones = [line[1] for line in pages.table(root, "The zones as entered")]
     tally.same(zones, [names[i % 5] for i in range(ship.zones)], "zone names come through")
     lines = pages.table(root, "All cases")[:-1:3]
-    tally.that(all(line[2].endswith(names[i % 5]) for i, line in enumerate(lines)), "case names come through")
+    tally.that(all(line[1].endswith(names[i % 5]) for i, line in enumerate(lines)), "case names come through")
     refusal = pages.read(report.refusal_page("<u>x", ["cases, row 14: <b> & 1605", "second"]))
     tally.same([item.text for item in refusal.all("li")], ["cases, row 14: <b> & 1605", "second"], "a refusal's words come through")
     tally.that(not refusal.wrong and refusal.one("h1").text == "<u>x", "a refusal's page is well formed")

@@ -84,6 +84,7 @@ def report(words):
     from frontdesk import enquiry, summary
 
     free(words.input, words.output, words.csv, words.xlsx)
+    of_its_kind(words.output, "the report is HTML; --csv and --xlsx write tables", ".xlsx", ".xlsm", ".csv", ".case")
     answer = enquiry.asked(engine.load(), enquiry.named(words.input), given(words.input), words.against, words.licensed_slip)
     contents = {words.output: answer.page} if words.output else {}
     if words.csv or words.xlsx:
@@ -101,6 +102,7 @@ def case(words):
     from frontdesk.reading import casefile
 
     free(words.input, words.output)
+    of_its_kind(words.output, "a case file is written here; `desk table` writes tables", ".xlsx", ".xlsm", ".csv")
     ship = enquiry.read(engine.load(), enquiry.named(words.input), given(words.input), words.against)
     outputs.put(words.output, casefile.write(ship))
     if ship.source.rounded:
@@ -168,6 +170,12 @@ def free(source, *outputs_asked):
             if os.path.realpath(path) in taken:
                 raise of_the_file("", "%s is named twice, or belongs to the input: an output needs a file of its own." % path)
             taken.append(os.path.realpath(path))
+
+
+def of_its_kind(path, what, *others):
+    """Stops where an output has the ending of another kind of file: it may be somebody's workbook."""
+    if path and path.lower().endswith(others):
+        raise of_the_file("", "%s: %s." % (path, what))
 
 
 def given(path):

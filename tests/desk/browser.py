@@ -178,7 +178,7 @@ def reports(browser):
             browser.audit("%s, %s" % (name, look), drawings=2)
     browser.look()
     keyboard(browser.driver, 6, "the report")
-    for name, most in ((FERRY, 16), ("container-ship", 25), ("printed", 8)):
+    for name, most in ((FERRY, 18), ("container-ship", 25), ("printed", 8)):
         paper(browser, browser.scratch / (name + ".html"), most)
 
 

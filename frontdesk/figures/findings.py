@@ -120,8 +120,10 @@ class Findings:
 
     @property
     def input_name(self):
-        """What was read, as a command names it: no option, whatever it begins with."""
+        """What was read, as a command names it: no option, whatever it begins with. CSV files that a browser sent have no folder's name."""
         file = self.ship.source.file or "FILE"
+        if file == self.ship.source.form == "CSV files":
+            return "FOLDER"
         return shlex.quote("./" + file if file.startswith("-") else file)
 
     @property

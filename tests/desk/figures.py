@@ -204,6 +204,7 @@ def commands():
     printed = casefile.parse(dict(seeds.examples())["printed"])
     for file, form, wanted in (
         ("-x.case", "case file", ("sha256sum ./-x.case", "./damindex < ./-x.case")), ("a < b.case", "case file", ("sha256sum 'a < b.case'", "./damindex < 'a < b.case'")),
+        ("CSV files", "CSV files", ("./desk case FOLDER -o ship.case", "sha256sum ship.case", "./damindex < ship.case")),
         ("-x.xlsx", "workbook", ("./desk case ./-x.xlsx -o ship.case", "sha256sum ship.case", "./damindex < ship.case")),
     ):  # fmt: skip
         found = findings.find(library, replace(printed, source=Source(file=file, form=form)))

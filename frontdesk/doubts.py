@@ -68,20 +68,19 @@ def unseen(ship):
 
 
 def hull(ship):
-    built = "ships are built with %s to %s times: is one of the two mistyped?"
-    texts = [*ratio(ship.length, ship.breadth, LENGTH_TO_BREADTH, "Ls is %s times B, and " + built),
-             *ratio(10 * ship.breadth, ship.deepest, BREADTH_TO_DRAUGHT, "B is %s times the deepest draught, and " + built)]
+    built, place = "ships are built with %s to %s times: is one of the two mistyped?", ship.ship_place
+    yield from ratio(ship.length, ship.breadth, LENGTH_TO_BREADTH, "Ls is %s times B, and " + built, place)
+    yield from ratio(10 * ship.breadth, ship.deepest, BREADTH_TO_DRAUGHT, "B is %s times the deepest draught, and " + built, place)
     if ship.deepest == ship.light:
-        texts.append("The light draught is the deepest one, so that all three are the same: was the light service draught left out?")
+        yield Doubt("The light draught is the deepest one, so that all three are the same: was the light service draught left out?", place, "ship")
     if ship.type == PASSENGER and not ship.lifeboats + ship.excess:
-        texts.append("This is a passenger ship with no persons at all, and R rises with them: were they left out?")
-    return [Doubt(text, ship.ship_place, "ship") for text in texts]
+        yield Doubt("This is a passenger ship with no persons at all, and R rises with them: were they left out?", place, "ship")
 
 
-def ratio(part, whole, bounds, text):
+def ratio(part, whole, bounds, text, place):
     least, most = bounds
     if not least * whole <= part <= most * whole:
-        yield text % (cut(part, 2, whole), cut(least, 1), most)
+        yield Doubt(text % (cut(part, 2, whole), cut(least, 1), most), place, "ship")
 
 
 def zones(ship):

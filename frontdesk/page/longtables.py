@@ -30,8 +30,8 @@ def _damage(case, ship, anchor):
     name = ' <span class=name dir=auto>%s</span>' % escape(row.name) if row.name else ""
     zones = row.first if row.count == 1 else "%d–%d" % (row.first, row.first + row.count - 1)
     half, top = row.depth == ship.half_breadth, row.height == ship.top
-    return "<th scope=rowgroup rowspan=3>%s<br><span class=at>%s</span></th><td rowspan=3 class=zones>%s%s</td><td rowspan=3>%s%s</td><td rowspan=3>%s%s</td>" % (
-        number, row.place or DASH, zones, name, wording.metres(row.depth), "<br>B/2" if half else "", wording.fine_metres(row.height), "<br>top" if top else "")
+    first = '<th scope=rowgroup rowspan=3>%s<br><span class=at>%s</span></th><td rowspan=3 class=zones>%s%s</td>' % (number, row.place or DASH, zones, name)
+    return first + OVER % (wording.metres(row.depth) + "<br>B/2" * half) + OVER % (wording.fine_metres(row.height) + "<br>top" * top)
 
 
 def stacked(texts):

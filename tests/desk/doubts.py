@@ -66,8 +66,10 @@ def small(length=10_000, breadth=2_000, deepest=6_000, light=None, bulkheads=(2_
 
 
 def zones():
-    warns("a short zone", small(bulkheads=(99, 3_000, 6_000, 8_000)), "Zone 1 is 0.99 m long, 0.9 per cent", "zones, row 2", small(bulkheads=(100, 3_000, 6_000, 8_000)))
-    warns("a long zone", small(bulkheads=(3_000, 5_000, 6_499)), "Zone 4 is 35.01 m long, 35.0 per cent", "zones, row 5", small(bulkheads=(3_000, 5_000, 6_500)))
+    warns("a short zone", small(bulkheads=(99, 3_000, 6_000, 8_000)), "Zone 1 is 0.99 m long, 0.9 per cent", "zones, row 2",
+          small(bulkheads=(100, 3_000, 6_000, 8_000)))
+    warns("a long zone", small(bulkheads=(3_000, 5_000, 6_499)), "Zone 4 is 35.01 m long, 35.0 per cent", "zones, row 5",
+          small(bulkheads=(3_000, 5_000, 6_500)))
     tally.same([doubt for doubt in doubted(small(bulkheads=(5_000, 6_000))) if doubt.sheet == "zones"], [], "of three zones one is long for that reason alone")
     rows = b"zone,aft m,forward m\n5,80,100\n\n4,60,80\n3,30,60\n2,0.99,30\n1,0,0.99\n"  # from forward aft, and one that is empty
     files = commas.written(tables.sheets_of(small(rows=[given(1, 1, 1_000, 18_500, 2)], light=6_000)))

@@ -1,5 +1,6 @@
 """What the desk is handed: files of every kind told apart by content, refusals in words, CSV files that are not as they should be, and empty workbooks."""
 
+import io
 import sys
 import tempfile
 from pathlib import Path
@@ -48,7 +49,8 @@ def neither(tally):
                               (b"<html>", "this is a web page", "x"), (b"zone,name\n1,a\n", "this is a single CSV file", "zones.csv"),
                               (b"zone;name\n", "this is a single CSV file", "x"), (b"zone\tname\n", "this is a table with tabs between its columns", "x"),
                               ("zone\tname".encode("utf-16"), "this is a text in UTF-16", "zones.txt"),
-                              ("zone".encode("utf-16-be"), "this is a text in UTF-16", "zones.txt"), (bytes(range(256)), "this is no file that the desk can read", "x"),
+                              ("zone".encode("utf-16-be"), "this is a text in UTF-16", "zones.txt"),
+                              (bytes(range(256)), "this is no file that the desk can read", "x"),
                               (b"7" * 20_000_001, "the file has more than 20 MB", "x"), (b"0" * 70_000, "found more than 65536 bytes", "x")):
         begins(tally, data, "%s: %s" % (name, words), name=name)
 
@@ -146,6 +148,27 @@ def empty_workbooks(tally):
             tally.same(str(found), "found %d zones; expected 1 to 20." % zones, "zones")
 
 
+def set_up(tally):
+    """How an empty workbook meets its reader: headings that stay, drop-downs, columns wide enough for each word, and pages that can be read."""
+    from openpyxl import load_workbook
+    for type, wide in (("", 3), ("cargo", 2), ("passenger", 2)):
+        book = load_workbook(io.BytesIO(blank.book(20, type)))
+        lists = {rule.formula1 for sheet in book for rule in sheet.data_validations.dataValidation if rule.type == "list"}
+        wanted = {'"cargo,passenger"'} | ({'"earlier,2020"', '"yes,no"'} if type != "cargo" else set())
+        tally.same(lists, wanted, "drop-downs of %s" % (type or "either type"))
+        tally.same([sheet.freeze_panes for sheet in book], ["A2", "A2", "E2", "A2"], "headings stay in sight")
+        for sheet in book:
+            paper = sheet.page_setup.orientation, sheet.page_setup.paperSize, sheet.sheet_properties.pageSetUpPr.fitToPage, sheet.print_title_rows
+            tally.same(paper, ("landscape", 9, True, "$1:$1"), "%s is printed across on A4, its headings on each page" % sheet.title)
+        tally.same([sheet.page_setup.fitToWidth for sheet in book], [1, 1, wide, 1], "pages across")
+        tally.same(book["cases"].print_title_cols, "$A:$D", "the damage stands on each page")
+        cut = [cell.value for sheet in book for cell in sheet[1] if max(map(len, cell.value.split())) + 1 > sheet.column_dimensions[cell.column_letter].width]
+        tally.same(cut, [], "no word of a heading is wider than its column")
+        notes = book["notes"]
+        low = [row[3].value for row in notes.iter_rows(min_row=2) if notes.row_dimensions[row[0].row].height < 15 * (1 + len(row[3].value) // 121)]
+        tally.same(low, [], "no note is higher than its row")
+
+
 def without_openpyxl(tally):
     """CSV and case files are read where the library for workbooks is missing; workbooks are told what to install."""
     book, files = cargo().bytes(), commas.written(tables.sheets_of(casefile.parse(COASTER)))
@@ -160,6 +183,6 @@ def without_openpyxl(tally):
 
 if __name__ == "__main__":
     tally = Tally()
-    for test in (kinds, neither, refused, every_refusal, csv_files, empty_workbooks, without_openpyxl):
+    for test in (kinds, neither, refused, every_refusal, csv_files, empty_workbooks, set_up, without_openpyxl):
         test(tally)
     sys.exit(tally.close())

@@ -2,7 +2,6 @@
 
 from markupsafe import Markup, escape
 
-from frontdesk.figures import reasons
 from frontdesk.page import wording
 from frontdesk.figures.decimals import HEIGHTS, SURVIVALS, cut
 from frontdesk.ship import DRAUGHTS, PASSENGER
@@ -14,13 +13,6 @@ DASH = "–"
 
 def survival(ten_thousandths):
     return {0: "0", SURVIVALS: "1"}.get(ten_thousandths) or cut(ten_thousandths, 4, SURVIVALS)
-
-
-def held_by(found):
-    return ", ".join(SHORT[reason] for reason in found)
-
-
-SHORT = {reason: reason for reason in reasons.REASONS} | {reasons.STAGE: "stage or moment"}
 
 
 def _damage(case, ship, anchor):
@@ -51,7 +43,7 @@ def outcomes(findings):
         parts.append("<tbody id=case-%d><tr>%s%s" % (case.number, _damage(case, findings.ship, True), share))
         for i, (at, draught) in enumerate(zip(case.at, DRAUGHTS)):
             parts.append("<th scope=row>%s</th><td>%s</td><td>%s</td><td>%s</td><td class=why>%s</td><td>%s</td><td>%s</td>" % (
-                draught, cut(at.v, 6, HEIGHTS), survival(at.bottom), survival(at.top), held_by(at.reasons),
+                draught, cut(at.v, 6, HEIGHTS), survival(at.bottom), survival(at.top), ", ".join(at.reasons),
                 wording.billionths(at.worth.adds.lower), wording.billionths(at.worth.adds.upper)))
             if i == 0:
                 parts.append(OVER % of_all(case.whole))

@@ -17,6 +17,7 @@ sys.path.insert(0, str(Path(__file__).resolve().parent))
 import seeds  # noqa: E402
 from frontdesk.reading import binding, casefile, commas, tables  # noqa: E402
 from selenium import webdriver  # noqa: E402
+from selenium.common.exceptions import WebDriverException  # noqa: E402
 from selenium.webdriver.chrome.service import Service  # noqa: E402
 from selenium.webdriver.common.action_chains import ActionChains  # noqa: E402
 from selenium.webdriver.common.by import By  # noqa: E402
@@ -44,8 +45,8 @@ class Browser:
             options.add_argument(word)
         options.add_experimental_option("prefs", {"download.default_directory": str(scratch / "downloads")})
         options.set_capability("goog:loggingPrefs", {"performance": "ALL", "browser": "ALL"})
-        self.scratch, self.desk = scratch, subprocess.Popen([str(ROOT / "desk"), "serve", "--port", "0"], stdout=subprocess.PIPE)
         self.driver = webdriver.Chrome(service=Service(shutil.which("chromedriver")), options=options)
+        self.scratch, self.desk = scratch, subprocess.Popen([str(ROOT / "desk"), "serve", "--port", "0"], stdout=subprocess.PIPE)
         self.driver.set_page_load_timeout(30)
         self.address = re.search(r"http://\S+", self.desk.stdout.readline().decode()).group()
 
@@ -246,19 +247,13 @@ def pictures(browser, folder):
         (folder / name).write_bytes(base64.b64decode(shot["data"]))
 
 
-def main():
-    words = argparse.ArgumentParser(description=__doc__)
-    words.add_argument("--pictures", type=Path, metavar="DIR", help="takes the README's pictures into a folder, and tests nothing else")
-    words.add_argument("--keep", type=Path, metavar="DIR", help="keeps pages and the printed report in a folder")
-    words.add_argument("--times", action="store_true", help="tells how long each look took")
-    asked = words.parse_args()
-    scratch = Path(tempfile.mkdtemp(prefix="browser."))
+def tried(asked, scratch):
+    """Everything that is asked of the browser, or the pictures alone."""
     browser = Browser(scratch)
     try:
         written(scratch)
         if asked.pictures:
-            pictures(browser, asked.pictures)
-            return tally.close()
+            return pictures(browser, asked.pictures)
         uploads(browser)
         elsewhere = [url for url in browser.requests() if not url.startswith((browser.address, "data:", "chrome:", "about:"))]
         tally.same(elsewhere, [], "nothing is asked for elsewhere")
@@ -272,7 +267,24 @@ def main():
             shutil.copytree(scratch, asked.keep, dirs_exist_ok=True, ignore=shutil.ignore_patterns("profile"))
     finally:
         browser.close()
-        shutil.rmtree(scratch, ignore_errors=True)
+
+
+def main():
+    words = argparse.ArgumentParser(description=__doc__)
+    words.add_argument("--pictures", type=Path, metavar="DIR", help="takes the README's pictures into a folder, and tests nothing else")
+    words.add_argument("--keep", type=Path, metavar="DIR", help="keeps pages and the printed report in a folder")
+    words.add_argument("--times", action="store_true", help="tells how long each look took")
+    asked = words.parse_args()
+    for again in (True, False):
+        with tempfile.TemporaryDirectory(prefix="browser.", ignore_cleanup_errors=True) as scratch:
+            try:
+                tried(asked, Path(scratch))
+                break
+            except WebDriverException as fault:  # the browser has died, which says nothing of the desk: once more from the start, and only once
+                print("the browser ended:", str(fault).splitlines()[0], file=sys.stderr)
+                if not again:
+                    raise
+                tally.passed = 0
     return tally.close()
 
 

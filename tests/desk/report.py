@@ -79,7 +79,7 @@ def held_down(row, i, marked):
         (result, stage), (Second(5_000, 9_000, 0, 30_000), stage), (result, Stage(300_000, 1, 5_000, 9_000, 0, stage.roro))))
     staged = unmoved != now
     marked = marked if upright != now or not staged else []
-    return marked + ["stage or moment"] if staged or not marked else marked
+    return marked + ["stage"] if staged or not marked else marked
 
 
 def stages():

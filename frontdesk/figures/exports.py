@@ -5,13 +5,13 @@ import io
 from decimal import Decimal
 
 from frontdesk.figures import reasons
-from frontdesk.outputs import LIKE_FORMULAS
-from frontdesk.reading.binding import WRITTEN, repacked
 from frontdesk.figures.decimals import BILLION, SURVIVALS, TENTHS, exact, text_of
 from frontdesk.figures.engine import FAILS, MEETS, UNSETTLED
+from frontdesk.outputs import LIKE_FORMULAS
+from frontdesk.reading.binding import WRITTEN, repacked
 from frontdesk.reading.sheets import letters
-from frontdesk.ship import DRAUGHTS
 from frontdesk.reading.workbook import openpyxl_or_words
+from frontdesk.ship import DRAUGHTS
 
 VERDICTS = {MEETS: "meets", FAILS: "fails", UNSETTLED: "unsettled"}
 PARTS = ("could add", "adds", "loss")  # as a Worth has them

@@ -8,12 +8,12 @@ from functools import cached_property
 from itertools import groupby
 from typing import NamedTuple
 
-from frontdesk.reading import casefile
 from frontdesk.figures.decimals import BILLION, SURVIVALS, nearer
 from frontdesk.figures.engine import FAILS, MEETS, UNSETTLED
-from frontdesk.ship import DRAUGHTS, PASSENGER, Ship
 from frontdesk.figures.twin import twin, without_final, without_stages
 from frontdesk.figures.worth import Ends, Summed, added, cased, caused, counted, grouped, summed
+from frontdesk.reading import casefile
+from frontdesk.ship import DRAUGHTS, PASSENGER, Ship
 
 INDICES = ("A", "As", "Ap", "Al")
 STATUSES = {MEETS: 0, FAILS: 1, UNSETTLED: 3}

@@ -2,8 +2,8 @@
 
 from markupsafe import Markup, escape
 
-from frontdesk.page import wording
 from frontdesk.figures.decimals import HEIGHTS, SURVIVALS, cut
+from frontdesk.page import wording
 from frontdesk.ship import DRAUGHTS, PASSENGER
 
 LINES = "<th scope=row>%s</th>"

@@ -1,9 +1,9 @@
 """From findings to the plain numbers that the drawings are made of."""
 
-from frontdesk.page import wording
 from frontdesk.figures.decimals import BILLION, cut
-from frontdesk.page.drawings import bars, gauge, sections, triangle, views
 from frontdesk.figures.engine import FAILS, MEETS
+from frontdesk.page import wording
+from frontdesk.page.drawings import bars, gauge, sections, triangle, views
 from frontdesk.ship import DRAUGHTS
 
 WORST = 3  # groups with a letter in the zone diagram and a half section

@@ -6,11 +6,11 @@ from pathlib import Path
 from jinja2 import Environment, FileSystemLoader, StrictUndefined
 
 from frontdesk.figures import reasons
-from frontdesk.page import longtables, pictures, wording
 from frontdesk.figures.decimals import cut, lifted, nearer
+from frontdesk.figures.slip import HOW, NOT_PROVED
+from frontdesk.page import longtables, pictures, wording
 from frontdesk.page.drawings.pen import Area, Box, Line, Text, tenths
 from frontdesk.ship import DRAUGHTS, PASSENGER
-from frontdesk.figures.slip import HOW, NOT_PROVED
 
 TEMPLATES = Path(__file__).resolve().parent / "templates"
 LOSSES = 15  # cases in the list of where the index is lost

@@ -1,13 +1,13 @@
 """An empty workbook for a ship that is still to be entered: headings, units, notes, drop-downs, and the groups of up to three zones in the file's order."""
 
 from frontdesk.reading.binding import bound
-from frontdesk.reading.columns import (AFT, BEYOND, BREADTH, CASE, CASES, DEEPEST, DEPTH, FIRST, FLOODING, FORWARD, GIVEN, GROUP, HEIGHT, LENGTH, LIFEBOATS, LIGHT,
-                               NAME, OF_PART, OF_SHEET, PARTS, RULE, SECOND, SHIP, TYPE, ZONE, ZONE_NAME, ZONES)
+from frontdesk.reading.columns import (AFT, BEYOND, BREADTH, CASE, CASES, DEEPEST, DEPTH, FIRST, FLOODING, FORWARD, GIVEN, GROUP, HEIGHT, LENGTH, LIFEBOATS,
+                                       LIGHT, NAME, OF_PART, OF_SHEET, PARTS, RULE, SECOND, SHIP, TYPE, ZONE, ZONE_NAME, ZONES)
 from frontdesk.reading.hullsheets import MOST_ZONES
 from frontdesk.reading.mistakes import of_the_file
 from frontdesk.reading.sheets import laid_out
-from frontdesk.ship import CARGO, PASSENGER
 from frontdesk.reading.units import plain
+from frontdesk.ship import CARGO, PASSENGER
 
 MOST_IN_A_GROUP = 3
 

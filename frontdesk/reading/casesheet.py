@@ -6,8 +6,8 @@ from dataclasses import replace
 
 from frontdesk.reading.columns import CASE, DEPTH, FIRST, FLOODING, GIVEN, GROUP, HEIGHT, OF_PART, PARTS, SECOND
 from frontdesk.reading.layers import check_layers
-from frontdesk.ship import CARGO, NO_OPENING, PASSENGER, TOP_ABOVE_DEEPEST, Flooding, Result, Row
 from frontdesk.reading.units import in_words, is_blank
+from frontdesk.ship import CARGO, NO_OPENING, PASSENGER, TOP_ABOVE_DEEPEST, Flooding, Result, Row
 
 MONTH = r"[^\W0-9]{3,9}\.?"
 DATE = re.compile(r"[0-9]{1,2}[-. ]+%s(?:[-. ]+[0-9]{2,4})?|%s[-. ]+[0-9]{1,4}|[0-9]{1,4}[-./][0-9]{1,2}[-./][0-9]{2,4}" % (MONTH, MONTH))

@@ -4,8 +4,8 @@ import difflib
 import re
 from dataclasses import dataclass, replace
 
-from frontdesk.ship import CARGO, DRAUGHTS, PASSENGER
 from frontdesk.reading.units import DOWN, EXACT, UP, plain
+from frontdesk.ship import CARGO, DRAUGHTS, PASSENGER
 
 SHIP, ZONES, CASES, NOTES = "ship", "zones", "cases", "notes"
 SHEETS = (SHIP, ZONES, CASES)

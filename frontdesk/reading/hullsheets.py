@@ -3,10 +3,10 @@
 from dataclasses import dataclass, replace
 from typing import Optional
 
-from frontdesk.reading.columns import (AFT, BEYOND, BREADTH, CARGO_BREADTH, CARGO_LENGTH, DEEPEST, FORWARD, LENGTH, LIFEBOATS, LIGHT, NAME, OF_SHEET, RULE, SHIP, TYPE,
-                               ZONE, ZONE_NAME, ZONES)
-from frontdesk.ship import CARGO, PASSENGER, RULES
+from frontdesk.reading.columns import (AFT, BEYOND, BREADTH, CARGO_BREADTH, CARGO_LENGTH, DEEPEST, FORWARD, LENGTH, LIFEBOATS, LIGHT, NAME, OF_SHEET, RULE,
+                                       SHIP, TYPE, ZONE, ZONE_NAME, ZONES)
 from frontdesk.reading.units import plain
+from frontdesk.ship import CARGO, PASSENGER, RULES
 
 MOST_ZONES = 20
 NOT_JUDGED = range(1_351, 6_001)  # persons under the rule of 2020 whose R has a logarithm

@@ -5,8 +5,8 @@ from itertools import groupby
 from frontdesk.reading.casefile import LONGEST, MOST_ROWS
 from frontdesk.reading.columns import CASES, DEPTH, GROUP, HEIGHT
 from frontdesk.reading.mistakes import Mistake
-from frontdesk.ship import PASSENGER, TOP_ABOVE_DEEPEST
 from frontdesk.reading.units import plain
+from frontdesk.ship import PASSENGER, TOP_ABOVE_DEEPEST
 
 PASSENGER_LINE = 153  # bytes of a passenger ship's row in the file
 

@@ -2,12 +2,12 @@
 
 from frontdesk.reading import casefile
 from frontdesk.reading.casefile import CARGO_HULL, END, GIVEN, LENGTHS, PASSENGER_HULL, PASSENGERS, RESULTS, TWO_SETS
+from frontdesk.reading.columns import (BEYOND, BREADTH, CARGO_BREADTH, CARGO_LENGTH, CASES, DEEPEST, DEPTH, FIRST, FLOODING, HEIGHT, LENGTH, LIFEBOATS, LIGHT,
+                                       OF_PART, RULE, SECOND)
 from frontdesk.reading.columns import GIVEN as GIVEN_PART
-from frontdesk.reading.columns import (BEYOND, BREADTH, CARGO_BREADTH, CARGO_LENGTH, CASES, DEEPEST, DEPTH, FIRST, FLOODING, HEIGHT, LENGTH, LIFEBOATS, LIGHT, OF_PART,
-                               RULE, SECOND)
 from frontdesk.reading.mistakes import Mistake, Refused
-from frontdesk.ship import TOP_ABOVE_DEEPEST
 from frontdesk.reading.units import plain
+from frontdesk.ship import TOP_ABOVE_DEEPEST
 
 KINDS = {RESULTS: "results", GIVEN: "given survivals", TWO_SETS: "two sets of results", PASSENGERS: "a passenger ship's results", END: "the end"}
 TOO_LONG, NOT_HEXADECIMAL, WRONG_FRAME, HULL_LIMITS, ZONES, ROW_COUNT, ROW_LIMITS, ROW_ORDER, NOT_CLOSED, END_FRAME, BAND = 1, 2, 3, 4, 5, 6, 7, 8, 9, 10, 13

@@ -4,13 +4,13 @@ from pathlib import Path
 
 from frontdesk.reading import commas, workbook
 from frontdesk.reading.casesheet import read_cases
-from frontdesk.reading.columns import (AFT, BEYOND, BREADTH, CASE, CASES, DEEPEST, DEPTH, FIRST, FLOODING, FORWARD, GIVEN, GROUP, HEIGHT, LENGTH, LIFEBOATS, LIGHT,
-                               NAME, OF_PART, OF_SHEET, RULE, SECOND, SHIP, TYPE, ZONE, ZONE_NAME, ZONES)
+from frontdesk.reading.columns import (AFT, BEYOND, BREADTH, CASE, CASES, DEEPEST, DEPTH, FIRST, FLOODING, FORWARD, GIVEN, GROUP, HEIGHT, LENGTH, LIFEBOATS,
+                                       LIGHT, NAME, OF_PART, OF_SHEET, RULE, SECOND, SHIP, TYPE, ZONE, ZONE_NAME, ZONES)
 from frontdesk.reading.hullsheets import read_ship, read_zones
 from frontdesk.reading.layers import zones
 from frontdesk.reading.sheets import Ledger, Table, laid_out
-from frontdesk.ship import NO_OPENING, PASSENGER, RULES, Ship, Source
 from frontdesk.reading.units import decimal
+from frontdesk.ship import NO_OPENING, PASSENGER, RULES, Ship, Source
 
 
 def read(source, name="", against=False):

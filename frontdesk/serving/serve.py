@@ -14,9 +14,9 @@ from urllib.parse import quote, urlsplit
 
 from frontdesk import enquiry, outputs
 from frontdesk.page import report
+from frontdesk.reading.mistakes import Mistakes, of_the_file
 from frontdesk.serving import uploads
 from frontdesk.studies import crew
-from frontdesk.reading.mistakes import Mistakes, of_the_file
 
 ADDRESS = "127.0.0.1"
 LARGEST = 4_000_000  # bytes of an upload: a workbook of 500 rows has a fortieth of it

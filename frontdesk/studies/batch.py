@@ -10,9 +10,9 @@ import time
 from collections import Counter
 
 from frontdesk import outputs
+from frontdesk.reading.mistakes import of_the_file
 from frontdesk.studies import crew
 from frontdesk.studies.lines import CASE, CSV_NAMES, FOLDER, HEADINGS, NO_STAMP, VERDICTS, WORKBOOK, Lines, failed, listed, stamp_of
-from frontdesk.reading.mistakes import of_the_file
 
 ENDINGS = {".case": CASE, ".xlsx": WORKBOOK, ".xlsm": WORKBOOK}
 CHUNK = 64  # case files that a process is handed at a time; of the others one

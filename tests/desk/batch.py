@@ -18,8 +18,8 @@ sys.path.insert(0, str(Path(__file__).resolve().parent))
 import seeds  # noqa: E402
 from frontdesk.figures import engine  # noqa: E402
 from frontdesk.reading import binding, casefile, commas, tables  # noqa: E402
-from frontdesk.studies import batch, crew, lines  # noqa: E402
 from frontdesk.reading.mistakes import Mistakes  # noqa: E402
+from frontdesk.studies import batch, crew, lines  # noqa: E402
 from tally import Tally  # noqa: E402
 
 ROOT = seeds.ROOT

@@ -12,7 +12,7 @@ import seeds  # noqa: E402
 from frontdesk import doubts  # noqa: E402
 from frontdesk.figures import engine, findings  # noqa: E402
 from frontdesk.reading import casefile, commas, tables  # noqa: E402
-from frontdesk.ship import NO_OPENING, Result, Row, Source  # noqa: E402
+from frontdesk.ship import NO_OPENING, Result, Row  # noqa: E402
 from tally import Tally  # noqa: E402
 
 tally = Tally()

@@ -8,9 +8,9 @@ sys.path.insert(0, str(Path(__file__).resolve().parent))
 import seeds  # noqa: E402
 from frontdesk.figures import engine, findings  # noqa: E402
 from frontdesk.page import pictures  # noqa: E402
-from frontdesk.reading import casefile  # noqa: E402
 from frontdesk.page.drawings import bars, gauge, pen, sections, triangle  # noqa: E402
 from frontdesk.page.drawings.pen import Area, Box, Line  # noqa: E402
+from frontdesk.reading import casefile  # noqa: E402
 from tally import Tally  # noqa: E402
 
 RANDOM = 60  # ships of each type

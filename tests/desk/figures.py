@@ -11,8 +11,8 @@ sys.path.insert(0, str(Path(__file__).resolve().parent))
 
 import seeds  # noqa: E402
 from frontdesk.figures import decimals, engine, exports, findings, reasons  # noqa: E402
-from frontdesk.reading import casefile  # noqa: E402
 from frontdesk.page import report  # noqa: E402
+from frontdesk.reading import casefile  # noqa: E402
 from frontdesk.ship import Flooding, Result, Row, Source  # noqa: E402
 from independent import answer, reading  # noqa: E402
 from markupsafe import escape  # noqa: E402
@@ -203,7 +203,8 @@ def commands():
     """The commands that do it again, for names that a shell or a command would take for something else; and a listed group that no damage reaches."""
     printed = casefile.parse(dict(seeds.examples())["printed"])
     for file, form, wanted in (
-        ("-x.case", "case file", ("sha256sum ./-x.case", "./damindex < ./-x.case")), ("a < b.case", "case file", ("sha256sum 'a < b.case'", "./damindex < 'a < b.case'")),
+        ("-x.case", "case file", ("sha256sum ./-x.case", "./damindex < ./-x.case")),
+        ("a < b.case", "case file", ("sha256sum 'a < b.case'", "./damindex < 'a < b.case'")),
         ("CSV files", "CSV files", ("./desk case FOLDER -o ship.case", "sha256sum ship.case", "./damindex < ship.case")),
         ("-x.xlsx", "workbook", ("./desk case ./-x.xlsx -o ship.case", "sha256sum ship.case", "./damindex < ship.case")),
     ):  # fmt: skip

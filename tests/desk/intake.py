@@ -110,7 +110,8 @@ def csv_files(tally):
              'cases, row 1, "lever m": this heading is not known. In a CSV file a heading with a comma stands in quotation marks.'),
             ("Ship.csv", b"name", "found ship.csv and Ship.csv; expected one file ship.csv."),
             ("cases.csv", cases.replace(b"b m", b"\x1b[2Jb m", 1), 'cases, row 1, "?[2Jb m": this heading is not known.'),
-            ("cases.csv", cases.replace(b",0.1,", b',"0,125",', 1), 'cases, row 2, "lever m, deepest": found "0,125"; expected 0 to 5 m. Write the decimal comma as'),
+            ("cases.csv", cases.replace(b",0.1,", b',"0,125",', 1),
+             'cases, row 2, "lever m, deepest": found "0,125"; expected 0 to 5 m. Write the decimal comma as'),
             ("cases.csv", cases.replace(b",0.1,", b',"0,1",', 1), 'cases, row 2, "lever m, deepest": found "0,1"; expected 0 to 5 m. Write the decimal comma')):
         begins(tally, {**good, file: content}, words)
     windows = {name: b"\xef\xbb\xbf" + content.replace(b"\n", b"\r\n") for name, content in good.items()}

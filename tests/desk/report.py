@@ -12,10 +12,10 @@ sys.path.insert(0, str(Path(__file__).resolve().parent))
 
 import pages  # noqa: E402
 import seeds  # noqa: E402
+from frontdesk.doubts import Doubt  # noqa: E402
 from frontdesk.figures import engine, findings, slip, twin  # noqa: E402
 from frontdesk.page import report  # noqa: E402
 from frontdesk.reading import casefile  # noqa: E402
-from frontdesk.doubts import Doubt  # noqa: E402
 from frontdesk.ship import DRAUGHTS, Flooding, Result, Source  # noqa: E402
 from independent.casefile import Result as Second, Stage  # noqa: E402
 from independent.regulation import passenger_s_fourth  # noqa: E402

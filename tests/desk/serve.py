@@ -19,8 +19,8 @@ import seeds  # noqa: E402
 from frontdesk import enquiry  # noqa: E402
 from frontdesk.figures import engine  # noqa: E402
 from frontdesk.reading import binding, casefile, commas, tables  # noqa: E402
-from frontdesk.serving import serve, uploads  # noqa: E402
 from frontdesk.reading.mistakes import Mistakes  # noqa: E402
+from frontdesk.serving import serve, uploads  # noqa: E402
 from tally import Tally  # noqa: E402
 
 ROOT = seeds.ROOT

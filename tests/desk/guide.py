@@ -86,7 +86,7 @@ def check_warnings(text):
     for rows in cells(text, r"the warning \| what to do") or [[]]:
         for told, _ in rows:
             tally.that(are_said(told, words), "the desk warns: " + told)
-        doubts = len(re.findall(r"yield (?:Doubt|gathered)\(|\*ratio\(|texts\.append\(", words))
+        doubts = len(re.findall(r"yield (?:Doubt|gathered)\(|yield from ratio\(", words)) - 1  # that of ratio itself is there for each call
         tally.same(len(rows), doubts, "as many lines as there are doubts")
 
 

@@ -11,7 +11,7 @@ from typing import NamedTuple
 from frontdesk.figures.decimals import BILLION, SURVIVALS, nearer
 from frontdesk.figures.engine import FAILS, MEETS, UNSETTLED
 from frontdesk.figures.twin import twin, without_final, without_stages
-from frontdesk.figures.worth import Ends, Summed, added, cased, caused, counted, grouped, summed
+from frontdesk.figures.worth import Ends, Grouped, Summed, added, cased, caused, counted, grouped, summed
 from frontdesk.reading import casefile
 from frontdesk.ship import DRAUGHTS, PASSENGER, Ship
 
@@ -62,7 +62,7 @@ class Check(NamedTuple):
 
 
 @dataclass(frozen=True)
-class Findings:
+class Findings(Grouped):
     ship: Ship
     data: bytes  # the case file
     version: str  # the library's
@@ -93,15 +93,6 @@ class Findings:
         """The cases at which something is lost, the greatest loss first."""
         lossy = (case for case in self.cases if case.whole.loss.upper)
         return sorted(lossy, key=lambda case: (-case.whole.loss.lower, -case.whole.loss.upper, case.number))
-
-    @property
-    def missing(self):
-        return tuple(group for group in self.groups if group.missing)
-
-    @property
-    def missing_most(self):
-        """What all missing groups could add at most, to A and to each partial index, billionths."""
-        return sum(group.share.upper for group in self.missing)
 
     @cached_property
     def counts(self):

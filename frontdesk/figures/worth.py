@@ -96,8 +96,21 @@ class Group(Summed):
         return self.share.lower > 0
 
 
+class Grouped:
+    """What has groups: those of them that are missing."""
+
+    @property
+    def missing(self):
+        return tuple(group for group in self.groups if group.missing)
+
+    @property
+    def missing_most(self):
+        """What they could add at most, to A and to each partial index, billionths."""
+        return sum(group.share.upper for group in self.missing)
+
+
 @dataclass(frozen=True)
-class Count(Summed):
+class Count(Summed, Grouped):
     """All groups of so many zones."""
 
     zones: int
@@ -107,14 +120,6 @@ class Count(Summed):
     @property
     def listed(self):
         return tuple(group for group in self.groups if group.listed)
-
-    @property
-    def missing(self):
-        return tuple(group for group in self.groups if group.missing)
-
-    @property
-    def missing_most(self):
-        return sum(group.share.upper for group in self.missing)
 
     @property
     def kept(self):

@@ -25,6 +25,7 @@ pub fn put_required(h: Hull, out: &mut [u64])
     out[3] = mark.den;
 }
 
+// The two ends of a share.
 pub fn put_ends(e: Ends, out: &mut [u64], at: usize)
     requires { ⌜ at + 2 ≤ length (now out) ⌝ }
     ensures { λ _. ⌜ now (out .exit) ≡ sets (now (out .entry)) at (e .lower ∷ e .upper ∷ []) ⌝ }

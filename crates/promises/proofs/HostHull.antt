@@ -1,5 +1,6 @@
 -- What a host gets of an accepted file's hull: the numbers of R and the mark, and of each group, whose exact share lies between its two. Assumes nothing.
 use Prim.Native.Nat.{ℕ, _*_, _/_, _^_, _≤_}
+use mathlib.Core.List.{List, []}
 use mathlib.Core.Path.{_≡_, refl}
 use mathlib.Core.Bool.{true}
 use native.Mathlib.Nat.{le-of-eq}
@@ -32,18 +33,24 @@ use Rattle.casefile.proofs.Limits.{sizes-are}
 use Rattle.casefile.proofs.Soundness.{sound}
 use Rattle.listing.specs.Hull.{requiredNumbers, groupEnds}
 use Rattle.listing.proofs.HullNumbers.{length-groups, few-groups}
-use Rattle.answers.specs.Report.{requiredIn, groupsIn}
+use Rattle.answers.specs.Report.{rowsIn, requiredIn, groupsIn}
 use Rattle.answers.proofs.ValidCase.{hulled}
 use Rattle.promises.specs.Rows.{groupShare}
 use Rattle.promises.specs.Sheet.{ShareBetween}
-use Rattle.promises.specs.HostHull.{RequiredOf, RequiredTells, GroupsTell, GroupsEnclose, GroupsOfNoShare, longestGroups, GroupsFit, RefusedTellsNothing}
+use Rattle.promises.specs.HostHull.{RequiredOf, RequiredTells, GroupsTell, GroupsEnclose, GroupsOfNoShare, longestGroups, GroupsFit, Untold, RefusedTellsNothing}
 use Rattle.promises.proofs.GroupPlaces.{places-told}
 -- checked first, so that a sentence that is not so is refused at a number
 use Rattle.promises.proofs.WitnessHull.{required-told, pair-between, twenty-zones}
 
+untold : (told : Reading → List ℕ) → ((k l : ℕ) → told (refused k l) ≡ []) → Untold told
+unfolding countIn writtenIn
+untold told none f lent k l e =
+    let t : leb 0 (length lent) ≡ true = le-leb 0 (length lent) (omega arith) in
+    (rw (e, none k l, t) refl, rw (e, none k l, t) refl)
+
 pub refused-tells-nothing : RefusedTellsNothing
-unfolding requiredIn groupsIn countIn writtenIn
-refused-tells-nothing f lent k l e = let t : leb 0 (length lent) ≡ true = le-leb 0 (length lent) (omega arith) in ((rw (e, t) refl, rw (e, t) refl), (rw (e, t) refl, rw (e, t) refl))
+unfolding rowsIn requiredIn groupsIn
+refused-tells-nothing = (untold rowsIn (λ k l. refl), untold requiredIn (λ k l. refl), untold groupsIn (λ k l. refl))
 
 -- ---- R and the mark
 

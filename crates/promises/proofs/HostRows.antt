@@ -1,19 +1,16 @@
--- What a host gets of an accepted file's rows: each one's numbers; and of a refused file none. Assumes nothing.
+-- What a host gets of an accepted file's rows: each one's numbers. Assumes nothing.
 use Prim.Native.Nat.{ℕ, _+_, _*_, _<_}
 use mathlib.Core.Path.{_≡_, refl, sym, _∙_, ap}
-use mathlib.Core.Bool.{true}
 use mathlib.Core.List.{List}
 use native.Mathlib.Omega.{arith}
-use lib.Dec.{lit<, leb}
+use lib.Dec.{lit<}
 use lib.ListN.{length, getD}
-use borrow.Author.Tests.{le-leb}
 use Rattle.records.specs.declared.RowHead.{RowHead}
 use Rattle.records.specs.declared.Survival.{Survival}
 use Rattle.solas.specs.Height.{rowV}
 use Rattle.solas.specs.Index.{draughts}
 use Rattle.survival.specs.Survival.{survivalAt}
 use Rattle.printing.specs.Marks.{markByte}
-use Rattle.printing.specs.Written.{countIn, writtenIn}
 use Rattle.casefile.specs.Record.{Row, Case}
 use Rattle.rows.specs.declared.Standing.{Standing}
 use Rattle.rows.specs.Standing.{nowhere}
@@ -21,14 +18,10 @@ use Rattle.listing.specs.Rows.{rowNumbers, numbersAt, numbersFrom}
 use Rattle.listing.proofs.InNumbers.{length-from}
 use Rattle.answers.specs.Answer.{shares}
 use Rattle.answers.specs.Report.{rowsIn}
-use Rattle.promises.specs.HostRows.{numberOf, RowTold, RowsTell, RefusedTellsNone}
+use Rattle.promises.specs.HostRows.{numberOf, RowTold, RowsTell}
 use Rattle.promises.proofs.OwnNumbers.{there, v-at, survival-at, stood, own-number, own-head, own-share}
 -- checked first, so that a sentence that is not so is refused at a number
 use Rattle.promises.proofs.WitnessHostRows.{told-so}
-
-pub refused-tells-none : RefusedTellsNone
-unfolding rowsIn countIn writtenIn
-refused-tells-none f lent k l e = let t : leb 0 (length lent) ≡ true = le-leb 0 (length lent) (omega arith) in (rw (e, t) refl, rw (e, t) refl)
 
 module _ (c : Case) (i : ℕ) (r : Row) (l : i < length (c .rows)) (e : getD (c .rows) i r ≡ r) where
   abbrev told : List ℕ

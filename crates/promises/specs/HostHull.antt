@@ -1,5 +1,5 @@
 -- What a host gets of an accepted file's hull, number by number: R and the mark of a partial index as fractions, and the share of each group of its zones; and that a
--- refused file leaves what was lent. Assumes nothing.
+-- refused file leaves what was lent, for its rows too. Assumes nothing.
 use Prim.Native.Nat.{ℕ, zero, suc, _+_, _-_, _*_, _^_, _≤_}
 use mathlib.Core.Path.{_≡_}
 use mathlib.Core.List.{List, [], _∷_}
@@ -14,9 +14,9 @@ use Rattle.indices.specs.Exact.{AtAll}
 use Rattle.verdicts.specs.Required.{requiredOf, markOf}
 use Rattle.printing.specs.Written.{countIn, writtenIn}
 use Rattle.casefile.specs.Record.{Case}
-use Rattle.casefile.specs.Reading.{refused, accepted, reading}
+use Rattle.casefile.specs.Reading.{Reading, refused, accepted, reading}
 use Rattle.listing.specs.Hull.{groupEnds}
-use Rattle.answers.specs.Report.{requiredIn, groupsIn}
+use Rattle.answers.specs.Report.{rowsIn, requiredIn, groupsIn}
 use Rattle.promises.specs.Rows.{rowsOf, chances, groupShare, Listed}
 use Rattle.promises.specs.Sheet.{ShareBetween}
 
@@ -110,8 +110,9 @@ longestGroups = 420
 abbrev pub GroupsFit : Type 0
 GroupsFit = (f : List ℕ) → length (groupsIn (reading f)) ≤ longestGroups
 
--- a refused file tells nothing of a hull, and what was lent stays
+-- ---- a refused file tells nothing, of its rows and of its hull, and what was lent stays
+abbrev pub Untold : (Reading → List ℕ) → Type 0
+Untold told = (f lent : List ℕ) (k l : ℕ) → reading f ≡ refused k l → (countIn (told (reading f)) lent ≡ 0) × (writtenIn (told (reading f)) lent ≡ lent)
+
 abbrev pub RefusedTellsNothing : Type 0
-RefusedTellsNothing = (f lent : List ℕ) (k l : ℕ) → reading f ≡ refused k l →
-    ((countIn (requiredIn (reading f)) lent ≡ 0) × (writtenIn (requiredIn (reading f)) lent ≡ lent))
-    × ((countIn (groupsIn (reading f)) lent ≡ 0) × (writtenIn (groupsIn (reading f)) lent ≡ lent))
+RefusedTellsNothing = Untold rowsIn × Untold requiredIn × Untold groupsIn

@@ -1,5 +1,5 @@
 -- What a host gets of an accepted file's rows, twenty numbers each: what each of them is, that what the rows add comes to the partial indices and encloses
--- what each row adds exactly; and that a refused file leaves what was lent. Assumes nothing.
+-- what each row adds exactly. Assumes nothing.
 use Prim.Native.Nat.{ℕ, zero, suc, _+_, _*_, _<_}
 use mathlib.Core.Path.{_≡_}
 use mathlib.Core.List.{List}
@@ -15,9 +15,8 @@ use Rattle.indices.specs.Index.{at, addsOf}
 use Rattle.indices.specs.Exact as exact
 use Rattle.indices.specs.Exact.{weight, rowAt}
 use Rattle.printing.specs.Marks.{markByte}
-use Rattle.printing.specs.Written.{countIn, writtenIn}
 use Rattle.casefile.specs.Record.{Row, Case}
-use Rattle.casefile.specs.Reading.{refused, accepted, reading}
+use Rattle.casefile.specs.Reading.{accepted, reading}
 use Rattle.rows.specs.declared.Standing.{Standing}
 use Rattle.rows.specs.Standing.{nowhere, standings}
 use Rattle.answers.specs.Answer.{answer, shares}
@@ -85,7 +84,3 @@ pub record Encloses (adds : Ends) (r : exact.RowAt) : Type 0 where
 abbrev pub RowsEnclose : Type 0
 RowsEnclose = (f : List ℕ) (c : Case) → reading f ≡ accepted c → (i j : ℕ) (r : exact.Row) → i < length (c .rows) → getD (exactRows (c .hull) nowhere (c .rows)) i r ≡ r → j < 3 →
     Encloses (endsAt (rowsIn (reading f)) i (6 + 6 * j)) (rowAt j r)
-
--- ---- a refused file tells none, and what was lent stays
-abbrev pub RefusedTellsNone : Type 0
-RefusedTellsNone = (f lent : List ℕ) (k l : ℕ) → reading f ≡ refused k l → (countIn (rowsIn (reading f)) lent ≡ 0) × (writtenIn (rowsIn (reading f)) lent ≡ lent)

@@ -1,1 +1,2 @@
 // Theorems only: what the service answers is in specs/, what is proved of it in proofs/.
+#![tactic(auto)]

@@ -1,4 +1,6 @@
 // The chance p of damage within an inner span, exact: one fraction, by bands of the span's length.
+#![tactic(auto)]
+
 ghost use Rattle.std.specs.Prelude.{◌≡◌, ◌^◌, ◌≤◌};
 ghost use Rattle.std.specs.Int.Signed.{mag};
 ghost use Rattle.solas.specs.Span.{p};

@@ -50,6 +50,7 @@ has_it k (x ∷ xs) e = by (eqb k x) refl e (has_it k xs)
 
 -- a list whose numbers another one has
 among : (ys xs : List ℕ) → T (every (λ x. has x ys) xs) → (k : ℕ) → Memᴰ k xs → Memᴰ k ys
+among ys [] t k m = elim m [ ]
 among ys (x ∷ xs) t k (Memᴰ.head e) = Memᴰ.cast e (has_it x ys (holds (has x ys) (both_hold (has x ys) (every (λ x. has x ys) xs) t).0))
 among ys (x ∷ xs) t k (Memᴰ.tail m) = among ys xs (both_hold (has x ys) (every (λ x. has x ys) xs) t).1 k m
 

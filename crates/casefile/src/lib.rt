@@ -1,4 +1,6 @@
 // Theorems only: the case file is in specs/, what is proved of it in proofs/. The values that its judging hands on stand here.
+#![tactic(auto)]
+
 use records::{Hull, RowHead};
 
 // An input has at most so many bytes.

@@ -1,4 +1,6 @@
 // The share of a row, in billionths rounded both ways, from what its group of zones comes to at two penetrations.
+#![tactic(auto)]
+
 ghost use Rattle.std.specs.Prelude.{◌≡◌};
 ghost use Rattle.chances.specs.Share.{Few, row_of};
 

@@ -1,4 +1,6 @@
 // The program: a case file from standard input, of which a byte past the limit is enough to refuse it, and its printed answer.
+#![tactic(auto)]
+
 use casefile::LONGEST_INPUT;
 
 fn main() {

@@ -1,4 +1,6 @@
 // Numbers written as digits at a place of a lent buffer: bytes, the ends of figures, and the line feed.
+#![tactic(auto)]
+
 ghost use Rattle.std.specs.Prelude.{◌≡◌, [], ◌∷◌, ◌+◌, ◌≤◌, ◌<◌, length};
 ghost use Rattle.laws.specs.Bytes.{bytes};
 ghost use Rattle.hexadecimal.specs.Hex.{digit, hex};

@@ -1,4 +1,6 @@
 // Long division in 64 bits: a fraction in billionths, rounded both ways, however wide its divisor.
+#![tactic(auto)]
+
 ghost use Rattle.std.specs.Prelude.{◌≡◌, ◌*◌, ◌%◌, ◌^◌, ◌<◌};
 ghost use Rattle.numbers.specs.Figures.{billionths_of};
 ghost use Rattle.division.specs.Division.{Proper, Division, Carries, dividend};

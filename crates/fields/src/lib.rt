@@ -1,4 +1,6 @@
 // Fields of a frame: numbers of one, of two and of four bytes, the high byte first, and of two bytes with a sign, at a place of a part of its bytes.
+#![tactic(auto)]
+
 ghost use Rattle.std.specs.Prelude.{◌≡◌, ◌+◌, ◌≤◌, ◌<◌, length};
 ghost use Rattle.fields.specs.Fields.{byte_at, word_at, long_at, signed, signed_at};
 

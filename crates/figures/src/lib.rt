@@ -1,4 +1,6 @@
 // An answer as twelve figures in front of a lent slice, for hosts that take numbers.
+#![tactic(auto)]
+
 ghost use Rattle.std.specs.Prelude.{◌≡◌, [], ◌∷◌, ◌+◌, ◌≤◌, length};
 ghost use Rattle.digits.specs.Splice.{splice};
 ghost use Rattle.figures.specs.Figures.{figures_in};

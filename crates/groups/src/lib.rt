@@ -1,4 +1,6 @@
 // The chance of damage to a group of zones within a penetration, and the share of a row, worked from a lent span table.
+#![tactic(auto)]
+
 ghost use Rattle.std.specs.Prelude.{◌≡◌, ◌*◌, ◌≤◌};
 ghost use Rattle.solas.specs.Count.{Group};
 ghost use Rattle.spans.specs.Rounded.{Probable};

@@ -1,4 +1,6 @@
 // Heights in code: the factor v of a row at each of the three draughts, in 916,500ths, and the draughts themselves.
+#![tactic(auto)]
+
 ghost use Rattle.std.specs.Prelude.{◌≡◌, ◌^◌, ◌<◌};
 ghost use Rattle.solas.specs.Height.{v, v_at, row_v};
 ghost use Rattle.solas.specs.Index.{dp, draughts};

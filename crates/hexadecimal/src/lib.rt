@@ -1,4 +1,6 @@
 // A byte as a lower-case hexadecimal digit: the value that it has, or that it has none.
+#![tactic(auto)]
+
 ghost use Rattle.std.specs.Prelude.{◌≡◌, cond, ◌&&◌, ◌-◌, leb};
 ghost use Rattle.hexadecimal.specs.Hex.{digit_of, mark_of};
 

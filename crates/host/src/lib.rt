@@ -1,5 +1,7 @@
 // The service for a host in another language: the printed answer, its twelve figures, its rows, R with the mark of a partial index, or the shares of its
 // zone groups, on numbers and lent slices alone, and the version.
+#![tactic(auto)]
+
 ghost use Rattle.std.specs.Prelude.{◌≡◌, length};
 ghost use Rattle.casefile.specs.Reading.{reading};
 ghost use Rattle.printing.specs.Written.{count_in, written_in};

@@ -1,4 +1,6 @@
 // Line 1: the hull that it gives, or a refusal.
+#![tactic(auto)]
+
 ghost use Rattle.std.specs.Prelude.{◌≡◌};
 ghost use Rattle.casefile.specs.Layout.{hull_of};
 ghost use Rattle.casefile.specs.Answer.{no_hull, refused_first, first_judged};

@@ -1,4 +1,6 @@
 // The service: any bytes and any sheet. The file is judged first; only an accepted one with room on the sheet is worked out.
+#![tactic(auto)]
+
 ghost use Rattle.std.specs.Prelude.{◌≡◌, ◌++◌, ◌*◌, ◌^◌, ◌≤◌, length, drop};
 ghost use Rattle.indices.specs.Index.{Within};
 ghost use Rattle.verdicts.specs.Required.{Sized};

@@ -12,6 +12,7 @@ use Rattle.laws.specs.Sums.{sum_of, sum_below}
 use Rattle.laws.proofs.Sums.{sum_below_longer, sum_below_between, sum_below_split, sum_below_zero}
 
 pub rising_from : (a n i : ℕ) (xs : List ℕ) → Rising a n xs → Memᴰ i xs → a ≤ i
+rising_from a n i [] r m = elim m [ ]
 rising_from a n i (x ∷ xs) r (Memᴰ.head e) = omega arith
 rising_from a n i (x ∷ xs) r (Memᴰ.tail m) = omega (arith, rising_from (suc x) n i xs r.2 m)
 

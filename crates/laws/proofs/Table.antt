@@ -25,6 +25,7 @@ every_entry p d (x ∷ xs) t (suc i) h = every_entry p d xs (both_hold (p x) (ev
 
 -- and at each member
 pub member_passes : {A : Type 0} (p : A → Bool) (k : A) (ns : List A) → T (every p ns) → Memᴰ k ns → T (p k)
+member_passes p k [] t m = elim m [ ]
 member_passes p k (n ∷ ns) t (Memᴰ.head e) = rw e (both_hold (p n) (every p ns) t).0
 member_passes p k (n ∷ ns) t (Memᴰ.tail m) = member_passes p k ns (both_hold (p n) (every p ns) t).1 m
 

@@ -1,4 +1,6 @@
 // A layer: what depends on its penetration alone, C, exact, and the ends of G1, G3 and G3/2, in billionths rounded both ways.
+#![tactic(auto)]
+
 ghost use Rattle.std.specs.Prelude.{◌≡◌, ◌*◌, ◌≤◌};
 ghost use Rattle.layers.specs.Layer.{G1Ends, G3Ends, layer_of};
 

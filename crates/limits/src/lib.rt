@@ -1,4 +1,6 @@
 // Document 01's limits on records, and document 02's of an opening and of passenger ships: of a hull (refusals 4, 13 and 5) and of a row (refusal 7).
+#![tactic(auto)]
+
 ghost use Rattle.std.specs.Prelude.{◌≡◌, ◌&&◌, ◌+◌, ◌-◌, ◌%◌, ◌≤◌, leb, eqb};
 ghost use Rattle.casefile.specs.Limits.{between, shortest_ship, narrowest_ship, sizes_fit, persons_fit, rising_to, zones_fit, head_fits, opening_fits, finding_fits, findings_fit, flooding_fits, floodings_fit};
 

@@ -1,4 +1,6 @@
 // The case file's lines: cut at line feeds.
+#![tactic(auto)]
+
 ghost use Rattle.std.specs.Prelude.{◌≡◌, ◌+◌, ◌≤◌, length, take, drop};
 ghost use Rattle.lines.specs.Lines.{line_length, has_feed};
 

@@ -1,4 +1,6 @@
 // What a host is told as numbers: twenty for each row of a file; and by its hull R with the mark of a partial index, and each group's share.
+#![tactic(auto)]
+
 ghost use Rattle.std.specs.Prelude.{◌≡◌, [], ◌∷◌, ◌++◌, ◌+◌, ◌*◌, ◌^◌, ◌≤◌, ◌<◌, length, drop};
 ghost use Rattle.std.proofs.lemmas.List.Edits.{sets};
 ghost use Rattle.heights.specs.Height.{row_vs};

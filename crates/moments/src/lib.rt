@@ -1,5 +1,7 @@
 // s-final times s-mom in ten-thousandths, rounded both ways, for every s-mom from 0 to 1: by the ends of s-final where they settle it, and else by one
 // comparison of wide numbers.
+#![tactic(auto)]
+
 ghost use Rattle.std.specs.Prelude.{◌+◌, ◌*◌, ◌^◌, ◌≤◌, ◌<◌};
 ghost use Rattle.wide.specs.Limbs.{Writes};
 ghost use Rattle.moments.specs.Held.{Rooted, Held, Beside};

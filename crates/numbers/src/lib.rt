@@ -1,4 +1,6 @@
 // Machine numbers: differences held to be not below 0, quotients rounded up and both ways, portions, and halves.
+#![tactic(auto)]
+
 ghost use Rattle.std.specs.Prelude.{◌≡◌, cond, ◌+◌, ◌-◌, ◌*◌, ◌%◌, ◌^◌, ◌≤◌, ◌<◌, leb};
 ghost use Rattle.laws.specs.Rounding.{ceil};
 ghost use Rattle.numbers.specs.Figures.{both_ways, portion_of, halves_of};

@@ -1,4 +1,6 @@
 // Document 01's order on records: a row after the row before it, and the end after the last row (refusals 8 and 9).
+#![tactic(auto)]
+
 ghost use Rattle.std.specs.Prelude.{◌≡◌};
 ghost use Rattle.casefile.specs.Order.{at_top, closes_group, same_group, same_layer, earlier_group, out_of_order, leaves_open, ends_open};
 

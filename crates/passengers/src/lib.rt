@@ -1,5 +1,7 @@
 // The survival of a passenger ship's results: the lesser of what an intermediate stage leaves and of what the final stage does with the moments, rounded
 // down and up, and its marks; nothing of it is left where an opening is immersed.
+#![tactic(auto)]
+
 ghost use Rattle.std.specs.Prelude.{◌≡◌, ◌≤◌};
 ghost use Rattle.laws.specs.Fraction.{lesser, ◌⊛◌};
 ghost use Rattle.solas.specs.Passengers.{intermediate⁴};

@@ -1,4 +1,6 @@
 // Damage down to a penetration: the ends of G and Q of a span at a layer, in billionths rounded both ways.
+#![tactic(auto)]
+
 ghost use Rattle.std.specs.Prelude.{◌≡◌, cond, ◌*◌, ◌^◌, ◌≤◌, ◌<◌, leb};
 ghost use Rattle.numbers.specs.Figures.{halves_of};
 ghost use Rattle.spans.specs.Rounded.{Probable};

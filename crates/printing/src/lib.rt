@@ -1,4 +1,6 @@
 // The printed answer, written into a lent buffer line by line: a refusal, the figures, a row.
+#![tactic(auto)]
+
 ghost use Rattle.std.specs.Prelude.{cond, ◌≡◌, ◌+◌, ◌≤◌, length};
 ghost use Rattle.hexadecimal.specs.Hex.{hex, line_of};
 ghost use Rattle.digits.specs.Splice.{splice};

@@ -1,5 +1,7 @@
 // Single figures of the other crates, for a host in C that tests and times them: a survival and its marks, a height, how an input is judged, rows'
 // shares.
+#![tactic(auto)]
+
 ghost use Rattle.std.specs.Prelude.{◌≡◌};
 ghost use Rattle.solas.specs.Height.{row_v};
 ghost use Rattle.casefile.specs.Answer.{judgement_of};

@@ -1,4 +1,6 @@
 // The lines after the hull in turn, and the entry: any bytes whatever are refused, or counted and their rows kept.
+#![tactic(auto)]
+
 ghost use Rattle.std.specs.Prelude.{◌≡◌, ◌+◌, ◌*◌, ◌≤◌, length, drop};
 ghost use Rattle.lines.specs.Lines.{lines};
 ghost use Rattle.casefile.specs.Limits.{most_rows};

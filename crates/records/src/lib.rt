@@ -1,4 +1,5 @@
 // The structs that travel between the crates. Plain values: no function, and nothing that is checked here.
+#![tactic(auto)]
 
 // The hull as its frame gives it: its kind (1 a cargo ship, 6 a passenger ship), Ls and B in centimetres, the deepest and the
 // light draught in millimetres, the persons of a passenger ship for whom there are lifeboats, those in excess of them and the

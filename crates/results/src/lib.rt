@@ -1,5 +1,7 @@
 // The survival of a row's results: s⁴ as one whole number, from it the bottom and the top in ten-thousandths, and the marks; nothing of it is left
 // where an opening is immersed. Of two results at a draught the worse counts, by that number.
+#![tactic(auto)]
+
 ghost use Rattle.std.specs.Prelude.{◌≡◌, ◌++◌, ◌*◌, ◌/◌, ◌^◌, ◌≤◌, min};
 ghost use Rattle.solas.specs.Survival.{k, s⁴, immersed, unless_immersed};
 ghost use Rattle.records.specs.Results.{found};

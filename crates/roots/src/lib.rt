@@ -1,4 +1,6 @@
 // Fourth roots of whole numbers, rounded down and rounded up: a guess by the leading bits, put right one by one.
+#![tactic(auto)]
+
 ghost use Rattle.std.specs.Prelude.{◌≡◌, ◌+◌, ◌^◌, ◌≤◌, ◌<◌};
 ghost use Rattle.roots.specs.Root.{RootDown, RootUp};
 

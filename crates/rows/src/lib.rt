@@ -1,4 +1,6 @@
 // The rows of a file in turn: where each stands, its share on the sheet or its line in a report, and the sums of what they add.
+#![tactic(auto)]
+
 use chances::Sums;
 use records::{Ends, RowHead, Survival, Trio};
 

@@ -1,4 +1,6 @@
 // The chance of damage within a span, p and P in billionths rounded both ways, and the table of all spans of a hull's zones.
+#![tactic(auto)]
+
 ghost use Rattle.std.specs.Prelude.{◌≡◌, ◌+◌, ◌-◌, ◌≤◌, length, replicate};
 ghost use Rattle.std.proofs.lemmas.List.Edits.{sets};
 ghost use Rattle.solas.specs.Span.{one, touch, p, PAt};

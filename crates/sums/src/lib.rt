@@ -1,4 +1,6 @@
 // The indices in code: what a row adds at the three draughts, the partial indices as sums of that, and the attained index.
+#![tactic(auto)]
+
 ghost use Rattle.std.specs.Prelude.{◌≡◌, ◌*◌, ◌^◌, ◌≤◌};
 ghost use Rattle.heights.specs.Height.{row_vs};
 ghost use Rattle.indices.specs.Index.{Share, Weights, RowWeights, Small, Within, adds_of, row_adds, sums, plus, weighed, attained_of};

@@ -1,4 +1,6 @@
 // The required index of a cargo ship and of a passenger ship, the mark of each partial index, and the verdict from ends that reach them or do not.
+#![tactic(auto)]
+
 ghost use Rattle.std.specs.Prelude.{◌≡◌, ◌^◌, ◌≤◌};
 ghost use Rattle.solas.specs.Index.{R, passenger_R, NoLogarithm, R2020};
 ghost use Rattle.numbers.specs.Ratio.{Proper, ratio_of};

@@ -1,4 +1,6 @@
 // Wide numbers, those below 2¹⁹²: six limbs of 32 bits in an array by value, the least limb first.
+#![tactic(auto)]
+
 ghost use Rattle.std.specs.Prelude.{◌≡◌, ◌+◌, ◌*◌, ◌^◌, ◌<◌, leb};
 ghost use Rattle.wide.specs.Limbs.{value, limit, Limbs, Writes, Placed, Carried};
 

@@ -1,4 +1,6 @@
 // The workings of any bytes that are accepted, as numbers for a host: twenty a row; R with the mark of a partial index; each group's share.
+#![tactic(auto)]
+
 ghost use Rattle.std.specs.Prelude.{◌≡◌, ◌++◌, ◌+◌, ◌*◌, ◌≤◌, length, drop};
 ghost use Rattle.printing.specs.Written.{count_in, written_in};
 ghost use Rattle.casefile.specs.Kept.{place_width, kept_rows};

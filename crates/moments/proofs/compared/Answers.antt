@@ -1,0 +1,33 @@
+-- `moments::compared` meets its contract: below the number between, at it, or above. Assumes nothing.
+use borrow.Author.Tests.{leb-true, leb-false}
+use mathlib.Core.Path.{sym, ◌∙◌}
+use Rattle.wide.specs.Limbs.{value}
+use Rattle.moments.proofs.Held.{below_middle, at_middle, above_middle}
+use Rattle.moments.proofs.compared.Goals as goal
+
+pub returns-then-not-at_most : goal.returns-then-not-at_most
+returns-then-not-at_most c =
+    let middle = c in
+    let survival = middle in
+    let k = leb-false (value middle.times_denominator-at_middle.result) (value survival.numerator-survival.result) (sym c.at_most.ensures ∙ c.if-not-at_most.true) in
+    below_middle survival.requires (rw (middle.times_denominator-at_middle.ensures.number, survival.numerator-survival.ensures.number) at k)
+
+pub returns-then-at_most : goal.returns-then-at_most
+returns-then-at_most c =
+    let first = c in
+    let middle = first in
+    let survival = middle in
+    let a = value survival.numerator-survival.result in
+    let b = value middle.times_denominator-at_middle.result in
+    let k = leb-true b a (sym first.at_most.ensures ∙ first.if-not-at_most.false) in
+    let l = leb-true a b (sym c.at_most-2.ensures ∙ c.if-at_most.true) in
+    let e = middle.times_denominator-at_middle.ensures.number in
+    let f = survival.numerator-survival.ensures.number in
+    at_middle survival.requires (rw (e, f) at k) (rw (e, f) at l)
+
+pub returns : goal.returns
+returns c =
+    let middle = c in
+    let survival = middle in
+    let l = leb-false (value survival.numerator-survival.result) (value middle.times_denominator-at_middle.result) (sym c.at_most-2.ensures ∙ c.if-at_most.false) in
+    above_middle survival.requires (rw (middle.times_denominator-at_middle.ensures.number, survival.numerator-survival.ensures.number) at l)

@@ -1,0 +1,10 @@
+-- `wide::at_most` meets its contract: nothing is carried out exactly where a is not above b. Assumes nothing.
+use Rattle.wide.specs.Limbs.{value}
+use Rattle.wide.proofs.Sums.{compared}
+use Rattle.wide.proofs.at_most.Goals as goal
+
+pub returns : goal.returns
+returns c =
+    let s = c in
+    let a = s.args in
+    compared (value a.a) (value a.b) (value s.complement.result) c.carried.ensures s.complement.ensures.1

@@ -14,14 +14,14 @@ const BANDS: [[i64; 5]; 3] = [
 ];
 
 // What is added, and what is taken away.
-#[derive(Drop)]
+#[derive(Clone, Copy)]
 struct Sides {
     up: u64,
     down: u64,
 }
 
 // The fraction num/den; cm/den is the part of the ship that a centimetre is.
-#[derive(Drop)]
+#[derive(Clone, Copy)]
 pub struct Ratio {
     pub num: u64,
     pub den: u64,

@@ -13,7 +13,7 @@ pub const KEPT: usize = 501 * PLACE_WIDTH;
 
 // What a line is: a hull, a row by its head, the end with its count, or a refusal's number. A hull's places and a row's results are arrays, and stand
 // beside it.
-#[derive(Drop)]
+#[derive(Clone, Copy)]
 pub enum Frame {
     Hull,
     Row(RowHead),
@@ -22,14 +22,14 @@ pub enum Frame {
 }
 
 // What line 1 is, and beside it the hull that it gives: zeros where it is refused.
-#[derive(Drop)]
+#[derive(Clone, Copy)]
 pub struct FirstLine {
     pub frame: Frame,
     pub hull: Hull,
 }
 
 // What is known after some lines: how many rows they held, the head of the last (kind 0: none yet), and whether the end was read.
-#[derive(Drop)]
+#[derive(Clone, Copy)]
 pub struct Progress {
     pub rows: u64,
     pub last: RowHead,
@@ -37,14 +37,14 @@ pub struct Progress {
 }
 
 // What is known after a line, or the refusal's number and line.
-#[derive(Drop)]
+#[derive(Clone, Copy)]
 pub enum Step {
     Next(Progress),
     Refused(u64, u64),
 }
 
 // What a file's reading says: at a refusal its number and line, and zeros; else the row count and the hull.
-#[derive(Drop)]
+#[derive(Clone, Copy)]
 pub struct Judgement {
     pub number: u64,
     pub line: u64,

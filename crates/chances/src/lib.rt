@@ -8,7 +8,7 @@ use numbers::above;
 use records::Ends;
 
 // What a group adds and what it takes away, at one b.
-#[derive(Drop)]
+#[derive(Clone, Copy)]
 pub struct Sums {
     pub added: Ends,
     pub taken: Ends,

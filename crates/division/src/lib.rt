@@ -16,7 +16,7 @@ const TWO_STEPS: u64 = LARGEST / 100_000;
 const THREE_STEPS: u64 = LARGEST / 1_000;
 
 // How often a divisor goes into a number, and what is left.
-#[derive(Drop)]
+#[derive(Clone, Copy)]
 struct Quotient {
     whole: u64,
     rest: u64,

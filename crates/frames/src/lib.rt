@@ -10,7 +10,7 @@ ghost use Rattle.frames.specs.Decoding.{mark_at, other_below, written_of};
 use hexadecimal::value_of;
 
 // What a line's text is: as many bytes as it has pairs of digits, or badly written.
-#[derive(Drop)]
+#[derive(Clone, Copy)]
 pub enum Written {
     Bytes(usize),
     Badly,

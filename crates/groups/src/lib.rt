@@ -18,7 +18,7 @@ use records::{Ends, Hull};
 use spans::{SpanEnds, span_of};
 
 // The bulkheads of a group of zones: where it begins, where its first zone ends, where its last one begins, and where it ends.
-#[derive(Drop)]
+#[derive(Clone, Copy)]
 struct Bulkheads {
     aft: u64,
     first: u64,

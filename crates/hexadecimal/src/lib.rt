@@ -5,7 +5,7 @@ ghost use Rattle.std.specs.Prelude.{◌≡◌, cond, ◌&&◌, ◌-◌, leb};
 ghost use Rattle.hexadecimal.specs.Hex.{digit_of, mark_of};
 
 // What a byte is as a digit, or two bytes as a pair of digits: the value that they write, or none.
-#[derive(Drop)]
+#[derive(Clone, Copy)]
 pub enum Digit {
     Value(u8),
     Bad,

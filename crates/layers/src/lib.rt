@@ -8,7 +8,7 @@ use numbers::{both_ways, halves};
 use records::Ends;
 
 // What depends on the penetration alone: C is c/d, then the ends of G1, of G3 and of G3/2.
-#[derive(Drop)]
+#[derive(Clone, Copy)]
 pub struct Layer {
     pub depth: u64,
     pub c: u64,

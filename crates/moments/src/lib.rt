@@ -9,7 +9,7 @@ ghost use Rattle.moments.specs.Held.{Rooted, Held, Beside};
 use wide::{at_most, product};
 
 // A survival in ten-thousandths, rounded down and up.
-#[derive(Drop)]
+#[derive(Clone, Copy)]
 pub struct Rounded {
     pub bottom: u64,
     pub top: u64,

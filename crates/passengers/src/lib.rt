@@ -31,7 +31,7 @@ const LEVER_LOST: u64 = 40;
 
 // What the ro-ro mark decides of the final stage: the caps of lever and range; what its s⁴ is divided by, in ten-thousands; and the 168ths of 10⁻¹⁶ of
 // one part of that.
-#[derive(Drop)]
+#[derive(Clone, Copy)]
 struct Caps {
     lever: u64,
     range: u64,

@@ -5,7 +5,7 @@
 // light draught in millimetres, the persons of a passenger ship for whom there are lifeboats, those in excess of them and the
 // rule that it is under (0 the earlier one, 1 that of 2020; all three are 0 of a cargo ship), the zone count m, and the places of
 // the zones' ends along the ship: 0, the m - 1 inner bulkheads, Ls at place m, 0 after that.
-#[derive(Drop)]
+#[derive(Clone, Copy)]
 pub struct Hull {
     pub kind: u64,
     pub length: u64,
@@ -22,7 +22,7 @@ pub struct Hull {
 // A row's result at one draught, at the final stage of flooding. Kinds 2, 5 and 7: what the customer's program found, the righting lever in millimetres, its
 // range and the heel in hundredths of a degree, the height of the critical opening above the final waterline in millimetres
 // (below 0 it is immersed), and given is 0. Kind 3: a given survival in ten-thousandths, the others 0.
-#[derive(Drop)]
+#[derive(Clone, Copy)]
 pub struct Finding {
     pub lever: u64,
     pub range: u64,
@@ -34,7 +34,7 @@ pub struct Finding {
 // What a passenger ship's row, of kind 7, tells at one draught besides: the displacement in tonnes, the heeling moment in
 // tonne-metres, the righting lever, its range and the heel at an intermediate stage of flooding, and 1 where the case
 // involves a ro-ro space, else 0.
-#[derive(Drop)]
+#[derive(Clone, Copy)]
 pub struct Flooding {
     pub displacement: u64,
     pub moment: u64,
@@ -46,7 +46,7 @@ pub struct Flooding {
 
 // What a row says before its results: its kind (2, 3 or 5, or a passenger ship's 7), the group's first zone a and zone count n, the penetration b
 // in centimetres and the height H in millimetres.
-#[derive(Drop)]
+#[derive(Clone, Copy)]
 pub struct RowHead {
     pub kind: u64,
     pub first: u64,
@@ -56,14 +56,14 @@ pub struct RowHead {
 }
 
 // A figure in billionths: the exact one is not below the lower end and not above the upper.
-#[derive(Drop)]
+#[derive(Clone, Copy)]
 pub struct Ends {
     pub lower: u64,
     pub upper: u64,
 }
 
 // A fraction from 0 to 1, as a numerator and a denominator.
-#[derive(Drop)]
+#[derive(Clone, Copy)]
 pub struct Ratio {
     pub num: u64,
     pub den: u64,
@@ -71,7 +71,7 @@ pub struct Ratio {
 
 // What holds a survival down, yes or no: the lever is below its cap, the range below its cap, the heel above that from which survival
 // falls (of a cargo ship 120, 1,600 and 2,500), the critical opening is immersed.
-#[derive(Drop)]
+#[derive(Clone, Copy)]
 pub struct Marks {
     pub lever: bool,
     pub range: bool,
@@ -80,7 +80,7 @@ pub struct Marks {
 }
 
 // A survival factor in ten-thousandths: the exact one is not below the bottom and not above the top. And its marks: a given one has none.
-#[derive(Drop)]
+#[derive(Clone, Copy)]
 pub struct Survival {
     pub bottom: u64,
     pub top: u64,
@@ -88,14 +88,14 @@ pub struct Survival {
 }
 
 // The ends of a figure at each of the three draughts, in the order deepest, partial, light.
-#[derive(Drop)]
+#[derive(Clone, Copy)]
 pub struct Trio {
     pub lower: [u64; 3],
     pub upper: [u64; 3],
 }
 
 // What the service answers. At a refusal its number and line, and zeros; else number and line are 0.
-#[derive(Drop)]
+#[derive(Clone, Copy)]
 pub struct Answer {
     pub number: u64,
     pub line: u64,

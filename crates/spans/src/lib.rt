@@ -18,7 +18,7 @@ use records::{Ends, Hull};
 pub const TABLE: usize = 840;
 
 // The ends of p and of P of one span.
-#[derive(Drop)]
+#[derive(Clone, Copy)]
 pub struct SpanEnds {
     pub inner: Ends,
     pub chance: Ends,

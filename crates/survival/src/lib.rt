@@ -2,14 +2,14 @@
 #![tactic(auto)]
 
 // 10¹⁶ times a fraction, rounded down and up.
-#[derive(Drop)]
+#[derive(Clone, Copy)]
 pub struct Multiple {
     pub down: u64,
     pub up: u64,
 }
 
 // A fourth root in ten-thousandths, rounded down and up.
-#[derive(Drop)]
+#[derive(Clone, Copy)]
 pub struct Roots {
     pub bottom: u64,
     pub top: u64,

@@ -10,14 +10,14 @@ const BASE: u64 = 4_294_967_296;
 const LARGEST_LIMB: u64 = 4_294_967_295;
 
 // A limb of a sum, and what is carried to the next.
-#[derive(Drop)]
+#[derive(Clone, Copy)]
 struct Place {
     limb: u64,
     carry: u64,
 }
 
 // The limbs of a sum, and what is carried out of the last.
-#[derive(Drop)]
+#[derive(Clone, Copy)]
 struct Sum {
     limbs: [u64; 6],
     carry: u64,

@@ -82,12 +82,16 @@ pub billionths_none : whole 0 ≈ billionths 0
 billionths_none = let p : 0 < 10 ^ 9 = lit< tt in same p (is_nothing p) (is_over 0 p)
 
 pub no_more_than_upper : NoMoreThanUpper
+no_more_than_upper (r ∷ rs) h [] k = elim k [ ]
+no_more_than_upper [] h (x ∷ xs) k = elim k [ ]
 no_more_than_upper [] h [] k = ≼_of_≈ billionths_none
 no_more_than_upper (r ∷ rs) h (x ∷ xs) k =
     let row = row_upper r h.0 k.0.0 (not_above_top r.factor h.0.factor k.0.0 k.0.1) in
     ≼_trans (⊹-≼ row (no_more_than_upper rs h.1 xs k.1)) (≼_of_≈ (billionths_sum (row_ends r).upper (partial_ends rs).upper))
 
 pub no_less_than_lower : NoLessThanLower
+no_less_than_lower (r ∷ rs) h [] k = elim k [ ]
+no_less_than_lower [] h (x ∷ xs) k = elim k [ ]
 no_less_than_lower [] h [] k = ≼_of_≈ (≈_sym billionths_none)
 no_less_than_lower (r ∷ rs) h (x ∷ xs) k =
     let row = row_lower r h.0 k.0.0 (not_below_bottom r.factor h.0.factor k.0.0 k.0.1) in

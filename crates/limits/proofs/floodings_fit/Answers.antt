@@ -1,0 +1,8 @@
+-- `floodings_fit` meets its contract. Assumes nothing.
+use Rattle.limits.proofs.CodeLimits.{floodings_of_three}
+use Rattle.limits.proofs.floodings_fit.Goals as goal
+
+pub returns : goal.returns
+returns c =
+    let x = c in
+    floodings_of_three x.args.floodings _ _ _ _ x.well_formed.0.1.0.1 c.flooding_fits.ensures c.flooding_fits-2.ensures c.flooding_fits-3.ensures

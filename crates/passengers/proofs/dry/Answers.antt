@@ -1,0 +1,119 @@
+-- `passengers::dry` meets its contract: no product wraps, and whichever way the ends are found they are those of the lesser. Assumes nothing.
+use Prim.Native.Nat.{ℕ, ◌-◌, ◌*◌, ◌^◌, ◌≤◌, ◌<◌, min}
+use mathlib.Core.Path.{◌≡◌, refl, ◌∙◌}
+use native.Mathlib.Nat.{mul-le-mul}
+use native.Mathlib.Omega.{arith}
+use Rattle.laws.specs.Fraction.{lesser, ◌⊛◌}
+use Rattle.records.specs.declared.Finding.{Finding}
+use Rattle.records.specs.declared.Flooding.{Flooding}
+use Rattle.moments.specs.Held.{Rooted, Held}
+use Rattle.results.specs.Parts.{InParts, parts}
+use Rattle.survival.specs.Survival.{root, ends, fourth_power, rounded_of, Loaded}
+use Rattle.survival.specs.Passengers.{int_of, final_of, mom_of}
+use Rattle.survival.specs.declared.Roots.{Roots}
+use Rattle.passengers.specs.declared.Caps.{Caps}
+use Rattle.passengers.specs.Numbers.{caps_of, fourth_in}
+use Rattle.passengers.proofs.Numbers.{Suits, caps_suit, final_parts, borne_ends, none_rooted, nothing_counts, held_asked, final_counts, lesser_counts}
+use Rattle.passengers.proofs.dry.Goals as goal
+
+module _ (f : Finding) (w : Flooding) {caps : Caps} (asked : Loaded f w × (caps ≡ caps_of w.roro)) where
+  suits : Suits w.roro caps
+  suits = rw asked.1 (caps_suit w.roro)
+
+  last_fits : {fourth : ℕ} → fourth ≡ fourth_in caps f.lever f.range f.heel → fourth * caps.parts ≤ 168 * 10 ^ 16
+  last_fits j = rw j (final_parts suits f.lever f.range f.heel).at_most_one
+
+  righting_fits : {lever : ℕ} → lever ≡ f.lever - 40 → lever * w.displacement ≤ 5000 * 300000
+  righting_fits {lever} k = let l : lever ≤ 5000 = omega (arith, asked.0.lever, k) in mul-le-mul l asked.0.displacement
+
+-- and what is made of them
+module _ (f : Finding) (w : Flooding) {caps : Caps} (asked : Loaded f w × (caps ≡ caps_of w.roro)) {stage fourth lever : ℕ}
+    (i : InParts (int_of w) stage) (j : fourth ≡ fourth_in caps f.lever f.range f.heel) (k : lever ≡ f.lever - 40) where
+  abbrev Answers : Roots → Type 0
+  Answers r = r ≡ ends (root (lesser (int_of w) (final_of f w ⊛ fourth_power (mom_of f w))))
+
+  fits : Suits w.roro caps
+  fits = suits f w asked
+
+  borne : {n : ℕ} {r : Roots} → 1000 * w.moment ≤ lever * w.displacement → n ≡ min stage (fourth * caps.parts) → r ≡ rounded_of (parts n) → Answers r
+  borne l e s = s ∙ rw (e, j) (borne_ends f w fits asked.0.some (rw k at l) i)
+
+  module _ (l : lever * w.displacement < 1000 * w.moment) where
+    less : (f.lever - 40) * w.displacement < 1000 * w.moment
+    less = rw k at l
+
+    nothing : lever * w.displacement ≡ 0 → Answers (record { bottom = 0; top = 0 })
+    nothing z =
+        let some = asked.0.some in
+        nothing_counts f w fits some less (none_rooted f w fits some less (rw k at z)) refl refl
+
+    asks : {r : Roots} → r ≡ rounded_of (parts (fourth * caps.parts)) → Held r.bottom r.top fourth caps.below (lever * w.displacement) w.moment
+    asks e = rw (j, k) (held_asked f w fits asked.0.some less asked.0.moment (rw j at e))
+
+    module _ {bottom top : ℕ} (r : Rooted (fourth * (lever * w.displacement) ^ 4) (caps.below * w.moment ^ 4) bottom top) where
+      final : fourth * caps.parts ≤ stage → Answers (record { bottom = bottom; top = top })
+      final m = final_counts f w fits asked.0.some less (rw (j, k) at r) i (rw j at m)
+
+      either : {a b : ℕ} {s : Roots} → s ≡ rounded_of (parts stage) → a ≡ min s.bottom bottom → b ≡ min s.top top → Answers (record { bottom = a; top = b })
+      either e p q = lesser_counts f w fits asked.0.some less (rw (j, k) at r) i e p q
+
+pub fourth-fourth-requires : goal.fourth-fourth-requires
+fourth-fourth-requires c = let s = caps_suit c.args.w.roro in rw c.requires.1 (s.lever_small, s.range_small)
+
+pub overflow_mul-last : goal.overflow_mul-last
+overflow_mul-last c =
+    let start = c in
+    omega (arith, last_fits start.args.f start.args.w start.requires c.fourth-fourth.ensures)
+
+pub overflow_mul-righting : goal.overflow_mul-righting
+overflow_mul-righting c =
+    let start = c in
+    omega (arith, righting_fits start.args.f start.args.w start.requires c.above.ensures)
+
+pub returns-then-w-righting : goal.returns-then-w-righting
+returns-then-w-righting c =
+    let above = c in
+    let four = above in
+    let stage = four in
+    let start = stage in
+    borne start.args.f start.args.w start.requires stage.intermediate-stage.ensures four.fourth-fourth.ensures above.above.ensures c.if-w-righting.true c.lesser.ensures c.rounded.ensures
+
+pub returns-then-righting-eq0 : goal.returns-then-righting-eq0
+returns-then-righting-eq0 c =
+    let above = c in
+    let four = above in
+    let stage = four in
+    let start = stage in
+    nothing start.args.f start.args.w start.requires stage.intermediate-stage.ensures four.fourth-fourth.ensures above.above.ensures c.if-w-righting.false c.if-righting-eq0.true
+
+pub rounded-whole-requires : goal.rounded-whole-requires
+rounded-whole-requires c =
+    let four = c in
+    let start = four in
+    last_fits start.args.f start.args.w start.requires four.fourth-fourth.ensures
+
+pub held_down-held-requires : goal.held_down-held-requires
+held_down-held-requires c =
+    let above = c in
+    let four = above in
+    let stage = four in
+    let start = stage in
+    asks start.args.f start.args.w start.requires stage.intermediate-stage.ensures four.fourth-fourth.ensures above.above.ensures c.if-w-righting.false c.rounded-whole.ensures
+
+pub returns-then-last-stage : goal.returns-then-last-stage
+returns-then-last-stage c =
+    let above = c in
+    let four = above in
+    let stage = four in
+    let start = stage in
+    final start.args.f start.args.w start.requires stage.intermediate-stage.ensures four.fourth-fourth.ensures above.above.ensures c.if-w-righting.false c.held_down-held.ensures c.if-last-stage.true
+
+pub returns : goal.returns
+returns c =
+    let other = c in
+    let held = other in
+    let above = held in
+    let four = above in
+    let stage = four in
+    let start = stage in
+    either start.args.f start.args.w start.requires stage.intermediate-stage.ensures four.fourth-fourth.ensures above.above.ensures held.if-w-righting.false held.held_down-held.ensures other.rounded-other.ensures c.lesser-2.ensures c.lesser-3.ensures

@@ -1,0 +1,10 @@
+-- `first_at` meets its contract. Assumes nothing.
+use native.Mathlib.Omega.{arith}
+use Rattle.rowlines.proofs.CodeKept.{longest_set, first_kept}
+use Rattle.rowlines.proofs.kept.first_at.Goals as goal
+
+pub set-requires : goal.set-requires
+set-requires c = omega (arith, longest_set c.args.kind)
+
+pub returns : goal.returns
+returns c = let r = c in first_kept r.args.kept.now r.args.i r.args.kind _ r.requires.1 c.set.ensures

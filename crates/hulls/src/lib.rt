@@ -78,7 +78,7 @@ fn judge_hull(kind: u64, f: &[u8], n: usize) -> FirstLine
 
 // Line 1: its frame, with the hull beside it. However long the line is, 55 bytes hold all that a hull record has.
 pub fn judge_first(text: &[u8], closed: bool) -> FirstLine
-    ensures { result ≡ first_judged (record { text = text.entry.now; closed = closed }) }
+    ensures { result ≡ first_judged (record { text = text.now; closed = closed }) }
 {
     if !closed {
         return refused(2);

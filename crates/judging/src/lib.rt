@@ -51,7 +51,7 @@ fn judge_frame(frame: &[u8], h: Hull, p: Progress) -> Frame
 // A line after the hull h and what the lines before it left. What it writes goes to the front of the place that is lent, as many bytes as go in.
 pub fn judge_line(text: &[u8], closed: bool, h: Hull, p: Progress, place: &mut [u8]) -> Frame
     requires { place_width ≤ length place.old }
-    ensures frame { result ≡ judged h p (record { text = text.entry.now; closed = closed }) }
+    ensures frame { result ≡ judged h p (record { text = text.now; closed = closed }) }
     ensures kept { place.new ≡ sets place.old 0 (bytes_of text.now) }
 {
     let written = frames::decode_text(text, place);

@@ -7,8 +7,6 @@ use mathlib.Core.Logic.{inl, inr}
 use native.Mathlib.Nat.{zero-add, sub-zero}
 use native.Mathlib.Numerals.{add-one}
 use native.Mathlib.Omega.{arith}
-use types.Run.{OneOf}
-use denote.Enum.Declared.{tag_of}
 use lib.Dec.{ltb}
 use lib.ListN.{length, take, drop}
 use lib.Seq.{sets}
@@ -19,7 +17,6 @@ use Rattle.lines.proofs.Lines.{lines_end, lines_next}
 use Rattle.hexadecimal.specs.Hex.{pairs, bytes_of}
 use Rattle.casefile.specs.declared.FirstLine.{FirstLine}
 use Rattle.casefile.specs.declared.Frame.{Frame}
-use Rattle.casefile.specs.contracts.Frame.{the_type}
 use Rattle.casefile.specs.declared.Progress.{Progress}
 use Rattle.casefile.specs.declared.Judgement.{Judgement}
 use Rattle.casefile.specs.declared.Step.{Step}
@@ -152,15 +149,6 @@ module _ (l : Line) (ls : List Line) (o : FirstLine) (g : o ≡ first_judged l) 
 
   first_goes_on : o.frame ≡ Frame.Hull → read_from (inside o.hull start) 2 ls ≡ read_from begin 1 (l ∷ ls)
   first_goes_on e = let p : first_holds (hull_checks l) ≡ 0 = sym number_is ∙ ap number_of e in rw (g ∙ first_passes l p) (sym (line_passes begin 1 l ls p))
-
--- a frame of another kind than a hull
-pub no_hull_lem : (f : Frame) → OneOf (1 ∷ 2 ∷ 3 ∷ []) (tag_of the_type f) → f ≡ Frame.Hull → ⊥
-no_hull_lem Frame.Hull (inl e) g = omega (arith, e)
-no_hull_lem Frame.Hull (inr (inl e)) g = omega (arith, e)
-no_hull_lem Frame.Hull (inr (inr e)) g = omega (arith, e)
-no_hull_lem (Frame.Row r) o g = let z : ◌≡◌ {A = ℕ} 0 1 = cc in omega arith
-no_hull_lem (Frame.End c) o g = let z : ◌≡◌ {A = ℕ} 0 1 = cc in omega arith
-no_hull_lem (Frame.Wrong c) o g = let z : ◌≡◌ {A = ℕ} 0 1 = cc in omega arith
 
 module _ (f : List ℕ) (few : length f ≤ longest_input) (some : 0 < length f) (end : ℕ) (e : end ≡ 0 + line_length (drop 0 f)) where
   abbrev opening : Line

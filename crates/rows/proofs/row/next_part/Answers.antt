@@ -1,0 +1,16 @@
+-- `rows::next_part` meets its contract: the first layer of a group, or a later one. Assumes nothing.
+use borrow.Author.Rules.{rules}
+use Rattle.rows.proofs.Parts.{first_part, later_part}
+use Rattle.rows.proofs.row.next_part.Goals as goal
+
+pub returns-then-z-eq0 : goal.returns-then-z-eq0
+returns-then-z-eq0 c =
+    let s = c in
+    let now = c.sums_at-now.ensures in
+    (first_part s.args.h s.args.z s.requires.2.group.some (search rules) now.0 c.row_ends.ensures, now.1)
+
+pub returns : goal.returns
+returns c =
+    let s = c in
+    let now = c.sums_at-now.ensures in
+    (later_part s.args.h s.args.z s.args.y s.requires.5 s.requires.3 s.requires.6 (search rules) now.0 c.row_ends-2.ensures, now.1)

@@ -72,10 +72,12 @@ module _ (h : Hull) where
   with_row_lem b x rs k false t n = rw t (Memᴰ.tail n)
 
   in_later : (b : RowHead) (rs : List Row) (r : Row) → Memᴰ r rs → Among (number_of r.head) (b ∷ later_groups b rs)
+  in_later b [] r x' = elim x' [ ]
   in_later b (x ∷ rs) r (Memᴰ.head e) = with_row_lem b x rs (number_of r.head) (same_group b x.head) refl (rw e (Memᴰ.head refl))
   in_later b (x ∷ rs) r (Memᴰ.tail n) = with_row_lem b x rs (number_of r.head) (same_group b x.head) refl (in_later x.head rs r n)
 
   pub row_listed : (rs : List Row) (r : Row) → Memᴰ r rs → Memᴰ (number_of r.head) (map number_of (groups_in rs))
+  row_listed [] r x' = elim x' [ ]
   row_listed (x ∷ rs) r (Memᴰ.head e) = rw e (Memᴰ.head refl)
   row_listed (x ∷ rs) r (Memᴰ.tail m) = in_later x.head rs r m
 
@@ -95,9 +97,11 @@ module _ (h : Hull) where
       here (Memᴰ.tail n) = further k x rs (rest n)
 
   from_later : (b : RowHead) (rs : List Row) (k : ℕ) → Among k (later_groups b rs) → SomeRow k rs
+  from_later b [] k m = elim m [ ]
   from_later b (x ∷ rs) k m = of_row b x rs k (same_group b x.head) refl (λ n. from_later x.head rs k n) m
 
   pub listed_row : (rs : List Row) (k : ℕ) → Memᴰ k (map number_of (groups_in rs)) → (r : Row) × Memᴰ r rs × (number_of r.head ≡ k)
+  listed_row [] k x' = elim x' [ ]
   listed_row (x ∷ rs) k (Memᴰ.head e) = (x, Memᴰ.head refl, sym e)
   listed_row (x ∷ rs) k (Memᴰ.tail m) = let (r, i, e) = from_later x.head rs k m in (r, Memᴰ.tail i, e)
 
@@ -130,6 +134,7 @@ module _ (h : Hull) where
       NoneLeftOut = (a n : ℕ) → Group s a n → 0 < f a n → (r : Row) × Memᴰ r rs × (r.head.first ≡ a) × (r.head.count ≡ n)
 
       row_of : (r : Row) (qs : List Row) → Every (λ (r : Row). OfGroup r.head) qs → Memᴰ r qs → OfGroup r.head
+      row_of r [] g m = elim m [ ]
       row_of r (x ∷ qs) g (Memᴰ.head i) = rw i g.0
       row_of r (x ∷ qs) g (Memᴰ.tail m) = row_of r qs g.1 m
 

@@ -72,7 +72,7 @@ module _ (h : Hull) (g : Ends → ℕ) where
       here : sum_below (λ j. of a (1 + j)) (suc k) ≡ shortest (a + 0) (suc k - 0)
       here =
           let whole : suc k - 0 ≡ suc k = omega arith in
-          rw (whole, add-zero a) (sum_below_same (λ j. of a (1 + j)) (λ j. of a (suc j)) (suc k) (λ j l. ap (of a) (omega arith)))
+          sum_below_same (λ j. of a (1 + j)) (λ j. of a (suc j)) (suc k) (λ j l. ap (of a) (omega arith)) ∙ ap₂ shortest (sym (add-zero a)) (sym whole)
 
       after : sum_below (λ i. shortest (a + 1 + i) (k - i)) k ≡ sum_below (λ i. shortest (a + suc i) (suc k - suc i)) k
       after =

@@ -1,0 +1,14 @@
+-- `host::damindex_figures` meets its contract: with room for the figures the answer's, else nothing. Assumes nothing.
+use borrow.Author.Rules.{rules}
+use Rattle.casefile.specs.Reading.{reading}
+use Rattle.host.proofs.Room.{no_room, room_for_all}
+use Rattle.host.proofs.damindex_figures.Goals as goal
+
+pub returns-then-figures-lt12 : goal.returns-then-figures-lt12
+returns-then-figures-lt12 c = let r = c in no_room (reading r.args.input.now) r.args.figures.now r.args.sheet.now c.if-figures-lt12.true
+
+pub returns : goal.returns
+returns c =
+    let r = c in
+    let answered = c.answer-a in
+    room_for_all (reading r.args.input.now) r.args.figures.now r.args.sheet.now (search rules) answered.ensures.0 answered.ensures.1 c.write_figures.ensures

@@ -1,7 +1,9 @@
 # Builds the program for ./damindex, which reads this where it has to: `rt` proves the crates that it stands on, compiles and links it. Tells how far
 # it is on standard error, in one changing line on a terminal; what `rt` says goes to a log. Ends with status 2 where the program is not built.
 
-log=$here/target/build.log builder= teller= memory= columns=72
+# what `rt` makes, and beside it, at the end of a build of proved code alone, its mark of that
+made=$here/crates/damindex/out/damindex
+log=$here/target/build.log builder= teller= columns=72
 
 say() { printf 'damindex: %s\n' "$*" >&2; }
 
@@ -25,15 +27,35 @@ crates() {
         END { reach("damindex"); print total + 0 }' "$here/crates.txt"
 }
 
-# the crates that the log has as proved so far: how many, how many of them anew, and the last
-proved() { awk '/^rt: [^ ]+ proved \(/ { all++; anew += !/unchanged/; last = $2 } END { print all + 0, anew + 0, last }' "$log"; }
+# the crates that the log has as proved so far: how many, how many of them anew, and the last. Each has a part of its own, under `== NAME`, which is
+# empty where nothing has changed
+proved() {
+    awk '
+        function close_part() {
+            if (name != "" && !(is_tried && !is_proved)) {
+                all++
+                anew += is_new
+                last = name
+            }
+            is_tried = is_proved = is_new = 0
+        }
+        $1 == "==" { close_part(); name = $2 == "summary" ? "" : $2; next }
+        !/^rt: / { is_tried = 1 }
+        /^crate [^ ]+: modules .* checked=[1-9]/ { is_new = 1 }
+        /^logic=proved/ { is_proved = 1 }
+        END { close_part(); print all + 0, anew + 0, last }' "$log"
+}
 
-# what the log has of a failure, the first error before the rest: not what is proved, nor what was not tried because of another; long lines cut
+# what the log has of a failure, the first error before the rest: not what is proved, nor what was not tried because of another, nor advice; files
+# named from the top, long lines cut
 why() {
     awk '
-        /: proved$/ || /^rt: [^ ]+ (proved \(|NOT PROVED: its dependency)/ || /^(library|logic|crate) / || /^logic=/ { next }
+        $1 == "==" { name = $2; next }
+        /: (proved|ok)$/ || /: not run, since / || /^(checked|library|statements|logic|crate|axioms|linked|help:) / || /^(logic|only)=/ { next }
+        /^note: / && !/^note: [^ ]+:[0-9]+:[0-9]+: / || /^rt: (rt|chose) / || /^\(1: / || /^[0-9]+ of [0-9]+ crates ok$/ { next }
+        name != "" && /^(note: )?(\.\/)?(src|specs|proofs)\// { sub(/(\.\/)?(src|specs|proofs)\//, "crates/" name "/&"); sub(/\/\.\//, "/") }
         { text = length($0) <= 240 ? $0 : substr($0, 1, 240) " .." }
-        first == "" && / error: / { first = text; next }
+        first == "" && /: error(\[[a-z-]+\])?: / { first = text; next }
         { rest[++count] = text }
         END {
             if (first != "") print first
@@ -59,7 +81,6 @@ tidy() {
         wait "$teller" 2>/dev/null
         over
     fi
-    [ -z "$memory" ] || rm -rf "$memory" || { sleep 1 && rm -rf "$memory"; } # twice: a process that is being ended may have written
 }
 
 # broken off by SIGNAL: all that `rt` has started ends too
@@ -79,14 +100,18 @@ stop() { # SIGNAL
 build() {
     n=$(crates) begun=$(date +%s)
     : >"$log" || exit 2
-    # without its mark `rt` links the program anew, and what an interrupted build leaves is not taken for a program
-    rm -f "$here/target/stamp/damindex" "$here/target/toolchain"
+    # without its mark `rt` links the program anew; without that of this script what is there of an earlier build is not run any more
+    rm -f "$made.stamp" "$here/target/stamp/damindex" "$here/target/toolchain"
     trap 'stop HUP' HUP
     trap 'stop INT' INT
     trap 'stop TERM' TERM
     . "$here/scripts/processors.sh"
-    # in a session of its own, where there is the command for that, so that it can be ended whole
-    (CDPATH='' cd -- "$here" && exec $(command -v setsid) rt check damindex) </dev/null >"$log" 2>&1 &
+    # the crates side by side, then the program, which `rt` runs once it is linked; in a session of its own, where there is the command for that, so
+    # that it can be ended whole
+    (
+        CDPATH='' cd -- "$here/crates/damindex" &&
+            exec $(command -v setsid) sh -c 'rt all check --jobs "$1" && exec rt run >/dev/null' sh "$jobs"
+    ) </dev/null >"$log" 2>&1 &
     builder=$!
     if [ -t 2 ]; then
         size=$(stty size <&2 2>/dev/null) && [ "${size#* }" -gt 1 ] && columns=$((${size#* } - 1))
@@ -99,11 +124,15 @@ build() {
     status=$?
     tidy
     trap - HUP INT TERM
-    if [ $status != 0 ] || ! [ -x "$program" ]; then
+    if [ $status != 0 ] || ! [ -x "$made" ] || ! [ -f "$made.stamp" ]; then
         why >&2
-        say "the build failed (rt check damindex, status $status); all that rt said is in $log"
+        [ $status != 0 ] || say 'rt has left no mark of a proved program: is the code still as it was when the build began?'
+        say "the build failed (rt all check, then rt run, in crates/damindex; status $status); all that rt said is in $log"
         exit 2
     fi
+    # kept where no later run of `rt` takes it away
+    mkdir -p "$here/target/bin" "$here/target/stamp" && cp -p "$made" "$program.new" && mv -f "$program.new" "$program" || exit 2
+    : >"$here/target/stamp/damindex"
     [ -e "$loader" ] || seldom toolchain.sh
     proved | {
         read -r all anew last

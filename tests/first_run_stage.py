@@ -9,7 +9,7 @@ import time
 from pathlib import Path
 
 ROOT = Path(__file__).resolve().parent.parent
-TOOLS = "awk cat chmod cut date df dirname flock grep mkdir mktemp nproc readlink rm setsid sh sleep stty tail touch uname".split()
+TOOLS = "awk cat chmod cp date dirname flock mkdir mv nproc readlink rm setsid sh sleep stty touch".split()
 LOADER = "/lib64/ld-linux-x86-64.so.2"
 CASE = b"0f0000\n"
 ANSWER = b"answer to 0f0000\n"
@@ -20,41 +20,68 @@ read -r line
 echo "answer to $line"
 """
 
-# `rt check damindex`: keeps a note of how it was called and what it could read, prints lines as rt does, and leaves program and mark as rt does.
-# FAKE says what else happens: each crate takes a while, one is refused, the program is missing, or it hangs with the program half written.
+# `rt all check`, then `rt run`, in crates/damindex: keeps a note of how it was called and what it could read, prints lines as rt does, and leaves program
+# and mark as rt does. FAKE says what else happens: each crate takes a while, one is refused, the program is missing, or it hangs with the program half
+# written.
 RT = """#!/bin/sh
-echo "$* in $(pwd) reads '$(cat)', RT_JOBS=$RT_JOBS" >>"$NOTES/calls"
+echo "$* in $(pwd) reads '$(cat)'" >>"$NOTES/calls"
 case ${FAKE-} in slow) pause=0.8 ;; *) pause=0 ;; esac
-for name in laws records numbers; do
+anew() {
+    echo "== $1"
     echo 'fn of some crate: proved'
-    echo "rt: $name proved (2 s)"
+    echo "crate $1: modules loaded=30 checked=4"
+    echo 'logic=proved functions=1 sum=0'
+}
+if [ "$1" = run ]; then
+    mkdir -p out
+    rm -f out/damindex.stamp
+    if [ "${FAKE-}" = hangs ]; then
+        echo 'echo half a program' >out/damindex
+        chmod +x out/damindex
+        sleep 60 &
+        echo $! >"$NOTES/child"
+        sleep 60
+    fi
+    echo 'crate damindex: modules loaded=34 checked=0' >&2
+    echo 'logic=proved functions=1 sum=0' >&2
+    if [ "${FAKE-}" != empty ]; then
+        cat "$NOTES/program" >out/damindex
+        chmod +x out/damindex
+        touch out/damindex.stamp
+    fi
+    echo 'rt: running out/damindex; to give it other input, run that file yourself' >&2
+    echo 'what the program answers to an empty input'
+    exit 0
+fi
+echo 'only=0 proved=0'
+for name in laws records numbers; do
+    anew $name
     sleep $pause
 done
-echo 'rt: solas proved (unchanged since it was last proved)'
+echo '== solas'
 if [ "${FAKE-}" = fails ]; then
-    echo "crates/damindex/src/main.rt:7:1: error: the very reason, at length: $(printf '%2000s' x)"
+    echo '== damindex'
+    for name in a b c; do echo 'note: advice that says nothing of a place'; done
+    echo "src/main.rt:7:1: error: the very reason, at length: $(printf '%2000s' x)"
     for name in a b c d e f g h; do echo "a note: error: of what $name stands on"; done
     echo 'fn of it: not proved'
     for name in a b c d e f g h i j k l m n o; do echo "library $name: modules loaded=4 checked=0"; done
+    echo 'crate damindex: modules loaded=30 checked=4'
     echo 'logic=not-proved'
-    echo 'rt: damindex NOT PROVED (exit 1, 3 s)'
-    for name in a b c d e f g h i j k l m n o; do echo "rt: $name NOT PROVED: its dependency damindex is not proved"; done
-    echo 'rt: FAILED: damindex'
+    echo 'rattle build: nothing was built, since only a proved crate is built'
+    echo 'rt: rt check --only NAME checks that function and what it calls, and not the rest: advice'
+    echo '== summary'
+    for name in a b c d e f g h i j k l m n o; do echo "$name: ok"; done
+    echo 'damindex: failed (1)'
+    for name in a b c d e f g h i j k l m n o; do echo "$name: not run, since damindex failed"; done
+    echo '(1: not proved or not passed, 2: rattle failed, 3: antt could not tell)'
+    echo '4 of 5 crates ok'
     exit 1
 fi
-mkdir -p target/bin target/stamp
-rm -f target/stamp/damindex
-if [ "${FAKE-}" = hangs ]; then
-    echo 'echo half a program' >target/bin/damindex
-    chmod +x target/bin/damindex
-    sleep 60 &
-    echo $! >"$NOTES/child"
-    sleep 60
-fi
-[ "${FAKE-}" = empty ] || { cat "$NOTES/program" >target/bin/damindex; chmod +x target/bin/damindex; }
-echo 'rt: damindex proved (3 s)'
-touch target/stamp/damindex
-echo 'rt: ok, 5 crates proved'
+anew damindex
+echo '== summary'
+for name in laws records numbers solas damindex; do echo "$name: ok"; done
+echo '5 of 5 crates ok'
 """
 
 
@@ -84,7 +111,7 @@ class Tree:
         self.program, self.log = self.top / "target" / "bin" / "damindex", self.top / "target" / "build.log"
 
     def environment(self, path, fake):
-        return {"PATH": str(path), "NOTES": str(self.notes), "FAKE": fake, "TMPDIR": str(self.notes), "RT_JOBS": "3"}
+        return {"PATH": str(path), "NOTES": str(self.notes), "FAKE": fake, "TMPDIR": str(self.notes)}
 
     def run(self, *words, path=None, fake="", data=CASE, script=None, cwd=None):
         """A run with no terminal: status, what it wrote, and its lines on standard error."""
@@ -111,10 +138,13 @@ class Tree:
         return os.waitstatus_to_exitcode(os.waitpid(child, 0)[1]), seen.decode()
 
     def calls(self):
-        """How often `rt` was called so far, and how at last."""
+        """How `rt` was called so far."""
         notes = self.notes / "calls"
-        lines = notes.read_text().splitlines() if notes.exists() else []
-        return len(lines), lines[-1] if lines else ""
+        return notes.read_text().splitlines() if notes.exists() else []
+
+    def builds(self):
+        """How many builds were begun so far."""
+        return sum(call.startswith("all check ") for call in self.calls())
 
     def built(self):
         self.run()
@@ -122,9 +152,9 @@ class Tree:
 
 
 def stands_on():
-    """How many crates the program stands on, with itself: by crates.txt, the kit's libraries not counted."""
+    """How many crates the program stands on, with itself: by crates.txt."""
     lines = (line.partition("#")[0].partition(":") for line in (ROOT / "crates.txt").read_text(encoding="utf-8").splitlines())
-    needs = {name.strip(): rest.split() for name, colon, rest in lines if colon}
+    needs = {head.split()[0]: rest.split() for head, colon, rest in lines if colon}
     reached, todo = set(), ["damindex"]
     while todo:
         name = todo.pop()

@@ -1,6 +1,5 @@
 """Links a program in C with the archive of a proved crate or with the library's shared object, and says how the program is run on this machine."""
 
-import os
 import platform
 import shutil
 import subprocess
@@ -16,17 +15,17 @@ COMPILER = "cc" if AT_HOME else "x86_64-linux-gnu-gcc"
 
 def archive(crate):
     """The crate's archive, made with `rt` where it is missing or older than a source."""
-    made = ROOT / "target" / "staticlib" / ("lib%s.a" % crate)
-    sources = [ROOT / "crates.txt", *(ROOT / "crates").rglob("*")]
+    folder = ROOT / "crates" / crate
+    made = folder / "out" / ("lib%s.a" % crate)
+    sources = [ROOT / "crates.txt", *(path for part in ("src", "specs", "proofs") for path in ROOT.glob("crates/*/%s/**/*" % part))]
     if not made.exists() or any(source.stat().st_mtime > made.stat().st_mtime for source in sources):
-        subprocess.run(["rt", "staticlib", crate], cwd=ROOT, check=True, stdout=subprocess.DEVNULL)
+        subprocess.run(["rt", "lib"], cwd=folder, check=True, stdout=subprocess.DEVNULL)
     return made
 
 
 def kit_tool(name):
-    """A program of the kit's toolchain for this machine."""
-    kit = Path(os.environ.get("RATTLE_HOME") or Path(shutil.which("rt")).resolve().parent.parent)
-    return str(kit / "on" / platform.machine() / "toolchain" / "bin" / name)
+    """A program of the kit's toolchain."""
+    return str(Path(shutil.which("rt")).resolve().parent.parent / "toolchain" / "bin" / name)
 
 
 def tool_for_objects(name):

@@ -62,8 +62,15 @@ def version_faults():
 
 # ---- what is there
 
-def file_faults(folder):
-    """Just the files of a package, the shared object under its two links."""
+def is_link(file, target, symbolic):
+    """Whether a file is a link to another beside it: one of the two kinds, and not of the other."""
+    if file.is_symlink() or symbolic:
+        return symbolic and file.is_symlink() and os.readlink(file) == target
+    return os.path.samefile(file, file.with_name(target))
+
+
+def file_faults(folder, symbolic=False):
+    """Just the files of a package, the shared object under its two links: symbolic ones where it is installed."""
     links = {Path("lib/libdamindex.so"): SONAME, Path("lib", SONAME): OBJECT}
     files = {Path("include/damindex.h"), Path("lib/libdamindex.a"), Path("lib", OBJECT), Path("lib/pkgconfig/damindex.pc")}
     found = {path.relative_to(folder) for path in folder.rglob("*") if path.is_symlink() or not path.is_dir()}
@@ -71,8 +78,7 @@ def file_faults(folder):
         yield "too much or too little in the package: %s" % sorted(map(str, found ^ (files | links.keys())))
         return
     for link, target in links.items():
-        there = (folder / link).is_symlink() and os.readlink(folder / link) == target
-        yield None if there else "%s is no link to %s" % (link, target)
+        yield None if is_link(folder / link, target, symbolic) else "%s is no link to %s" % (link, target)
     yield None if filecmp.cmp(folder / "include" / "damindex.h", ROOT / "include" / "damindex.h", False) else "the package has another header"
 
 
@@ -103,7 +109,7 @@ def archive_faults():
     shown = {name for kind, name in found if kind.isupper() and kind != "U"}
     kept = [name for kind, name in found if kind in "BbDdCSsGg"]
     needed = {name for kind, name in found if kind == "U"} - {name for kind, name in found if kind != "U"}
-    marked = set(re.findall(r'^#\[no_mangle\]\npub extern "C" fn (\w+)', CODE, re.M))
+    marked = set(re.findall(r'^#\[unsafe\(no_mangle\)\]\npub extern "C" fn (\w+)', CODE, re.M))
     yield None if declared() == marked else "the header declares %s, and the code has %s" % (sorted(declared()), sorted(marked))
     yield None if shown == declared() else "the archive shows %s" % sorted(shown)
     yield None if needed == OF_C else "the archive calls %s" % sorted(needed)
@@ -207,7 +213,7 @@ def manner_faults():
         installed = Path(scratch).resolve() / "in" / "stalled"
         right = run.returncode == 0 and run.stdout.startswith("damindex %s " % DOTTED)
         yield None if right else "--prefix: status %d, %s" % (run.returncode, run.stderr)
-        yield from file_faults(installed)
+        yield from file_faults(installed, symbolic=True)
         yield from flag_faults(installed)
         both = ("lib/libdamindex.a", "lib/" + OBJECT, "lib/pkgconfig/damindex.pc")
         same = all(filecmp.cmp(installed / file, PACKAGE / file, False) for file in both)

@@ -1,14 +1,33 @@
 // The program: a case file from standard input, of which a byte past the limit is enough to refuse it, and its printed answer.
 #![tactic(auto)]
 
-use casefile::LONGEST_INPUT;
+ghost use Rattle.std.specs.Prelude.{◌≤◌, length};
 
-fn main() {
+use casefile::LONGEST_INPUT;
+use std::io::Read;
+
+// Reads until the buffer is full or the input ends, and returns how many bytes it has put in front. A read that fails is taken for the end.
+fn read_full<R: Read>(input: &mut R, buffer: &mut [u8]) -> usize
+    ensures { result ≤ length buffer.new }
+{
+    let mut done = 0;
+    while done < buffer.len() {
+        match input.read(&mut buffer[done..]) {
+            Ok(n) if n > 0 => done += n,
+            _ => break,
+        }
+    }
+    done
+}
+
+fn main(rt: HostRuntime) {
     let mut input = [0u8; LONGEST_INPUT + 1];
-    let n = io::read_full(0, &mut input);
+    let n = read_full(&mut rt.stdin(), &mut input);
     let mut out = [0u8; 12_569];
     let k = index::printed::report(&input[..n], &mut out);
-    if !io::write_all(1, &out[..k]) {
-        io::write_all(2, b"damindex: the answer could not be written\n");
+    if rt.write_all(&out[..k]).is_err() {
+        let _ = rt
+            .stderr()
+            .write_all(b"damindex: the answer could not be written\n");
     }
 }

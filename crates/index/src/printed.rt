@@ -23,7 +23,7 @@ fn put_case(kept: &[u8], h: Hull, rows: u64, out: &mut [u8])
 {
     let mut t = [0u64; TABLE];
     spans::fill_table(h, &mut t);
-    let partials = rows::lines::print(kept, rows as usize, h, &t, out, 69);
+    let partials = rows::report_lines::print(kept, rows as usize, h, &t, out, 69);
     let a = conclude(h, rows, partials);
     printing::put_figures(a, out);
 }

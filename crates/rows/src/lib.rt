@@ -4,7 +4,7 @@
 use chances::Sums;
 use records::{Ends, RowHead, Survival, Trio};
 
-pub mod lines; // the rows in turn: their lines in a report
+pub mod report_lines; // the rows in turn: their lines in a report
 pub mod row; // a row after those before it
 pub mod sheet; // the rows in turn: their shares on the sheet
 pub mod survivals; // the survivals of a row as it is kept

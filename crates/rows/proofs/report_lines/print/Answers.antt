@@ -1,4 +1,4 @@
--- `rows::lines::print` meets its contract: what is known of the rows done, with those left, comes to what all rows come to. Assumes nothing.
+-- `rows::report_lines::print` meets its contract: what is known of the rows done, with those left, comes to what all rows come to. Assumes nothing.
 use Prim.Native.Nat.{◌-◌, ◌*◌, ◌^◌}
 use native.Mathlib.Omega.{arith}
 use mathlib.Core.Path.{ap}
@@ -7,7 +7,7 @@ use Rattle.rows.specs.declared.Running.{Running}
 use Rattle.rows.specs.Running.{begun}
 use Rattle.rows.proofs.InTurn.{starts, may_enter, stands_there, part_there, survivals_there, goes_on, sums_are}
 use Rattle.rows.proofs.InLines.{no_line, one_line_more, all_lines}
-use Rattle.rows.proofs.lines.print.Goals as goal
+use Rattle.rows.proofs.report_lines.print.Goals as goal
 
 pub loop-i-init : goal.loop-i-init
 loop-i-init c =

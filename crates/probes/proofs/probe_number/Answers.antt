@@ -1,0 +1,7 @@
+-- `probes::probe_number` gives what the reading says of it. Assumes nothing.
+use mathlib.Core.Path.{ap}
+use Rattle.casefile.specs.declared.Judgement.{Judgement}
+use Rattle.probes.proofs.probe_number.Goals as goal
+
+pub returns : goal.returns
+returns c = ap (λ (j : Judgement). j.number) c.judged.ensures

@@ -37,9 +37,9 @@ no_share all g some = absurd (some (record { cross = refl }))
 
 -- ---- two zones, whose pair has a share and is not listed: the total is not one
 not_listed : (l : Listed unpaired 1 2) → Memᴰ l.row unpaired.rows → ⊥
-not_listed l (mathlib.Core.List.Memᴰ.tail (mathlib.Core.List.Memᴰ.tail x8)) = elim x8 [ ]
 not_listed l (Memᴰ.head e) = omega (arith, l.count, ap (λ (r : Row). r.head.count) e)
 not_listed l (Memᴰ.tail (Memᴰ.head e)) = omega (arith, l.count, ap (λ (r : Row). r.head.count) e)
+not_listed l (Memᴰ.tail (Memᴰ.tail m)) = elim m [ ]
 
 pair_missing : AllListed unpaired → ⊥
 unfolding group_share share within Q G P p C G1 G3 touch ◌⊹◌ ◌⊝◌ ◌⊛◌ ◌less◌over◌

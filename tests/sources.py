@@ -3,8 +3,8 @@
 import re
 
 FUNCTION = re.compile(r'^[ \t]*pub (?:extern "C" )?fn (\w+)', re.M)
-# a body's brace: on a line of its own or with what it holds, or right behind a signature that has no clauses; a clause's brace has a formula
-BODY = re.compile(r"\n[ \t]*\{(?![ \t]*[λ⌜])|\)\s*(?:->[^{\n]*)?\{")
+# a body's brace: on a line of its own or with what it holds, or right behind a signature that has no clauses; a clause's brace stands behind its word
+BODY = re.compile(r"\n[ \t]*\{|\)\s*(?:->[^{\n]*)?\{")
 STATEMENT = re.compile(r"^(?:abbrev )?pub (\S+) : Type [01]$", re.M)
 RECORD = re.compile(r"^pub record (\S+) : Type [01] where\n((?:[ \t]+.*\n|\n)*)", re.M)
 FIELD = re.compile(r"^  pub ", re.M)

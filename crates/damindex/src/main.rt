@@ -1,14 +1,17 @@
 // The program: a case file from standard input, of which a byte past the limit is enough to refuse it, and its printed answer.
 #![tactic(auto)]
 
-ghost use Rattle.std.specs.Prelude.{◌≤◌, length};
+ghost use Rattle.std.specs.Prelude.{◌≤◌, length, take};
+ghost use Rattle.std.specs.Io.KnownBytes.{Consumes};
 
 use casefile::LONGEST_INPUT;
 use std::io::Read;
 
-// Reads until the buffer is full or the input ends, and returns how many bytes it has put in front. A read that fails is taken for the end.
+// Reads until the buffer is full or the input ends, and returns how many bytes it has put in front: those that the reader had next, in their order. A
+// read that fails is taken for the end.
 fn read_full<R: Read>(input: &mut R, buffer: &mut [u8]) -> usize
-    ensures { result ≤ length buffer.new }
+    ensures room { result ≤ length buffer.new }
+    ensures bytes { Consumes (R.remaining input.old) (R.remaining input.new) (take result buffer.new) }
 {
     let mut done = 0;
     while done < buffer.len() {

@@ -14,13 +14,13 @@ over_is : (c : After-over) → c.over.result ≡ above c.args.k
 over_is c = rw (to_z-of_z w64 c.args.k c.ranges.k) at c.over.ensures
 
 over_term : (c : After-over) → c.over.result * c.args.w ≤ 40001 * 10 ^ 13
-over_term c = let s = c in rw (over_is c) (term_small (above_small s.args.k s.requires.0) s.requires.1)
+over_term c = rw (over_is c) (term_small (above_small c.args.k c.requires.0) c.requires.1)
 
 under_is : (c : After-under) → c.under.result ≡ beneath c.args.k
-under_is c = let s = c in rw (to_z-of_z w64 s.args.k s.ranges.k) at c.under.ensures
+under_is c = rw (to_z-of_z w64 c.args.k c.ranges.k) at c.under.ensures
 
 under_term : (c : After-under) → c.under.result * c.args.w ≤ 40001 * 10 ^ 13
-under_term c = let s = c in rw (under_is c) (term_small (beneath_small s.args.k s.requires.0) s.requires.1)
+under_term c = rw (under_is c) (term_small (beneath_small c.args.k c.requires.0) c.requires.1)
 
 pub overflow_mul-up : goal.overflow_mul-up
 overflow_mul-up c = omega (arith, over_term (goal.at.overflow_mul-up c).After-over)

@@ -13,8 +13,7 @@ below c = rw c.band-k.ensures (band_below c.args.l c.args.x)
 
 chosen : (c : After-band-k) → Chosen c.args.l c.args.x c.band-k.result (p c.args.l c.args.x)
 chosen c =
-    let s = c in
-    in_band s.args.l s.args.x s.requires.0 s.requires.1 s.requires.2 c.band-k.result c.band-k.ensures
+    in_band c.args.l c.args.x c.requires.0 c.requires.1 c.requires.2 c.band-k.result c.band-k.ensures
 
 short : (c : Else-k-eq2) → c.args.l ≤ 19800
 short c = c.requires.1

@@ -10,13 +10,11 @@ use Rattle.bands.proofs.quotient.Goals as goal
 
 over_is : (c : After-over) → c.over.result ≡ above (entry c.args.row 4)
 over_is c =
-    let s = c in
-    rw (read_back (entry s.args.row 4) (s.requires.coefficients.small 4 (omega arith))) at c.over.ensures
+    rw (read_back (entry c.args.row 4) (c.requires.coefficients.small 4 (omega arith))) at c.over.ensures
 
 product : (c : After-over) → c.over.result * c.args.scale ≤ 40001 * 19800 ^ 2
 product c =
-    let s = c in
-    rw (over_is c) (mul-le-mul (above_small (entry s.args.row 4) (s.requires.coefficients.small 4 (omega arith))) s.requires.scaled)
+    rw (over_is c) (mul-le-mul (above_small (entry c.args.row 4) (c.requires.coefficients.small 4 (omega arith))) c.requires.scaled)
 
 pub value-s-requires : goal.value-s-requires
 value-s-requires c = (c.requires.coefficients, c.requires.numbers)

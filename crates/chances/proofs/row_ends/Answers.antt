@@ -6,11 +6,9 @@ use Rattle.chances.proofs.row_ends.Goals as goal
 pub returns-then-upper-le1000000000 : goal.returns-then-upper-le1000000000
 unfolding lowest highest
 returns-then-upper-le1000000000 c =
-    let s = c in
-    row_free s.args.before s.args.at c.above-lower.ensures c.above-upper.ensures c.if-upper-le1000000000.true
+    row_free c.args.before c.args.at c.above-lower.ensures c.above-upper.ensures c.if-upper-le1000000000.true
 
 pub returns : goal.returns
 unfolding lowest highest
 returns c =
-    let s = c in
-    row_held s.args.before s.args.at c.above-lower.ensures c.above-upper.ensures c.if-upper-le1000000000.false
+    row_held c.args.before c.args.at c.above-lower.ensures c.above-upper.ensures c.if-upper-le1000000000.false

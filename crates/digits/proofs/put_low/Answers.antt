@@ -8,4 +8,4 @@ pub bounds-out-at-2 : goal.bounds-out-at-2
 bounds-out-at-2 c = simp length-set (omega arith)
 
 pub returns : goal.returns
-returns c = let r = c in low_written r.args.at r.args.n r.args.out.now r.requires.0 c.digit_of.ensures
+returns c = low_written c.args.at c.args.n c.args.out.now c.requires.0 c.digit_of.ensures

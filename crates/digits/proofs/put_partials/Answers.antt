@@ -4,8 +4,5 @@ use Rattle.digits.proofs.put_partials.Goals as goal
 
 pub returns : goal.returns
 returns c =
-    let light = c in
-    let partial = light in
-    let deepest = partial in
-    let args = deepest.args in
-    partials_written args.at args.t args.out.now deepest.put_partial.ensures partial.put_partial-2.ensures light.put_partial-3.ensures
+    let args = c.args in
+    partials_written args.at args.t args.out.now c.put_partial.ensures c.put_partial-2.ensures c.put_partial-3.ensures

@@ -4,7 +4,7 @@ use Rattle.division.proofs.Division.{carry, step}
 use Rattle.division.proofs.carried.Goals as goal
 
 pub overflow_add-whole : goal.overflow_add-whole
-overflow_add-whole c = let s = c in omega (arith, carry s.args.by s.requires.small)
+overflow_add-whole c = omega (arith, carry c.args.by c.requires.small)
 
 pub returns : goal.returns
 returns c = step _ _ _ (omega arith)

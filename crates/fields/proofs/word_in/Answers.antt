@@ -1,22 +1,8 @@
 -- `word_in` meets its contract. Assumes nothing.
-use Prim.Native.Nat.{◌+◌}
 use mathlib.Core.Path.{refl}
 use Rattle.fields.specs.Fields.{word_at}
-use native.Mathlib.Omega.{arith}
 use Rattle.fields.proofs.word_in.Goals as goal
 
-pub overflow_cast-result : goal.overflow_cast-result
-overflow_cast-result c = omega (arith, c.shared_slice_known-1.given c.args.at)
-
-pub overflow_mul-result : goal.overflow_mul-result
-overflow_mul-result c = omega (arith, c.shared_slice_known-1.given c.args.at)
-
-pub overflow_cast-result-2 : goal.overflow_cast-result-2
-overflow_cast-result-2 c = omega (arith, c.shared_slice_known-2-1.given (c.args.at + 1))
-
-pub overflow_add-result-2 : goal.overflow_add-result-2
-overflow_add-result-2 c = let at = c.args.at in omega (arith, c.shared_slice_known-2-1.given at, c.shared_slice_known-2-1.given (at + 1))
-
-pub returns : goal.returns
+pub returns-clause-value : goal.returns-clause-value
 unfolding word_at
-returns c = let at = c.args.at in record { value = refl; small = omega (arith, c.shared_slice_known-2-1.given at, c.shared_slice_known-2-1.given (at + 1)) }
+returns-clause-value c = refl

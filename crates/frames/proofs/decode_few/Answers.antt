@@ -1,6 +1,5 @@
 -- `decode_few` meets its contract: a pair more at each turn. Assumes nothing.
 use mathlib.Core.Path.{◌≡◌}
-use Prim.Native.Nat.{◌-◌}
 use native.Mathlib.Omega.{arith}
 use Rattle.frames.proofs.CodeDecoding.{none_read, as_long, pair_read}
 use Rattle.frames.proofs.decode_few.Goals as goal

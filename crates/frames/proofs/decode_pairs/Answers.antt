@@ -1,6 +1,5 @@
 -- `decode_pairs` meets its contract: sixteen pairs more at each turn, the last of which may have been read before in part. Assumes nothing.
 use mathlib.Core.Path.{◌≡◌}
-use Prim.Native.Nat.{◌-◌}
 use native.Mathlib.Omega.{arith}
 use Rattle.frames.proofs.CodeDecoding.{none_read, as_long, pairs_read}
 use Rattle.frames.proofs.decode_pairs.Goals as goal
@@ -17,8 +16,7 @@ decode_sixteen-bad-requires c = (omega arith, omega (arith, as_long _ _ _ _ _ c.
 pub loop-i-preserved : goal.loop-i-preserved
 loop-i-preserved c =
     let e = c.decode_sixteen-bad.ensures in
-    let b = c in
-    (omega arith, pairs_read _ _ _ _ _ b.loop-i.invariant.1 b.lesser-at.result 16 (omega arith) (omega arith) (omega arith) (omega arith) e.result e.buffer)
+    (omega arith, pairs_read _ _ _ _ _ c.loop-i.invariant.1 c.lesser-at.result 16 (omega arith) (omega arith) (omega arith) (omega arith) e.result e.buffer)
 
 pub shape_of-out : goal.shape_of-out
 shape_of-out c = as_long _ _ _ _ _ c.loop-i.invariant.1

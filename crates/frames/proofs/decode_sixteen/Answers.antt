@@ -1,6 +1,6 @@
 -- `decode_sixteen` meets its contract: a byte more is stored at each turn. Assumes nothing.
 use mathlib.Core.Path.{◌≡◌, refl}
-use Prim.Native.Nat.{◌-◌, ◌*◌}
+use Prim.Native.Nat.{◌*◌}
 use native.Mathlib.Omega.{arith}
 use lib.ListN.{take, drop}
 use Rattle.hexadecimal.specs.Hex.{bytes_of}

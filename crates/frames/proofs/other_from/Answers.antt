@@ -1,6 +1,5 @@
 -- `other_from` meets its contract: what is seen and what is left tell together what is asked. Assumes nothing.
 use mathlib.Core.Path.{refl, sym, ◌∙◌}
-use Prim.Native.Nat.{◌-◌}
 use native.Mathlib.Omega.{arith}
 use Rattle.frames.proofs.CodeDecoding.{other_next, other_ended}
 use Rattle.frames.proofs.other_from.Goals as goal

@@ -1,6 +1,5 @@
 -- `some_other` meets its contract: one value more at each turn. Assumes nothing.
 use mathlib.Core.Path.{◌≡◌}
-use Prim.Native.Nat.{◌-◌}
 use native.Mathlib.Omega.{arith}
 use Rattle.frames.proofs.CodeTurns.{other_none, other_more}
 use Rattle.frames.proofs.some_other.Goals as goal

@@ -10,13 +10,12 @@ the_zone : (a : ℕ) → Part a 1 a a
 the_zone a = record { after = omega arith; order = omega arith; before = omega arith }
 
 pub span_of-requires : goal.span_of-requires
-span_of-requires c = let s = c in in_table s.requires.0 (the_zone s.args.a)
+span_of-requires c = in_table c.requires.0 (the_zone c.args.a)
 
 pub span_within-added-requires : goal.span_within-added-requires
 span_within-added-requires c =
-    let s = c in
-    let l = s.requires.0 in
-    span_lent l (the_zone s.args.a) s.requires.1 (aft_is l) (fwd_is l s.args.a (omega arith)) c.span_of.ensures
+    let l = c.requires.0 in
+    span_lent l (the_zone c.args.a) c.requires.1 (aft_is l) (fwd_is l c.args.a (omega arith)) c.span_of.ensures
 
 pub returns : goal.returns
 unfolding sums_across

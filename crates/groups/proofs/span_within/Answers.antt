@@ -12,9 +12,8 @@ pub g_ends-g-requires : goal.g_ends-g-requires
 g_ends-g-requires c = c.requires.0
 
 pub q_ends-requires : goal.q_ends-requires
-q_ends-requires c = let s = c in mixes s.requires.0 s.requires.1 c.g_ends-g.ensures
+q_ends-requires c = mixes c.requires.0 c.requires.1 c.g_ends-g.ensures
 
 pub returns : goal.returns
 returns c =
-    let s = c in
-    at_some s.requires.0 s.requires.1 c.g_ends-g.ensures c.if-y-eq0.false c.q_ends.ensures
+    at_some c.requires.0 c.requires.1 c.g_ends-g.ensures c.if-y-eq0.false c.q_ends.ensures

@@ -4,10 +4,9 @@ use Rattle.groups.proofs.Group.{lent, sums_by_bulkheads}
 use Rattle.groups.proofs.sums_at.Goals as goal
 
 pub sums_to-requires : goal.sums_to-requires
-sums_to-requires c = let s = c in (lent s.requires.0 s.requires.1 s.requires.2 c.group_at-k.ensures, omega (arith, s.requires.3))
+sums_to-requires c = (lent c.requires.0 c.requires.1 c.requires.2 c.group_at-k.ensures, omega (arith, c.requires.3))
 
 pub returns : goal.returns
 returns c =
-    let s = c in
-    let a = s.args in
-    (sums_by_bulkheads a.h a.b a.a a.n s.requires.2.some c.group_at-k.ensures c.sums_to.ensures.0, c.sums_to.ensures.1)
+    let a = c.args in
+    (sums_by_bulkheads a.h a.b a.a a.n c.requires.2.some c.group_at-k.ensures c.sums_to.ensures.0, c.sums_to.ensures.1)

@@ -8,14 +8,12 @@ returns-then-b-eq0 c = let a = c.args in sums_at_none a.l a.breadth a.k a.b a.n 
 
 pub at_depth-requires : goal.at_depth-requires
 at_depth-requires c =
-    let s = c in
-    let l = s.requires.0 in
-    (omega (arith, l.broad, l.hulled.broad), omega (arith, l.broad, l.hulled.narrow), s.requires.1)
+    let l = c.requires.0 in
+    (omega (arith, l.broad, l.hulled.broad), omega (arith, l.broad, l.hulled.narrow), c.requires.1)
 
 pub group_sums-requires : goal.group_sums-requires
 group_sums-requires c =
-    let s = c in
-    (s.requires.0, layered s.args.breadth s.args.b s.requires.1 c.at_depth.ensures)
+    (c.requires.0, layered c.args.breadth c.args.b c.requires.1 c.at_depth.ensures)
 
 pub returns : goal.returns
 returns c =

@@ -5,10 +5,9 @@ use Rattle.host.proofs.Room.{no_room, room_for_all}
 use Rattle.host.proofs.damindex_figures.Goals as goal
 
 pub returns-then-figures-lt12 : goal.returns-then-figures-lt12
-returns-then-figures-lt12 c = let r = c in no_room (reading r.args.input.now) r.args.figures.now r.args.sheet.now c.if-figures-lt12.true
+returns-then-figures-lt12 c = no_room (reading c.args.input.now) c.args.figures.now c.args.sheet.now c.if-figures-lt12.true
 
 pub returns : goal.returns
 returns c =
-    let r = c in
     let answered = c.answer-a in
-    room_for_all (reading r.args.input.now) r.args.figures.now r.args.sheet.now (search rules) answered.ensures.0 answered.ensures.1 c.write_figures.ensures
+    room_for_all (reading c.args.input.now) c.args.figures.now c.args.sheet.now (search rules) answered.ensures.0 answered.ensures.1 c.write_figures.ensures

@@ -11,10 +11,9 @@ returns-then-not-persons_fit c = persons_wrong _ _ (sym c.sizes_fit.ensures ∙ 
 
 pub returns-then-not-zones_fit : goal.returns-then-not-zones_fit
 returns-then-not-zones_fit c =
-    let p = c in
     zones_wrong _ _
-    (sym p.sizes_fit.ensures ∙ p.if-not-sizes_fit.false)
-    (sym p.persons_fit.ensures ∙ p.if-not-persons_fit.false)
+    (sym c.sizes_fit.ensures ∙ c.if-not-sizes_fit.false)
+    (sym c.persons_fit.ensures ∙ c.if-not-persons_fit.false)
     (sym c.zones_fit.ensures ∙ c.if-not-zones_fit.true)
 
 pub hull_length-requires : goal.hull_length-requires
@@ -22,20 +21,16 @@ hull_length-requires c = few_zones _ (sym c.zones_fit.ensures ∙ c.if-not-zones
 
 pub returns-then-n-hull_length : goal.returns-then-n-hull_length
 returns-then-n-hull_length c =
-    let z = c in
-    let p = z in
     length_wrong _ _
-    (sym p.sizes_fit.ensures ∙ p.if-not-sizes_fit.false)
-    (sym p.persons_fit.ensures ∙ p.if-not-persons_fit.false)
-    (sym z.zones_fit.ensures ∙ z.if-not-zones_fit.false)
+    (sym c.sizes_fit.ensures ∙ c.if-not-sizes_fit.false)
+    (sym c.persons_fit.ensures ∙ c.if-not-persons_fit.false)
+    (sym c.zones_fit.ensures ∙ c.if-not-zones_fit.false)
     (λ e. c.if-n-hull_length.true (e ∙ sym c.hull_length.ensures))
 
 pub returns : goal.returns
 returns c =
-    let z = c in
-    let p = z in
     hull_right _ _
-    (sym p.sizes_fit.ensures ∙ p.if-not-sizes_fit.false)
-    (sym p.persons_fit.ensures ∙ p.if-not-persons_fit.false)
-    (sym z.zones_fit.ensures ∙ z.if-not-zones_fit.false)
+    (sym c.sizes_fit.ensures ∙ c.if-not-sizes_fit.false)
+    (sym c.persons_fit.ensures ∙ c.if-not-persons_fit.false)
+    (sym c.zones_fit.ensures ∙ c.if-not-zones_fit.false)
     (c.if-n-hull_length.false ∙ c.hull_length.ensures)

@@ -1,6 +1,5 @@
 -- `judge_first` meets its contract: what a hull record has goes into the buffer. Assumes nothing.
 use mathlib.Core.Path.{sym, ◌∙◌}
-use borrow.Author.Tests.{not-true, not-false}
 use Rattle.hexadecimal.specs.Hex.{pairs}
 use Rattle.frames.proofs.CodeDecoding.{badly_written_lem, stored}
 use Rattle.hulls.proofs.CodeOpening.{first_not_closed, first_no_digits, first_short, first_other, first_hull_lem, kind_stored, hull_stored}
@@ -11,39 +10,35 @@ returns-then-not-closed c = c.refused.ensures ∙ rw c.if-not-closed.true (first
 
 pub returns-in_default : goal.returns-in_default
 returns-in_default c =
-    let d = c in
     c.refused-in_default.ensures
-    ∙ rw d.if-not-closed.false
-    (first_no_digits _ (badly_written_lem _ (sym d.decode_text.ensures.result ∙ c.in_default.is)))
+    ∙ rw c.if-not-closed.false
+    (first_no_digits _ (badly_written_lem _ (sym c.decode_text.ensures.result ∙ c.in_default.is)))
 
 pub returns-then-n-hull_length : goal.returns-then-n-hull_length
 returns-then-n-hull_length c =
-    let d = c in
-    let text = d.args.text.now in
-    let w = sym d.decode_text.ensures.result ∙ c.in-Bytes.is in
-    let there = stored text _ _ w d.decode_text.ensures.buffer in
+    let text = c.args.text.now in
+    let w = sym c.decode_text.ensures.result ∙ c.in-Bytes.is in
+    let there = stored text _ _ w c.decode_text.ensures.buffer in
     let kind = c.byte_at-kind.ensures.value ∙ kind_stored (pairs text) _ there in
     c.refused-then-n-hull_length.ensures
-    ∙ rw d.if-not-closed.false
+    ∙ rw c.if-not-closed.false
     (first_short _ _ w _ kind (rw c.hull_length.ensures at c.if-n-hull_length.true))
 
 pub returns-in-1 : goal.returns-in-1
 returns-in-1 c =
-    let d = c in
-    let text = d.args.text.now in
-    let w = sym d.decode_text.ensures.result ∙ c.in-Bytes.is in
-    let there = stored text _ _ w d.decode_text.ensures.buffer in
+    let text = c.args.text.now in
+    let w = sym c.decode_text.ensures.result ∙ c.in-Bytes.is in
+    let there = stored text _ _ w c.decode_text.ensures.buffer in
     let kind = c.byte_at-kind.ensures.value ∙ kind_stored (pairs text) _ there in
-    rw d.if-not-closed.false
+    rw c.if-not-closed.false
     (first_hull_lem _ _ w _ kind _ _ (rw c.hull_length.ensures at c.if-n-hull_length.false) c.in-1.is (hull_stored (pairs text) _ there _) c.judge_hull.ensures)
 
 pub returns-in_default-kind : goal.returns-in_default-kind
 returns-in_default-kind c =
-    let d = c in
-    let text = d.args.text.now in
-    let w = sym d.decode_text.ensures.result ∙ c.in-Bytes.is in
-    let there = stored text _ _ w d.decode_text.ensures.buffer in
+    let text = c.args.text.now in
+    let w = sym c.decode_text.ensures.result ∙ c.in-Bytes.is in
+    let there = stored text _ _ w c.decode_text.ensures.buffer in
     let kind = c.byte_at-kind.ensures.value ∙ kind_stored (pairs text) _ there in
     c.refused-in_default-kind.ensures
-    ∙ rw d.if-not-closed.false
+    ∙ rw c.if-not-closed.false
     (first_other _ _ w _ kind c.in_default-kind.in_default-kind-own.rest.1)

@@ -6,19 +6,17 @@ use borrow.Author.Rules.{rules}
 use Rattle.index.proofs.answer.Goals as goal
 
 pub returns-then-judged-ne0 : goal.returns-then-judged-ne0
-returns-then-judged-ne0 c = let r = c in refused_case (reading r.args.input.now) r.args.sheet.now c.judge-judged.ensures.judgement c.if-judged-ne0.true c.refuse.ensures
+returns-then-judged-ne0 c = refused_case (reading c.args.input.now) c.args.sheet.now c.judge-judged.ensures.judgement c.if-judged-ne0.true c.refuse.ensures
 
 pub returns-then-sheet-judged : goal.returns-then-sheet-judged
-returns-then-sheet-judged c = let r = c in short_sheet r.args.input.now c.judge-judged.ensures.judgement (search rules) r.args.sheet.now c.if-sheet-judged.true c.refuse-then-sheet-judged.ensures
+returns-then-sheet-judged c = short_sheet c.args.input.now c.judge-judged.ensures.judgement (search rules) c.args.sheet.now c.if-sheet-judged.true c.refuse-then-sheet-judged.ensures
 
 pub complete-requires : goal.complete-requires
 complete-requires c =
-    let r = c in
     let j = c.judge-judged in
-    (valid_case r.args.input.now j.ensures.judgement (search rules) _ j.ensures.rows, omega (arith, few_rows r.args.input.now j.ensures.judgement (search rules) _ j.ensures.rows), omega arith)
+    (valid_case c.args.input.now j.ensures.judgement (search rules) _ j.ensures.rows, omega (arith, few_rows c.args.input.now j.ensures.judgement (search rules) _ j.ensures.rows), omega arith)
 
 pub returns : goal.returns
 returns c =
-    let r = c in
     let j = c.judge-judged in
-    whole_case r.args.input.now j.ensures.judgement (search rules) _ j.ensures.rows r.args.sheet.now (omega arith) c.complete.ensures.0 c.complete.ensures.1
+    whole_case c.args.input.now j.ensures.judgement (search rules) _ j.ensures.rows c.args.sheet.now (omega arith) c.complete.ensures.0 c.complete.ensures.1

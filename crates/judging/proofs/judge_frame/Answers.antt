@@ -1,7 +1,8 @@
 -- `judge_frame` meets its contract. Assumes nothing.
 use mathlib.Core.Path.{sym, ◌∙◌}
-use mathlib.Core.Logic.{inl, inr, ⊎_elim}
+use mathlib.Core.Logic.{inl, inr}
 use native.Mathlib.Omega.{arith}
+use borrow.Author.Rules.{rules}
 use Rattle.casefile.proofs.RowKinds.{of_taken}
 use Rattle.rowlines.proofs.CodeFrames.{wrong_length, results_go_in}
 use Rattle.judging.proofs.CodeJudging.{frame_wrong, frame_row, frame_end, frame_not_taken, frame_other}
@@ -10,41 +11,34 @@ use Rattle.judging.proofs.judge_frame.Goals as goal
 
 pub returns-then-frame-frame_length : goal.returns-then-frame-frame_length
 returns-then-frame-frame_length c =
-    let k = c in
-    frame_wrong _ _ _ (wrong_length _ k.args.frame.now _ k.byte_at-kind.ensures.value (λ f. c.if-frame-frame_length.true (f ∙ sym c.frame_length.ensures)))
+    frame_wrong _ _ _ (wrong_length _ c.args.frame.now _ c.byte_at-kind.ensures.value (λ f. c.if-frame-frame_length.true (f ∙ sym c.frame_length.ensures)))
 
 pub returns-then-not-is_taken : goal.returns-then-not-is_taken
 returns-then-not-is_taken c =
-    let k = c in
-    frame_not_taken _ _ k.args.frame.now _ k.byte_at-kind.ensures.value
-    (sym c.is_taken.ensures ∙ c.if-not-is_taken.true) (elim c.in-2-1.branch [ in-5-1 w ↦ inl w.in-5-1.keys1 | in_default+else-kind-lt2+then-kind-lt4 w ↦ inr (omega arith) ])
+    frame_not_taken _ _ c.args.frame.now _ c.byte_at-kind.ensures.value
+    (sym c.is_taken.ensures ∙ c.if-not-is_taken.true) (elim c.in-2-1.branch [ in-5-1 w ↦ inl (search rules) | in_default+else-kind-lt2+then-kind-lt4 w ↦ inr (omega arith) ])
 
 pub judge_row-requires : goal.judge_row-requires
 judge_row-requires c =
-    let k = c in
-    results_go_in k.args.frame.now _ (k.if-frame-frame_length.false ∙ k.frame_length.ensures)
+    results_go_in c.args.frame.now _ (c.if-frame-frame_length.false ∙ c.frame_length.ensures)
     (of_taken _ _ (sym c.is_taken.ensures ∙ c.if-not-is_taken.false))
 
 pub returns-in-15 : goal.returns-in-15
 returns-in-15 c =
-    let k = c in
-    frame_end k.args.frame.now _ k.byte_at-kind.ensures.value (k.if-frame-frame_length.false ∙ k.frame_length.ensures) _ _ _
+    frame_end c.args.frame.now _ c.byte_at-kind.ensures.value (c.if-frame-frame_length.false ∙ c.frame_length.ensures) _ _ _
     c.in-15.is c.judge_end.ensures
 
 pub returns-in_default : goal.returns-in_default
 returns-in_default c =
-    let k = c in
-    frame_other _ _ k.args.frame.now _ k.byte_at-kind.ensures.value (λ f. omega arith) (λ f. omega arith)
-    c.in_default.in_default-own.rest.0.1 c.in_default.in_default-own.rest.1
+    frame_other _ _ c.args.frame.now _ c.byte_at-kind.ensures.value (λ f. omega arith) (λ f. omega arith)
+    (λ f. omega arith) (λ f. omega arith)
 
 pub returns-in_default-2 : goal.returns-in_default-2
 returns-in_default-2 c =
-    let k = c in
-    frame_other _ _ k.args.frame.now _ k.byte_at-kind.ensures.value (λ f. omega arith) (λ f. omega arith)
-    c.in_default.in_default-own.rest.0.1 c.in_default.in_default-own.rest.1
+    frame_other _ _ c.args.frame.now _ c.byte_at-kind.ensures.value (λ f. omega arith) (λ f. omega arith)
+    (λ f. omega arith) (λ f. omega arith)
 
 pub returns-else-not-is_taken : goal.returns-else-not-is_taken
 returns-else-not-is_taken c =
-    let k = c in
-    frame_row k.args.frame.now _ k.byte_at-kind.ensures.value (k.if-frame-frame_length.false ∙ k.frame_length.ensures) _ _ _
+    frame_row c.args.frame.now _ c.byte_at-kind.ensures.value (c.if-frame-frame_length.false ∙ c.frame_length.ensures) _ _ _
     (sym c.is_taken.ensures ∙ c.if-not-is_taken.false) c.judge_row.ensures

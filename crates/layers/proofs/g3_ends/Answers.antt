@@ -20,4 +20,4 @@ pub both_ways-requires : goal.both_ways-requires
 both_ways-requires c = let q = products c.args.breadth c.args.b c.requires in omega arith
 
 pub returns : goal.returns
-returns c = let s = c in c.both_ways.ensures ∙ sym (G3_ends s.args.breadth s.args.b s.requires)
+returns c = c.both_ways.ensures ∙ sym (G3_ends c.args.breadth c.args.b c.requires)

@@ -1,4 +1,5 @@
 -- `finding_fits` meets its contract. Assumes nothing.
+use borrow.Author.Rules.{rules}
 use mathlib.Core.Path.{◌≡◌, refl}
 use mir.Syntax.{w64}
 use mir.Val.{to_z, of_z}
@@ -10,5 +11,5 @@ pub returns : goal.returns
 unfolding finding_fits
 returns c =
     let o = c.args.r.opening in
-    let back : to_z w64 (of_z w64 o) ≡ o = to_z-of_z w64 o (record { sfits = c.struct_told-1.given.1.1.1.0.1 }) in
+    let back : to_z w64 (of_z w64 o) ≡ o = to_z-of_z w64 o (record { sfits = search rules }) in
     rw (c.opening_fits.ensures, back) refl

@@ -4,5 +4,4 @@ use Rattle.limits.proofs.floodings_fit.Goals as goal
 
 pub returns : goal.returns
 returns c =
-    let x = c in
-    floodings_of_three x.args.floodings _ _ _ _ x.well_formed.0.1.0.1 c.flooding_fits.ensures c.flooding_fits-2.ensures c.flooding_fits-3.ensures
+    floodings_of_three c.args.floodings _ _ _ _ c.well_formed.0.1.0.1 c.flooding_fits.ensures c.flooding_fits-2.ensures c.flooding_fits-3.ensures

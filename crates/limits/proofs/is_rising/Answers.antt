@@ -1,6 +1,5 @@
 -- `is_rising` meets its contract: the places passed rise. Assumes nothing.
 use mathlib.Core.Path.{◌≡◌}
-use Prim.Native.Nat.{◌-◌}
 use Rattle.limits.proofs.CodeLimits.{rising_none, rising_more}
 use native.Mathlib.Omega.{arith}
 use Rattle.limits.proofs.is_rising.Goals as goal

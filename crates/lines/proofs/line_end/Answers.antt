@@ -1,6 +1,5 @@
 -- `line_end` meets its contract: from each place before the line's end the line ends at the same place. Assumes nothing.
 use mathlib.Core.Path.{◌∙◌}
-use Prim.Native.Nat.{◌-◌}
 use Rattle.lines.proofs.Lines.{length_stops, length_goes_on, length_ends}
 use native.Mathlib.Omega.{arith}
 use Rattle.lines.proofs.line_end.Goals as goal

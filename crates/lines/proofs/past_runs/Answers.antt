@@ -1,6 +1,5 @@
 -- `past_runs` meets its contract: past a run of bytes that hold no line feed the line ends where it did. Assumes nothing.
 use mathlib.Core.Path.{refl, sym, ◌∙◌}
-use Prim.Native.Nat.{◌-◌}
 use native.Mathlib.Omega.{arith}
 use Rattle.lines.proofs.Lines.{feedless_go_on}
 use Rattle.lines.proofs.past_runs.Goals as goal

@@ -4,9 +4,4 @@ use Rattle.listing.proofs.put_draught.Goals as goal
 
 pub returns : goal.returns
 returns c =
-    let second = c in
-    let byte = second in
-    let first = byte in
-    let adds = first in
-    let r = adds in
-    six_put r.args.v r.args.s _ r.args.at r.args.out.now adds.adds-adds.ensures first.put_three.ensures byte.mark_byte.ensures second.put_three-2.ensures
+    six_put c.args.v c.args.s _ c.args.at c.args.out.now c.adds-adds.ensures c.put_three.ensures c.mark_byte.ensures c.put_three-2.ensures

@@ -4,13 +4,8 @@ use Rattle.listing.proofs.put_entered.Goals as goal
 
 pub put_row-requires : goal.put_row-requires
 put_row-requires c =
-    let vs = c in
-    let r = vs in
-    (r.requires.0, rw vs.row_factors-vs.ensures r.requires.1, r.requires.2)
+    (c.requires.0, rw c.row_factors-vs.ensures c.requires.1, c.requires.2)
 
 pub returns : goal.returns
 returns c =
-    let put = c in
-    let vs = put in
-    let r = vs in
-    row_put_with r.args.s.part.share r.args.s.survivals r.args.at r.args.out.now put.put_row.ensures vs.row_factors-vs.ensures
+    row_put_with c.args.s.part.share c.args.s.survivals c.args.at c.args.out.now c.put_row.ensures c.row_factors-vs.ensures

@@ -7,27 +7,20 @@ use Rattle.moments.proofs.compared.Goals as goal
 
 pub returns-then-not-at_most : goal.returns-then-not-at_most
 returns-then-not-at_most c =
-    let middle = c in
-    let survival = middle in
-    let k = leb-false (value middle.times_denominator-at_middle.result) (value survival.numerator-survival.result) (sym c.at_most.ensures ∙ c.if-not-at_most.true) in
-    below_middle survival.requires (rw (middle.times_denominator-at_middle.ensures.number, survival.numerator-survival.ensures.number) at k)
+    let k = leb-false (value c.times_denominator-at_middle.result) (value c.numerator-survival.result) (sym c.at_most.ensures ∙ c.if-not-at_most.true) in
+    below_middle c.requires (rw (c.times_denominator-at_middle.ensures.number, c.numerator-survival.ensures.number) at k)
 
 pub returns-then-at_most : goal.returns-then-at_most
 returns-then-at_most c =
-    let first = c in
-    let middle = first in
-    let survival = middle in
-    let a = value survival.numerator-survival.result in
-    let b = value middle.times_denominator-at_middle.result in
-    let k = leb-true b a (sym first.at_most.ensures ∙ first.if-not-at_most.false) in
+    let a = value c.numerator-survival.result in
+    let b = value c.times_denominator-at_middle.result in
+    let k = leb-true b a (sym c.at_most.ensures ∙ c.if-not-at_most.false) in
     let l = leb-true a b (sym c.at_most-2.ensures ∙ c.if-at_most.true) in
-    let e = middle.times_denominator-at_middle.ensures.number in
-    let f = survival.numerator-survival.ensures.number in
-    at_middle survival.requires (rw (e, f) at k) (rw (e, f) at l)
+    let e = c.times_denominator-at_middle.ensures.number in
+    let f = c.numerator-survival.ensures.number in
+    at_middle c.requires (rw (e, f) at k) (rw (e, f) at l)
 
 pub returns : goal.returns
 returns c =
-    let middle = c in
-    let survival = middle in
-    let l = leb-false (value survival.numerator-survival.result) (value middle.times_denominator-at_middle.result) (sym c.at_most-2.ensures ∙ c.if-at_most.false) in
-    above_middle survival.requires (rw (middle.times_denominator-at_middle.ensures.number, survival.numerator-survival.ensures.number) at l)
+    let l = leb-false (value c.numerator-survival.result) (value c.times_denominator-at_middle.result) (sym c.at_most-2.ensures ∙ c.if-at_most.false) in
+    above_middle c.requires (rw (c.times_denominator-at_middle.ensures.number, c.numerator-survival.ensures.number) at l)

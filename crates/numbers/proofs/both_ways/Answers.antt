@@ -7,8 +7,8 @@ use Rattle.numbers.proofs.Figures.{both}
 use Rattle.numbers.proofs.both_ways.Goals as goal
 
 pub overflow_add-upper : goal.overflow_add-upper
-overflow_add-upper c = let s = c in omega (arith, (up_by_rest s.args.n s.args.d s.requires c.beyond.ensures.0).1)
+overflow_add-upper c = omega (arith, (up_by_rest c.args.n c.args.d c.requires c.beyond.ensures.0).1)
 
 pub returns : goal.returns
 unfolding both_ways
-returns c = let s = c in both refl (up_by_rest s.args.n s.args.d s.requires c.beyond.ensures.0).0
+returns c = both refl (up_by_rest c.args.n c.args.d c.requires c.beyond.ensures.0).0

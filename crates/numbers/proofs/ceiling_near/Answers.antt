@@ -8,14 +8,12 @@ use Rattle.numbers.proofs.ceiling_near.Goals.{After-beyond-four}
 use Rattle.numbers.proofs.ceiling_near.Goals as goal
 
 near : (c : After-beyond-four) →
-    let s = c in
-    let a = s.args in
-    let sum = a.low + (s.beyond-one.result + c.beyond-two.result + c.beyond-three.result + c.beyond-four.result) in
+    let a = c.args in
+    let sum = a.low + (c.beyond-one.result + c.beyond-two.result + c.beyond-three.result + c.beyond-four.result) in
     (sum ≡ ceil a.n a.d) × (sum ≤ a.n)
 near c =
-    let s = c in
-    let a = s.args in
-    up_near a.low a.n a.d (omega arith) (omega arith) (omega arith) s.beyond-one.ensures.0 c.beyond-two.ensures.0 c.beyond-three.ensures.0 c.beyond-four.ensures.0
+    let a = c.args in
+    up_near a.low a.n a.d (omega arith) (omega arith) (omega arith) c.beyond-one.ensures.0 c.beyond-two.ensures.0 c.beyond-three.ensures.0 c.beyond-four.ensures.0
 
 pub overflow_add-result-4 : goal.overflow_add-result-4
 overflow_add-result-4 c = omega (arith, (near (goal.at.overflow_add-result-4 c).After-beyond-four).1)

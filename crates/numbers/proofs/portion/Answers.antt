@@ -13,17 +13,16 @@ products : (x : ℕ) (g : Ends) → x ≤ 10 ^ 6 → g.lower ≤ 10 ^ 12 → g.u
 products x g hx low high = (mul-le-mul hx low, mul-le-mul hx high)
 
 pub overflow_mul-lower : goal.overflow_mul-lower
-overflow_mul-lower c = let s = c in omega (arith, products s.args.x s.args.g s.requires.1 s.requires.2 s.requires.3)
+overflow_mul-lower c = omega (arith, products c.args.x c.args.g c.requires.1 c.requires.2 c.requires.3)
 
 pub overflow_mul-x : goal.overflow_mul-x
 overflow_mul-x c =
-    let s = c in omega (arith, products s.args.x s.args.g s.requires.1 s.requires.2 s.requires.3)
+    omega (arith, products c.args.x c.args.g c.requires.1 c.requires.2 c.requires.3)
 
 pub ceiling_near-upper-requires : goal.ceiling_near-upper-requires
 ceiling_near-upper-requires c =
-    let s = c in
-    let a = s.args in
-    (s.requires.0, omega (arith, div-mul-le_self (a.x * a.g.lower) a.l, products a.x a.g s.requires.1 s.requires.2 s.requires.3))
+    let a = c.args in
+    (c.requires.0, omega (arith, div-mul-le_self (a.x * a.g.lower) a.l, products a.x a.g c.requires.1 c.requires.2 c.requires.3))
 
 pub returns : goal.returns
 unfolding portion_of

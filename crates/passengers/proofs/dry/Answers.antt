@@ -62,58 +62,32 @@ fourth-fourth-requires c = let s = caps_suit c.args.w.roro in rw c.requires.1 (s
 
 pub overflow_mul-last : goal.overflow_mul-last
 overflow_mul-last c =
-    let start = c in
-    omega (arith, last_fits start.args.f start.args.w start.requires c.fourth-fourth.ensures)
+    omega (arith, last_fits c.args.f c.args.w c.requires c.fourth-fourth.ensures)
 
 pub overflow_mul-righting : goal.overflow_mul-righting
 overflow_mul-righting c =
-    let start = c in
-    omega (arith, righting_fits start.args.f start.args.w start.requires c.above.ensures)
+    omega (arith, righting_fits c.args.f c.args.w c.requires c.above.ensures)
 
 pub returns-then-w-righting : goal.returns-then-w-righting
 returns-then-w-righting c =
-    let above = c in
-    let four = above in
-    let stage = four in
-    let start = stage in
-    borne start.args.f start.args.w start.requires stage.intermediate-stage.ensures four.fourth-fourth.ensures above.above.ensures c.if-w-righting.true c.lesser.ensures c.rounded.ensures
+    borne c.args.f c.args.w c.requires c.intermediate-stage.ensures c.fourth-fourth.ensures c.above.ensures c.if-w-righting.true c.lesser.ensures c.rounded.ensures
 
 pub returns-then-righting-eq0 : goal.returns-then-righting-eq0
 returns-then-righting-eq0 c =
-    let above = c in
-    let four = above in
-    let stage = four in
-    let start = stage in
-    nothing start.args.f start.args.w start.requires stage.intermediate-stage.ensures four.fourth-fourth.ensures above.above.ensures c.if-w-righting.false c.if-righting-eq0.true
+    nothing c.args.f c.args.w c.requires c.intermediate-stage.ensures c.fourth-fourth.ensures c.above.ensures c.if-w-righting.false c.if-righting-eq0.true
 
 pub rounded-whole-requires : goal.rounded-whole-requires
 rounded-whole-requires c =
-    let four = c in
-    let start = four in
-    last_fits start.args.f start.args.w start.requires four.fourth-fourth.ensures
+    last_fits c.args.f c.args.w c.requires c.fourth-fourth.ensures
 
 pub held_down-held-requires : goal.held_down-held-requires
 held_down-held-requires c =
-    let above = c in
-    let four = above in
-    let stage = four in
-    let start = stage in
-    asks start.args.f start.args.w start.requires stage.intermediate-stage.ensures four.fourth-fourth.ensures above.above.ensures c.if-w-righting.false c.rounded-whole.ensures
+    asks c.args.f c.args.w c.requires c.intermediate-stage.ensures c.fourth-fourth.ensures c.above.ensures c.if-w-righting.false c.rounded-whole.ensures
 
 pub returns-then-last-stage : goal.returns-then-last-stage
 returns-then-last-stage c =
-    let above = c in
-    let four = above in
-    let stage = four in
-    let start = stage in
-    final start.args.f start.args.w start.requires stage.intermediate-stage.ensures four.fourth-fourth.ensures above.above.ensures c.if-w-righting.false c.held_down-held.ensures c.if-last-stage.true
+    final c.args.f c.args.w c.requires c.intermediate-stage.ensures c.fourth-fourth.ensures c.above.ensures c.if-w-righting.false c.held_down-held.ensures c.if-last-stage.true
 
 pub returns : goal.returns
 returns c =
-    let other = c in
-    let held = other in
-    let above = held in
-    let four = above in
-    let stage = four in
-    let start = stage in
-    either start.args.f start.args.w start.requires stage.intermediate-stage.ensures four.fourth-fourth.ensures above.above.ensures held.if-w-righting.false held.held_down-held.ensures other.rounded-other.ensures c.lesser-2.ensures c.lesser-3.ensures
+    either c.args.f c.args.w c.requires c.intermediate-stage.ensures c.fourth-fourth.ensures c.above.ensures c.if-w-righting.false c.held_down-held.ensures c.rounded-other.ensures c.lesser-2.ensures c.lesser-3.ensures

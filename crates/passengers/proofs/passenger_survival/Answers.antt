@@ -1,4 +1,5 @@
 -- `passengers::passenger_survival` meets its contract: its marks are those of the final stage, and an immersed opening leaves nothing. Assumes nothing.
+use borrow.Author.Rules.{rules}
 use Prim.Native.Nat.{◌^◌, ◌<◌}
 use mathlib.Core.Bool.{Bool, true, false}
 use mathlib.Core.Path.{◌≡◌, refl, ap, ap₂, sym, ◌∙◌}
@@ -41,14 +42,10 @@ module _ (f : Finding) (w : Flooding) (fits : mag f.opening < 2 ^ 63) {caps : Ca
 
 pub returns-then-lost : goal.returns-then-lost
 returns-then-lost c =
-    let wet = c in
-    let caps = wet in
-    let a = caps.args in
-    if_lost a.f a.w wet.struct_told-1.given.1.1.1.0.1 caps.caps_of-caps.ensures wet.is_immersed-lost.ensures c.if-lost.true
+    let a = c.args in
+    if_lost a.f a.w (search rules) c.caps_of-caps.ensures c.is_immersed-lost.ensures c.if-lost.true
 
 pub returns : goal.returns
 returns c =
-    let wet = c in
-    let caps = wet in
-    let a = caps.args in
-    if_dry a.f a.w wet.struct_told-1.given.1.1.1.0.1 caps.caps_of-caps.ensures wet.is_immersed-lost.ensures c.if-lost.false c.dry-s.ensures
+    let a = c.args in
+    if_dry a.f a.w (search rules) c.caps_of-caps.ensures c.is_immersed-lost.ensures c.if-lost.false c.dry-s.ensures

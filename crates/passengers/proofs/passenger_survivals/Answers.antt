@@ -36,20 +36,16 @@ module _ (fs : List Finding) (ws : List Flooding) (n : length ws ≡ 3) where
 
 pub passenger_survival-requires : goal.passenger_survival-requires
 passenger_survival-requires c =
-    let start = c in
-    loaded start.args.finals start.args.floodings start.well_formed.1.0.1.0.1 start.requires 0 (lit< tt)
+    loaded c.args.finals c.args.floodings c.well_formed.1.0.1.0.1 c.requires 0 (lit< tt)
 
 pub passenger_survival-requires-2 : goal.passenger_survival-requires-2
 passenger_survival-requires-2 c =
-    let start = c in
-    loaded start.args.finals start.args.floodings start.well_formed.1.0.1.0.1 start.requires 1 (lit< tt)
+    loaded c.args.finals c.args.floodings c.well_formed.1.0.1.0.1 c.requires 1 (lit< tt)
 
 pub passenger_survival-requires-3 : goal.passenger_survival-requires-3
 passenger_survival-requires-3 c =
-    let start = c in
-    loaded start.args.finals start.args.floodings start.well_formed.1.0.1.0.1 start.requires 2 (lit< tt)
+    loaded c.args.finals c.args.floodings c.well_formed.1.0.1.0.1 c.requires 2 (lit< tt)
 
 pub returns : goal.returns
 returns c =
-    let start = c in
-    in_order start.args.finals start.args.floodings start.well_formed.1.0.1.0.1 c.passenger_survival.ensures c.passenger_survival-2.ensures c.passenger_survival-3.ensures
+    in_order c.args.finals c.args.floodings c.well_formed.1.0.1.0.1 c.passenger_survival.ensures c.passenger_survival-2.ensures c.passenger_survival-3.ensures

@@ -7,8 +7,7 @@ use Rattle.penetration.proofs.g_ends.Goals as goal
 
 pub returns-then-t-eq2 : goal.returns-then-t-eq2
 returns-then-t-eq2 c =
-    let s = c in
-    g_of_ship s.requires (both_touched _ (sym c.ends_touched-t.ensures ∙ c.if-t-eq2.true))
+    g_of_ship c.requires (both_touched _ (sym c.ends_touched-t.ensures ∙ c.if-t-eq2.true))
 
 pub portion-part-requires : goal.portion-part-requires
 portion-part-requires c =
@@ -18,21 +17,16 @@ portion-part-requires c =
 
 pub returns-then-t-eq0 : goal.returns-then-t-eq0
 returns-then-t-eq0 c =
-    let q = c in
-    let s = q in
     rw c.g_inside.ensures
-    (g_of_inner s.requires (neither_touched _ (sym q.ends_touched-t.ensures ∙ c.if-t-eq0.true)) q.is_short-short.ensures q.portion-part.ensures)
+    (g_of_inner c.requires (neither_touched _ (sym c.ends_touched-t.ensures ∙ c.if-t-eq0.true)) c.is_short-short.ensures c.portion-part.ensures)
 
 pub g_at_one_end-requires : goal.g_at_one_end-requires
 g_at_one_end-requires c =
-    let q = c in
-    let r = q.requires in
-    (p_fits r, rw q.portion-part.ensures (part_fits r))
+    let r = c.requires in
+    (p_fits r, rw c.portion-part.ensures (part_fits r))
 
 pub returns : goal.returns
 returns c =
-    let q = c in
-    let s = q in
-    let e = q.ends_touched-t.ensures in
+    let e = c.ends_touched-t.ensures in
     rw c.g_at_one_end.ensures
-    (g_of_one_end s.requires (one_touched _ (λ z. c.if-t-eq0.false (e ∙ z)) (λ z. q.if-t-eq2.false (e ∙ z))) q.is_short-short.ensures q.portion-part.ensures)
+    (g_of_one_end c.requires (one_touched _ (λ z. c.if-t-eq0.false (e ∙ z)) (λ z. c.if-t-eq2.false (e ∙ z))) c.is_short-short.ensures c.portion-part.ensures)

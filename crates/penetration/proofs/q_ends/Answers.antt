@@ -53,10 +53,9 @@ overflow_add-p c = let q = at (goal.at.overflow_add-p c).Start in omega arith
 
 pub ceiling_near-upper-requires : goal.ceiling_near-upper-requires
 ceiling_near-upper-requires c =
-    let s = c in
-    let a = s.args in
+    let a = c.args in
     let q = at (goal.at.ceiling_near-upper-requires c).Start in
-    (s.requires.0, omega (arith, div-mul-le_self (a.p.lower * a.c + a.g.lower * (a.d - a.c)) a.d))
+    (c.requires.0, omega (arith, div-mul-le_self (a.p.lower * a.c + a.g.lower * (a.d - a.c)) a.d))
 
 pub returns : goal.returns
 unfolding mixed

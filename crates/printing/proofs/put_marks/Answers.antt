@@ -16,9 +16,6 @@ put_low-requires-3 c = (below_16 _ c.mark_byte-3.ensures, omega (arith, c.requir
 pub returns : goal.returns
 unfolding marks_at
 returns c =
-    let light = c in
-    let partial = light in
-    let deepest = partial in
-    let args = deepest.args in
-    marks_written args.ss args.at args.out.now deepest.mark_byte.ensures partial.mark_byte-2.ensures light.mark_byte-3.ensures
-    deepest.put_low.ensures partial.put_low-2.ensures light.put_low-3.ensures
+    let args = c.args in
+    marks_written args.ss args.at args.out.now c.mark_byte.ensures c.mark_byte-2.ensures c.mark_byte-3.ensures
+    c.put_low.ensures c.put_low-2.ensures c.put_low-3.ensures

@@ -14,7 +14,6 @@ returns-then-out-lt9 c =
 
 pub returns : goal.returns
 returns c =
-    let put = c in
-    let args = put.args in
+    let args = c.args in
     let long = length_refusal_line args.number args.line in
-    written_in_lem (line_of (refusal_frame args.number args.line)) args.out.now (omega arith) (sym long) put.put_refusal.ensures
+    written_in_lem (line_of (refusal_frame args.number args.line)) args.out.now (omega arith) (sym long) c.put_refusal.ensures

@@ -8,5 +8,4 @@ use Rattle.probes.proofs.probe_marks.Goals as goal
 
 pub returns : goal.returns
 returns c =
-    let a = c in
-    rw (to_z-of_z w64 a.args.opening a.ranges.opening) at (c.mark_byte.ensures ∙ ap (λ (s : Survival). mark_byte s.marks) c.survival-s.ensures)
+    rw (to_z-of_z w64 c.args.opening c.ranges.opening) at (c.mark_byte.ensures ∙ ap (λ (s : Survival). mark_byte s.marks) c.survival-s.ensures)

@@ -1,5 +1,4 @@
 -- `run` meets its contract: the reading of the whole is the reading of the rest in the present state, after the rows that are kept. Assumes nothing.
-use Prim.Native.Nat.{◌-◌}
 use native.Mathlib.Omega.{arith}
 use Rattle.lines.proofs.Lines.{end_within}
 use Rattle.reader.proofs.CodeRunning.{none_run, one_run, place_written, run_stops, run_ends, run_has_no_end}

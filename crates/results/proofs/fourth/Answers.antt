@@ -11,9 +11,8 @@ use Rattle.results.proofs.fourth.Goals as goal
 
 pub returns-then-is_immersed : goal.returns-then-is_immersed
 returns-then-is_immersed c =
-    let s = c in
-    let i = rw (to_z-of_z w64 s.args.opening s.ranges.opening) at c.is_immersed.ensures in
-    rw (lost_if_immersed s.args.opening _ (sym i ∙ c.if-is_immersed.true)) nothing_parts
+    let i = rw (to_z-of_z w64 c.args.opening c.ranges.opening) at c.is_immersed.ensures in
+    rw (lost_if_immersed c.args.opening _ (sym i ∙ c.if-is_immersed.true)) nothing_parts
 
 pub overflow_mul-result : goal.overflow_mul-result
 overflow_mul-result c =
@@ -29,8 +28,6 @@ overflow_mul-result-2 c =
 
 pub returns : goal.returns
 returns c =
-    let dry = c in
-    let s = dry in
-    let i = rw (to_z-of_z w64 s.args.opening s.ranges.opening) at dry.is_immersed.ensures in
-    rw (kept_if_dry s.args.opening _ (sym i ∙ dry.if-is_immersed.false), c.lesser-g.ensures, c.lesser-t.ensures)
-    (fourth_parts s.args.lever s.args.range s.args.heel c.heel_factor-k.ensures)
+    let i = rw (to_z-of_z w64 c.args.opening c.ranges.opening) at c.is_immersed.ensures in
+    rw (kept_if_dry c.args.opening _ (sym i ∙ c.if-is_immersed.false), c.lesser-g.ensures, c.lesser-t.ensures)
+    (fourth_parts c.args.lever c.args.range c.args.heel c.heel_factor-k.ensures)

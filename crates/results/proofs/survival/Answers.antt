@@ -13,7 +13,5 @@ returns-then-kind-eq3 c = sym (as_given c.args.kind _ (omega arith))
 
 pub returns : goal.returns
 returns c =
-    let else = c in
-    let s = else in
-    let back = to_z-of_z w64 s.args.opening s.ranges.opening in
-    ap₂ marked (c.rounded-s.ensures ∙ rounded_parts (rw back at c.fourth.ensures)) (rw back at c.marks-marks.ensures) ∙ sym (as_found s.args.kind _ else.if-kind-eq3.false)
+    let back = to_z-of_z w64 c.args.opening c.ranges.opening in
+    ap₂ marked (c.rounded-s.ensures ∙ rounded_parts (rw back at c.fourth.ensures)) (rw back at c.marks-marks.ensures) ∙ sym (as_found c.args.kind _ c.if-kind-eq3.false)

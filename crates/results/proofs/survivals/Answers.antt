@@ -1,4 +1,5 @@
 -- `results::survivals` meets its contract, draught by draught. Assumes nothing.
+use borrow.Author.Rules.{rules}
 use Prim.Native.Nat.{ℕ, ◌^◌, ◌<◌}
 use mathlib.Core.Path.{◌≡◌, ap, sym, ◌∙◌}
 use mathlib.Core.List.{List, [], ◌∷◌}
@@ -32,11 +33,8 @@ module _ (kind : ℕ) (fs : List Finding) (n : (kind ≡ 5 → ⊥) × (kind ≡
 
 pub returns : goal.returns
 returns c =
-    let light = c in
-    let partial = light in
-    let deepest = partial in
-    let a = deepest.args in
-    in_order a.kind a.fs deepest.requires
-    (of_record a.kind (get_or a.fs 0 nothing) deepest.struct_told-1.given.1.1.1.0.1 partial.survival.ensures)
-    (of_record a.kind (get_or a.fs 1 nothing) partial.struct_told-2-1.given.1.1.1.0.1 light.survival-2.ensures)
-    (of_record a.kind (get_or a.fs 2 nothing) light.struct_told-3-1.given.1.1.1.0.1 c.survival-3.ensures)
+    let a = c.args in
+    in_order a.kind a.fs c.requires
+    (of_record a.kind (get_or a.fs 0 nothing) (search rules) c.survival.ensures)
+    (of_record a.kind (get_or a.fs 1 nothing) (search rules) c.survival-2.ensures)
+    (of_record a.kind (get_or a.fs 2 nothing) (search rules) c.survival-3.ensures)

@@ -1,4 +1,5 @@
 -- `results::worse` meets its contract: the lesser of both numbers of parts is the s⁴ that counts, and tells whose marks count. Assumes nothing.
+use borrow.Author.Rules.{rules}
 use Prim.Native.Nat.{ℕ, ◌^◌, ◌≤◌, ◌<◌, min}
 use mathlib.Core.Path.{◌≡◌, ap, ap₂, sym, ◌∙◌}
 use native.Mathlib.Omega.{arith}
@@ -53,20 +54,12 @@ module _ (f g : Finding) (p : mag f.opening < 2 ^ 63) (q : mag g.opening < 2 ^ 6
 
 pub returns-then-a-b : goal.returns-then-a-b
 returns-then-a-b c =
-    let then = c in
-    let round = then in
-    let two = round in
-    let one = two in
-    let a = one.args in
-    first a.f a.g one.struct_told-1.given.1.1.1.0.1 two.struct_told-2-1.given.1.1.1.0.1
-    one.fourth-a.ensures two.fourth-b.ensures round.lesser.ensures round.rounded-s.ensures then.if-a-b.true c.marks-marks.ensures
+    let a = c.args in
+    first a.f a.g (search rules) (search rules)
+    c.fourth-a.ensures c.fourth-b.ensures c.lesser.ensures c.rounded-s.ensures c.if-a-b.true c.marks-marks.ensures
 
 pub returns-else-a-b : goal.returns-else-a-b
 returns-else-a-b c =
-    let else = c in
-    let round = else in
-    let two = round in
-    let one = two in
-    let a = one.args in
-    second a.f a.g one.struct_told-1.given.1.1.1.0.1 two.struct_told-2-1.given.1.1.1.0.1
-    one.fourth-a.ensures two.fourth-b.ensures round.lesser.ensures round.rounded-s.ensures else.if-a-b.false c.marks-marks-else-a-b.ensures
+    let a = c.args in
+    second a.f a.g (search rules) (search rules)
+    c.fourth-a.ensures c.fourth-b.ensures c.lesser.ensures c.rounded-s.ensures c.if-a-b.false c.marks-marks-else-a-b.ensures

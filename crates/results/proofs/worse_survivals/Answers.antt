@@ -27,5 +27,4 @@ module _ (first second : List Finding) (n : length first ≡ 3) where
 
 pub returns : goal.returns
 returns c =
-    let start = c in
-    in_order start.args.first start.args.second start.well_formed.0.1.0.1 c.worse.ensures c.worse-2.ensures c.worse-3.ensures
+    in_order c.args.first c.args.second c.well_formed.0.1.0.1 c.worse.ensures c.worse-2.ensures c.worse-3.ensures

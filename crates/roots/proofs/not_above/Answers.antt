@@ -4,7 +4,7 @@ use Rattle.roots.proofs.Root.{positive}
 use Rattle.roots.proofs.not_above.Goals as goal
 
 pub overflow_sub-s : goal.overflow_sub-s
-overflow_sub-s c = let s = c in omega (arith, positive s.args.n s.loop-s.s (omega arith))
+overflow_sub-s c = omega (arith, positive c.args.n c.loop-s.s (omega arith))
 
 pub loop-s-smaller : goal.loop-s-smaller
-loop-s-smaller c = let s = c in omega (arith, positive s.args.n s.loop-s.s (omega arith))
+loop-s-smaller c = omega (arith, positive c.args.n c.loop-s.s (omega arith))

@@ -1,5 +1,4 @@
 -- `spans::clear` meets its contract: the zeros written, with those left, are all of them. Assumes nothing.
-use Prim.Native.Nat.{◌-◌}
 use native.Mathlib.Omega.{arith}
 use Rattle.spans.proofs.Filling.{none_cleared, one_cleared, all_cleared}
 use Rattle.spans.proofs.clear.Goals as goal

@@ -1,5 +1,4 @@
 -- `spans::fill_table` meets its contract: each turn puts one span behind those that stand, and zeros follow the last. Assumes nothing.
-use Prim.Native.Nat.{◌-◌}
 use native.Mathlib.Omega.{arith}
 use Rattle.spans.proofs.Filling.{none_begun, span_within, room, next_begun, zone_begun, places_left, all_begun}
 use Rattle.spans.proofs.fill_table.Goals as goal
@@ -24,59 +23,45 @@ bounds-h-j c = omega (arith, c.requires.0.few)
 
 pub span_ends-s-requires : goal.span_ends-s-requires
 span_ends-s-requires c =
-    let t = c in
-    span_within t.requires.0 t.loop-j.invariant t.loop-j-test.true
+    span_within c.requires.0 c.loop-j.invariant c.loop-j-test.true
 
 pub put_span-requires : goal.put_span-requires
 put_span-requires c =
-    let t = c in
-    omega (arith, room t.requires.0 t.loop-j.invariant t.loop-j-test.true, t.loop-j.invariant.long)
+    omega (arith, room c.requires.0 c.loop-j.invariant c.loop-j-test.true, c.loop-j.invariant.long)
 
 pub overflow_add-k : goal.overflow_add-k
 overflow_add-k c =
-    let t = c in
-    omega (arith, room t.requires.0 t.loop-j.invariant t.loop-j-test.true)
+    omega (arith, room c.requires.0 c.loop-j.invariant c.loop-j-test.true)
 
 pub overflow_add-i : goal.overflow_add-i
 overflow_add-i c = omega arith
 
 pub loop-j-smaller-then-i-j : goal.loop-j-smaller-then-i-j
 loop-j-smaller-then-i-j c =
-    let t = c in
-    omega (arith, room t.requires.0 t.loop-j.invariant t.loop-j-test.true)
+    omega (arith, room c.requires.0 c.loop-j.invariant c.loop-j-test.true)
 
 pub loop-j-preserved-then-i-j : goal.loop-j-preserved-then-i-j
 loop-j-preserved-then-i-j c =
-    let put = c in
-    let ends = put in
-    let t = ends in
-    next_begun t.requires.0 t.loop-j.invariant t.loop-j-test.true ends.span_ends-s.ensures put.put_span.ensures c.if-i-j.true
+    next_begun c.requires.0 c.loop-j.invariant c.loop-j-test.true c.span_ends-s.ensures c.put_span.ensures c.if-i-j.true
 
 pub overflow_add-j-else-i-j : goal.overflow_add-j-else-i-j
 overflow_add-j-else-i-j c = omega arith
 
 pub loop-j-smaller : goal.loop-j-smaller
 loop-j-smaller c =
-    let t = c in
-    omega (arith, room t.requires.0 t.loop-j.invariant t.loop-j-test.true)
+    omega (arith, room c.requires.0 c.loop-j.invariant c.loop-j-test.true)
 
 pub loop-j-preserved : goal.loop-j-preserved
 loop-j-preserved c =
-    let put = c in
-    let ends = put in
-    let t = ends in
-    zone_begun t.requires.0 t.loop-j.invariant t.loop-j-test.true ends.span_ends-s.ensures put.put_span.ensures c.if-i-j.false
+    zone_begun c.requires.0 c.loop-j.invariant c.loop-j-test.true c.span_ends-s.ensures c.put_span.ensures c.if-i-j.false
 
 pub clear-requires : goal.clear-requires
 clear-requires c =
-    let t = c in
-    (places_left t.requires.0 t.loop-j.invariant t.loop-j-test.false, t.loop-j.invariant.long)
+    (places_left c.requires.0 c.loop-j.invariant c.loop-j-test.false, c.loop-j.invariant.long)
 
 pub shape_of-t : goal.shape_of-t
 shape_of-t c = omega (arith, c.loop-j.invariant.long, c.requires.1)
 
 pub returns : goal.returns
 returns c =
-    let cleared = c in
-    let t = cleared in
-    all_begun t.requires.0 t.loop-j.invariant t.loop-j-test.false cleared.clear.ensures
+    all_begun c.requires.0 c.loop-j.invariant c.loop-j-test.false c.clear.ensures

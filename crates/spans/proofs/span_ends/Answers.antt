@@ -9,22 +9,19 @@ use Rattle.spans.proofs.span_ends.Goals as goal
 
 inner_is : (c : After-billionths-p) → c.billionths-p.result ≡ p_ends c.args.l (c.args.fwd - c.args.aft)
 inner_is c =
-    let s = c in
-    c.billionths-p.ensures ∙ sym (inner_ends s.args.l (s.args.fwd - s.args.aft) s.requires.0 c.inner-r.ensures)
+    c.billionths-p.ensures ∙ sym (inner_ends c.args.l (c.args.fwd - c.args.aft) c.requires.0 c.inner-r.ensures)
 
 pub returns-then-t-eq0 : goal.returns-then-t-eq0
 unfolding p_ends
 returns-then-t-eq0 c =
-    let s = c in
     let i = inner_is (goal.at.returns-then-t-eq0 c).After-billionths-p in
     let t = neither_touched _ (sym c.ends_touched-t.ensures ∙ c.if-t-eq0.true) in
-    span_of s.args.l s.args.aft s.args.fwd neither t i i
+    span_of c.args.l c.args.aft c.args.fwd neither t i i
 
 pub returns-then-t-eq2 : goal.returns-then-t-eq2
 returns-then-t-eq2 c =
-    let s = c in
     let t = both_touched _ (sym c.ends_touched-t.ensures ∙ c.if-t-eq2.true) in
-    span_of s.args.l s.args.aft s.args.fwd both t (inner_is (goal.at.returns-then-t-eq2 c).After-billionths-p) (sym (whole_ends s.args.l (s.args.fwd - s.args.aft)))
+    span_of c.args.l c.args.aft c.args.fwd both t (inner_is (goal.at.returns-then-t-eq2 c).After-billionths-p) (sym (whole_ends c.args.l (c.args.fwd - c.args.aft)))
 
 pub returns : goal.returns
 returns c =

@@ -4,13 +4,13 @@ use Rattle.indices.proofs.Rows.{three}
 use Rattle.sums.proofs.row_adds.Goals as goal
 
 pub adds-deepest-requires : goal.adds-deepest-requires
-adds-deepest-requires c = let s = c in (s.requires.0, s.requires.1.each 0)
+adds-deepest-requires c = (c.requires.0, c.requires.1.each 0)
 
 pub adds-partial-requires : goal.adds-partial-requires
-adds-partial-requires c = let s = c in (s.requires.0, s.requires.1.each 1)
+adds-partial-requires c = (c.requires.0, c.requires.1.each 1)
 
 pub adds-light-requires : goal.adds-light-requires
-adds-light-requires c = let s = c in (s.requires.0, s.requires.1.each 2)
+adds-light-requires c = (c.requires.0, c.requires.1.each 2)
 
 pub returns : goal.returns
 unfolding row_adds

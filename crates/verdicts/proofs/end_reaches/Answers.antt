@@ -9,7 +9,7 @@ pub returns-then-end-ge-WHOLE : goal.returns-then-end-ge-WHOLE
 returns-then-end-ge-WHOLE c = sym (whole_reaches c.requires c.if-end-ge-WHOLE.true)
 
 pub overflow_mul-result-2 : goal.overflow_mul-result-2
-overflow_mul-result-2 c = let s = c in omega (arith, below_whole_fits s.requires c.if-end-ge-WHOLE.false)
+overflow_mul-result-2 c = omega (arith, below_whole_fits c.requires c.if-end-ge-WHOLE.false)
 
 pub returns : goal.returns
 unfolding reaches

@@ -5,16 +5,16 @@ use Rattle.verdicts.proofs.ByHull.{required_of_few, passenger_mark_of, cargo_mar
 use Rattle.verdicts.proofs.mark_of.Goals as goal
 
 pub overflow_mul-result : goal.overflow_mul-result
-overflow_mul-result c = let s = c in let b = required_of_few s.requires in omega (arith, b.2, ap (λ r. r.den) s.required_of-whole.ensures)
+overflow_mul-result c = let b = required_of_few c.requires in omega (arith, b.2, ap (λ r. r.den) c.required_of-whole.ensures)
 
 pub returns-then-h-ne6 : goal.returns-then-h-ne6
-returns-then-h-ne6 c = let s = c in rw s.required_of-whole.ensures (sym (cargo_mark_of s.args.h c.if-h-ne6.true))
+returns-then-h-ne6 c = rw c.required_of-whole.ensures (sym (cargo_mark_of c.args.h c.if-h-ne6.true))
 
 pub overflow_mul-result-2 : goal.overflow_mul-result-2
-overflow_mul-result-2 c = let s = c in let b = required_of_few s.requires in omega (arith, b.1, b.2, ap (λ r. r.num) s.required_of-whole.ensures)
+overflow_mul-result-2 c = let b = required_of_few c.requires in omega (arith, b.1, b.2, ap (λ r. r.num) c.required_of-whole.ensures)
 
 pub overflow_mul-result-3 : goal.overflow_mul-result-3
-overflow_mul-result-3 c = let s = c in let b = required_of_few s.requires in omega (arith, b.2, ap (λ r. r.den) s.required_of-whole.ensures)
+overflow_mul-result-3 c = let b = required_of_few c.requires in omega (arith, b.2, ap (λ r. r.den) c.required_of-whole.ensures)
 
 pub returns : goal.returns
-returns c = let s = c in rw s.required_of-whole.ensures (sym (passenger_mark_of s.args.h c.if-h-ne6.false))
+returns c = rw c.required_of-whole.ensures (sym (passenger_mark_of c.args.h c.if-h-ne6.false))

@@ -5,6 +5,5 @@ use Rattle.wide.proofs.at_most.Goals as goal
 
 pub returns : goal.returns
 returns c =
-    let s = c in
-    let a = s.args in
-    compared (value a.a) (value a.b) (value s.complement.result) c.carried.ensures s.complement.ensures.1
+    let a = c.args in
+    compared (value a.a) (value a.b) (value c.complement.result) c.carried.ensures c.complement.ensures.1

@@ -23,9 +23,5 @@ placed-f-requires c = let p = c.requires in (p.0.small 5, p.1, p.2.small 5, sear
 
 pub returns : goal.returns
 returns c =
-    let e = c in
-    let d = e in
-    let b = d in
-    let s = b in
-    carried_limbs s.args.factor s.args.carry s.requires.0 s.requires.2 b.placed-a.ensures b.placed-b.ensures d.placed-c.ensures d.placed-d.ensures
-    e.placed-e.ensures c.placed-f.ensures
+    carried_limbs c.args.factor c.args.carry c.requires.0 c.requires.2 c.placed-a.ensures c.placed-b.ensures c.placed-c.ensures c.placed-d.ensures
+    c.placed-e.ensures c.placed-f.ensures

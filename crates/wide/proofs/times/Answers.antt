@@ -13,8 +13,6 @@ carried-higher-requires c =
 
 pub returns : goal.returns
 returns c =
-    let lower = c in
-    let zero = lower.of_number in
-    let s = lower in
-    product_limbs (value s.args.w) s.args.factor (value zero.result) lower.carried-lower.result c.carried-higher.result zero.ensures.number s.requires.1
-    lower.carried-lower.ensures c.carried-higher.ensures
+    let zero = c.of_number in
+    product_limbs (value c.args.w) c.args.factor (value zero.result) c.carried-lower.result c.carried-higher.result zero.ensures.number c.requires.1
+    c.carried-lower.ensures c.carried-higher.ensures

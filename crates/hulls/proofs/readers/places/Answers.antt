@@ -1,5 +1,4 @@
 -- `places` meets its contract: the places passed are filled. Assumes nothing.
-use Prim.Native.Nat.{◌-◌}
 use mathlib.Core.Path.{refl}
 use Rattle.laws.proofs.Lists.{none_filled, one_filled, all_filled}
 use native.Mathlib.Omega.{arith}

@@ -4,4 +4,4 @@ use mir.ValLaws.{to_z-of_z}
 use Rattle.probes.proofs.ferry.survival.Goals as goal
 
 pub returns : goal.returns
-returns c = let s = c in rw (to_z-of_z w64 s.args.opening s.ranges.opening) at c.told.ensures
+returns c = rw (to_z-of_z w64 c.args.opening c.ranges.opening) at c.told.ensures

@@ -1,5 +1,4 @@
 -- `shares::places_in` meets its contract: the places passed are filled. Assumes nothing.
-use Prim.Native.Nat.{◌-◌}
 use mathlib.Core.Path.{refl}
 use native.Mathlib.Omega.{arith}
 use Rattle.laws.proofs.Lists.{none_filled, one_filled, all_filled}

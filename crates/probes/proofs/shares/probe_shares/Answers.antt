@@ -9,24 +9,18 @@ returns-then-not-hull_fits c = let all = (let a = c.args in
 
 pub fill_table-requires : goal.fill_table-requires
 fill_table-requires c =
-    let e = c in
-    (hull_is e.hull_in-h.result (sym e.hull_fits.ensures ∙ e.if-not-hull_fits.false), refl)
+    (hull_is c.hull_in-h.result (sym c.hull_fits.ensures ∙ c.if-not-hull_fits.false), refl)
 
 pub put_shares-requires : goal.put_shares-requires
 put_shares-requires c =
-    let table = c in
-    let lesser = table in
-    let e = lesser in
-    let h = e.hull_in-h in
-    let a = e.args in
-    let fits = sym e.hull_fits.ensures ∙ e.if-not-hull_fits.false in
-    let (four, two) = room a.hull.now a.rows.now a.out.now h.ensures fits lesser.lesser-count.ensures in
-    (hull_is h.result fits, table.fill_table.ensures, four, two)
+    let h = c.hull_in-h in
+    let a = c.args in
+    let fits = sym c.hull_fits.ensures ∙ c.if-not-hull_fits.false in
+    let (four, two) = room a.hull.now a.rows.now a.out.now h.ensures fits c.lesser-count.ensures in
+    (hull_is h.result fits, c.fill_table.ensures, four, two)
 
 pub returns : goal.returns
-returns c = let all = (let put = c in
-    let lesser = put in
-    let e = lesser in
-    let a = e.args in
-    let fits = sym e.hull_fits.ensures ∙ e.if-not-hull_fits.false in
-    rows_asked a.hull.now a.rows.now a.out.now e.hull_in-h.ensures fits lesser.lesser-count.ensures put.put_shares.ensures) in record { count = all.0; shares = all.1 }
+returns c = let all = (
+    let a = c.args in
+    let fits = sym c.hull_fits.ensures ∙ c.if-not-hull_fits.false in
+    rows_asked a.hull.now a.rows.now a.out.now c.hull_in-h.ensures fits c.lesser-count.ensures c.put_shares.ensures) in record { count = all.0; shares = all.1 }

@@ -1,5 +1,4 @@
 -- `shares::put_shares` meets its contract: the rows told, with those left, come to what all come to. Assumes nothing.
-use Prim.Native.Nat.{◌-◌}
 use native.Mathlib.Omega.{arith}
 use lib.Seq.{lt-length-set}
 use mathlib.Core.Path.{refl}
@@ -10,7 +9,7 @@ pub loop-i-init : goal.loop-i-init
 loop-i-init c = let a = c.args in none_told a.h a.rows.now a.count a.out.now
 
 pub share_at-e-requires : goal.share_at-e-requires
-share_at-e-requires c = let s = c in (s.requires.0, s.requires.1, omega (arith, s.requires.2, c.loop-i-test.true))
+share_at-e-requires c = (c.requires.0, c.requires.1, omega (arith, c.requires.2, c.loop-i-test.true))
 
 pub bounds-out-k : goal.bounds-out-k
 bounds-out-k c = omega (arith, c.requires.3, c.loop-i-test.true, c.loop-i.invariant.long)

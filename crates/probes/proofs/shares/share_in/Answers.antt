@@ -8,10 +8,9 @@ returns-then-not-row_fits c = let a = c.args in no_row a.h a.a a.n a.b1 a.b2 (sy
 
 pub share_ends-requires : goal.share_ends-requires
 share_ends-requires c =
-    let s = c in
-    let a = s.args in
+    let a = c.args in
     let (group, before, at) = row_asked a.h a.a a.n a.b1 a.b2 (sym c.row_fits.ensures ∙ c.if-not-row_fits.false) in
-    (s.requires.0, s.requires.1, group, before, at)
+    (c.requires.0, c.requires.1, group, before, at)
 
 pub returns : goal.returns
 returns c =

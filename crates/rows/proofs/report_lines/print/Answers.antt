@@ -1,5 +1,5 @@
 -- `rows::report_lines::print` meets its contract: what is known of the rows done, with those left, comes to what all rows come to. Assumes nothing.
-use Prim.Native.Nat.{◌-◌, ◌*◌, ◌^◌}
+use Prim.Native.Nat.{◌*◌, ◌^◌}
 use native.Mathlib.Omega.{arith}
 use mathlib.Core.Path.{ap}
 use Rattle.indices.proofs.Sums.{within_wider}
@@ -10,61 +10,45 @@ use Rattle.rows.proofs.InLines.{no_line, one_line_more, all_lines}
 use Rattle.rows.proofs.report_lines.print.Goals as goal
 
 pub loop-i-init : goal.loop-i-init
-loop-i-init c =
-    let r = c in (
-      starts r.args.h r.args.kept.now r.args.rows r.requires.5 c.begin-s.ensures,
-      no_line r.args.h r.args.kept.now r.args.rows r.args.from r.args.out.now (unfold begun in ap (λ (s : Running). s.standing) c.begin-s.ensures),
-    )
+loop-i-init c = (
+  starts c.args.h c.args.kept.now c.args.rows c.requires.5 c.begin-s.ensures,
+  no_line c.args.h c.args.kept.now c.args.rows c.args.from c.args.out.now (unfold begun in ap (λ (s : Running). s.standing) c.begin-s.ensures),
+)
 
 pub enter-s-requires : goal.enter-s-requires
 enter-s-requires c =
-    let l = c in
-    let r = l in
-    may_enter r.args.h r.args.kept.now r.args.rows l.loop-i.s l.loop-i.i l.loop-i.invariant.0 c.loop-i-test.true r.requires.0 l.three_draughts-at.ensures r.requires.2 r.requires.3
+    may_enter c.args.h c.args.kept.now c.args.rows c.loop-i.s c.loop-i.i c.loop-i.invariant.0 c.loop-i-test.true c.requires.0 c.three_draughts-at.ensures c.requires.2 c.requires.3
 
 pub overflow_mul-i : goal.overflow_mul-i
 overflow_mul-i c =
-    let t = c in
-    let r = t in
-    omega (arith, t.loop-i-test.true, r.requires.2)
+    omega (arith, c.loop-i-test.true, c.requires.2)
 
 pub overflow_add-from : goal.overflow_add-from
 overflow_add-from c =
-    let t = c in
-    let r = t in
-    omega (arith, t.loop-i-test.true, r.requires.4, t.loop-i.invariant.1.long)
+    omega (arith, c.loop-i-test.true, c.requires.4, c.loop-i.invariant.1.long)
 
 pub put_row-requires : goal.put_row-requires
 put_row-requires c =
-    let t = c in
-    let r = t in
-    omega (arith, t.loop-i-test.true, r.requires.4, t.loop-i.invariant.1.long)
+    omega (arith, c.loop-i-test.true, c.requires.4, c.loop-i.invariant.1.long)
 
 pub overflow_add-i : goal.overflow_add-i
 overflow_add-i c =
-    let t = c in
-    let r = t in
-    omega (arith, t.loop-i-test.true, r.requires.2)
+    omega (arith, c.loop-i-test.true, c.requires.2)
 
 pub loop-i-smaller : goal.loop-i-smaller
 loop-i-smaller c = omega (arith, c.loop-i-test.true)
 
 pub loop-i-preserved : goal.loop-i-preserved
 loop-i-preserved c =
-    let put = c in
-    let enter = put in
-    let t = enter in
-    let l = t in
-    let r = l in
-    let more = t.loop-i-test.true in
-    let step = enter.enter-s.ensures in
-    let g = l.loop-i.invariant.0 in (
-      goes_on r.args.h r.args.kept.now r.args.rows l.loop-i.s l.loop-i.i g more r.requires.0.shares step.0 step.1,
-      one_line_more r.args.h r.args.kept.now r.args.rows r.args.from r.args.out.now l.loop-i.s.standing l.loop-i.i l.loop-i.invariant.1 more
-          (stands_there r.args.h r.args.kept.now r.args.rows l.loop-i.s l.loop-i.i g more r.requires.0.shares step.0 step.1)
-          (part_there r.args.h r.args.kept.now r.args.rows l.loop-i.s l.loop-i.i g more r.requires.0.shares step.0 step.1)
-          (survivals_there r.args.h r.args.kept.now r.args.rows l.loop-i.s l.loop-i.i g more r.requires.0.shares step.0 step.1)
-          put.put_row.ensures,
+    let more = c.loop-i-test.true in
+    let step = c.enter-s.ensures in
+    let g = c.loop-i.invariant.0 in (
+      goes_on c.args.h c.args.kept.now c.args.rows c.loop-i.s c.loop-i.i g more c.requires.0.shares step.0 step.1,
+      one_line_more c.args.h c.args.kept.now c.args.rows c.args.from c.args.out.now c.loop-i.s.standing c.loop-i.i c.loop-i.invariant.1 more
+          (stands_there c.args.h c.args.kept.now c.args.rows c.loop-i.s c.loop-i.i g more c.requires.0.shares step.0 step.1)
+          (part_there c.args.h c.args.kept.now c.args.rows c.loop-i.s c.loop-i.i g more c.requires.0.shares step.0 step.1)
+          (survivals_there c.args.h c.args.kept.now c.args.rows c.loop-i.s c.loop-i.i g more c.requires.0.shares step.0 step.1)
+          c.put_row.ensures,
     )
 
 pub shape_of-out : goal.shape_of-out
@@ -72,12 +56,10 @@ shape_of-out c = c.loop-i.invariant.1.long
 
 pub returns : goal.returns
 returns c =
-    let l = c in
-    let r = l in
     let last = c.loop-i-test.false in
-    let g = l.loop-i.invariant.0 in
-    let few = within_wider {k = 500 * 10 ^ 9} (omega (arith, g.within, r.requires.2)) g.small in (
-      sums_are r.args.h r.args.kept.now r.args.rows l.loop-i.s l.loop-i.i g last,
+    let g = c.loop-i.invariant.0 in
+    let few = within_wider {k = 500 * 10 ^ 9} (omega (arith, g.within, c.requires.2)) g.small in (
+      sums_are c.args.h c.args.kept.now c.args.rows c.loop-i.s c.loop-i.i g last,
       few,
-      all_lines r.args.h r.args.kept.now r.args.rows r.args.from r.args.out.now l.loop-i.s.standing l.loop-i.i l.loop-i.invariant.1 last,
+      all_lines c.args.h c.args.kept.now c.args.rows c.args.from c.args.out.now c.loop-i.s.standing c.loop-i.i c.loop-i.invariant.1 last,
     )

@@ -7,10 +7,8 @@ use Rattle.rows.proofs.row.part_after.Goals as goal
 
 pub returns-then-row-last : goal.returns-then-row-last
 returns-then-row-last c =
-    let s = c in
-    (one_part s.args.h s.args.z s.args.y s.requires.5 s.requires.3 (search rules), s.requires.4)
+    (one_part c.args.h c.args.z c.args.y c.requires.5 c.requires.3 (search rules), c.requires.4)
 
 pub next_part-requires : goal.next_part-requires
 next_part-requires c =
-    let s = c in
-    (s.requires.0, s.requires.1, s.requires.2, ap (λ (p : Part). p.group) s.requires.3, s.requires.4, s.requires.5, other_layer s.args.y s.args.z (search rules))
+    (c.requires.0, c.requires.1, c.requires.2, ap (λ (p : Part). p.group) c.requires.3, c.requires.4, c.requires.5, other_layer c.args.y c.args.z (search rules))

@@ -1,5 +1,5 @@
 -- `sheet::fill` meets its contract: what is known of the rows done, with those left, comes to what all rows come to. Assumes nothing.
-use Prim.Native.Nat.{◌-◌, ◌*◌, ◌^◌}
+use Prim.Native.Nat.{◌*◌, ◌^◌}
 use lib.Seq.{lt-length-set}
 use native.Mathlib.Omega.{arith}
 use mathlib.Core.Path.{refl, ap}
@@ -11,17 +11,14 @@ use Rattle.rows.proofs.OnSheet.{none_on_sheet, more_on_sheet, all_on_sheet}
 use Rattle.rows.proofs.sheet.fill.Goals as goal
 
 pub loop-i-init : goal.loop-i-init
-loop-i-init c =
-    let r = c in (
-      starts r.args.h r.args.kept.now r.args.rows r.requires.5 c.begin-s.ensures,
-      none_on_sheet r.args.h r.args.kept.now r.args.rows r.args.sheet.now (unfold begun in ap (λ (s : Running). s.standing) c.begin-s.ensures),
-    )
+loop-i-init c = (
+  starts c.args.h c.args.kept.now c.args.rows c.requires.5 c.begin-s.ensures,
+  none_on_sheet c.args.h c.args.kept.now c.args.rows c.args.sheet.now (unfold begun in ap (λ (s : Running). s.standing) c.begin-s.ensures),
+)
 
 pub enter-s-requires : goal.enter-s-requires
 enter-s-requires c =
-    let l = c in
-    let r = l in
-    may_enter r.args.h r.args.kept.now r.args.rows l.loop-i.s l.loop-i.i l.loop-i.invariant.0 c.loop-i-test.true r.requires.0 l.three_draughts-at.ensures r.requires.2 r.requires.3
+    may_enter c.args.h c.args.kept.now c.args.rows c.loop-i.s c.loop-i.i c.loop-i.invariant.0 c.loop-i-test.true c.requires.0 c.three_draughts-at.ensures c.requires.2 c.requires.3
 
 pub overflow_mul-k : goal.overflow_mul-k
 overflow_mul-k c = omega (arith, c.loop-i-test.true, c.requires.2)
@@ -49,26 +46,22 @@ loop-i-smaller c = omega (arith, c.loop-i-test.true)
 
 pub loop-i-preserved : goal.loop-i-preserved
 loop-i-preserved c =
-    let r = c in
-    let l = c in
     let more = c.loop-i-test.true in
     let step = c.enter-s.ensures in
-    let g = l.loop-i.invariant.0 in (
-      goes_on r.args.h r.args.kept.now r.args.rows l.loop-i.s l.loop-i.i g more r.requires.0.shares step.0 step.1,
-      more_on_sheet r.args.h r.args.kept.now r.args.rows r.args.sheet.now l.loop-i.s.standing l.loop-i.i l.loop-i.invariant.1 more
-          (stands_there r.args.h r.args.kept.now r.args.rows l.loop-i.s l.loop-i.i g more r.requires.0.shares step.0 step.1)
-          (part_there r.args.h r.args.kept.now r.args.rows l.loop-i.s l.loop-i.i g more r.requires.0.shares step.0 step.1)
+    let g = c.loop-i.invariant.0 in (
+      goes_on c.args.h c.args.kept.now c.args.rows c.loop-i.s c.loop-i.i g more c.requires.0.shares step.0 step.1,
+      more_on_sheet c.args.h c.args.kept.now c.args.rows c.args.sheet.now c.loop-i.s.standing c.loop-i.i c.loop-i.invariant.1 more
+          (stands_there c.args.h c.args.kept.now c.args.rows c.loop-i.s c.loop-i.i g more c.requires.0.shares step.0 step.1)
+          (part_there c.args.h c.args.kept.now c.args.rows c.loop-i.s c.loop-i.i g more c.requires.0.shares step.0 step.1)
           refl,
     )
 
 pub returns : goal.returns
 returns c =
-    let r = c in
-    let l = c in
     let last = c.loop-i-test.false in
-    let g = l.loop-i.invariant.0 in
-    let few = within_wider {k = 500 * 10 ^ 9} (omega (arith, g.within, r.requires.2)) g.small in (
-      sums_are r.args.h r.args.kept.now r.args.rows l.loop-i.s l.loop-i.i g last,
+    let g = c.loop-i.invariant.0 in
+    let few = within_wider {k = 500 * 10 ^ 9} (omega (arith, g.within, c.requires.2)) g.small in (
+      sums_are c.args.h c.args.kept.now c.args.rows c.loop-i.s c.loop-i.i g last,
       few,
-      all_on_sheet r.args.h r.args.kept.now r.args.rows r.args.sheet.now l.loop-i.s.standing l.loop-i.i l.loop-i.invariant.1 last r.requires.4,
+      all_on_sheet c.args.h c.args.kept.now c.args.rows c.args.sheet.now c.loop-i.s.standing c.loop-i.i c.loop-i.invariant.1 last c.requires.4,
     )

@@ -1,3 +1,3 @@
 pub mod Group
-mod Lent
+mod Spans
 mod Within

@@ -9,8 +9,6 @@ use Rattle.records.specs.declared.RowHead.{RowHead}
 use Rattle.records.specs.declared.Survival.{Survival}
 use Rattle.records.specs.declared.Trio.{Trio}
 use Rattle.solas.specs.Index.{draughts}
-use Rattle.spans.specs.Hull.{Hulled}
-use Rattle.spans.specs.Table.{table_of}
 use Rattle.chances.specs.Share.{Few}
 use Rattle.heights.specs.Height.{row_vs}
 use Rattle.survival.specs.Survival.{survivals_of}
@@ -23,20 +21,20 @@ use Rattle.rows.specs.declared.Part.{Part}
 use Rattle.rows.specs.declared.Running.{Running}
 use Rattle.rows.specs.Standing.{stands}
 use Rattle.rows.specs.Work.{part_at, adds_at}
-use Rattle.rows.specs.Running.{entered, Stood, Ready}
+use Rattle.rows.specs.Running.{entered, Stood, SharesFit}
 use Rattle.rows.proofs.Stands.{head_is}
 
 -- the row is kept, and its head is read from there
-module _ (y : Standing) (kept : RowHead) {head : RowHead} {h : Hull} {t : List ℕ} {z : Standing} (ready : Ready h t) (there : Stood h (stands y kept)) (here : head ≡ kept)
+module _ (y : Standing) (kept : RowHead) {head : RowHead} {h : Hull} {z : Standing} (fit : SharesFit h) (there : Stood h (stands y kept)) (here : head ≡ kept)
     (next : z ≡ stands y head) where
   pub stood_there : Stood h z
   stood_there = subst (Stood h) (sym (next ∙ ap (stands y) here)) there
 
-  pub part_asked : {part : Part} → part ≡ part_at h y → Few part.group → Hulled h × (t ≡ table_of h) × Stood h z × (part ≡ part_at h y) × Few part.group × (z ≡ stands y z.head)
-  part_asked e few = (ready.hull, ready.table, stood_there, e, few, next ∙ ap (stands y) (sym (ap (λ x. x.head) next ∙ head_is y head)))
+  pub part_asked : {part : Part} → part ≡ part_at h y → Few part.group → Stood h z × (part ≡ part_at h y) × Few part.group × (z ≡ stands y z.head)
+  part_asked e few = (stood_there, e, few, next ∙ ap (stands y) (sym (ap (λ x. x.head) next ∙ head_is y head)))
 
   pub share_small : {part : Part} → part ≡ part_at h z → Share part.share
-  share_small e = rw e (ready.shares z stood_there)
+  share_small e = rw e (fit z stood_there)
 
 pub adds_small : {share : Ends} {vs : List ℕ} {ss : List Survival} {adds : Trio} → Share share → RowWeights vs ss → adds ≡ row_adds share vs ss → Within (10 ^ 9) adds
 adds_small s w e = rw e (row_within s w)

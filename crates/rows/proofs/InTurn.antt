@@ -20,7 +20,7 @@ use Rattle.rows.specs.declared.Standing.{Standing}
 use Rattle.rows.specs.declared.Running.{Running}
 use Rattle.rows.specs.Standing.{nowhere, stands}
 use Rattle.rows.specs.Work.{share_at, sums_at, part_at, adds_at, adds_from}
-use Rattle.rows.specs.Running.{begun, entered, Stood, Follow, Ready}
+use Rattle.rows.specs.Running.{begun, entered, Stood, Follow, SharesFit}
 
 -- before the first row there is no part
 no_part : (h : Hull) → record { group = nothing; share = record { lower = 0; upper = 0 } } ≡ part_at h nowhere
@@ -94,8 +94,8 @@ module _ (h : Hull) (kept : List ℕ) (rows : ℕ) where
     pub may_stand : Stood h there × Given row.results × Follow h there others
     may_stand = subst (Follow h s.standing) next_is g.follow
 
-    pub may_enter : {t ds : List ℕ} → Ready h t → ds ≡ draughts h.deepest h.light → rows ≤ 500 → place_width * rows ≤ length kept →
-        Ready h t
+    pub may_enter : {ds : List ℕ} → SharesFit h → ds ≡ draughts h.deepest h.light → rows ≤ 500 → place_width * rows ≤ length kept →
+        SharesFit h
         × (ds ≡ draughts h.deepest h.light)
         × (place_width * i + place_width ≤ length kept)
         × Stood h there
@@ -106,7 +106,7 @@ module _ (h : Hull) (kept : List ℕ) (rows : ℕ) where
     may_enter r d few room =
         (r, d, omega arith, may_stand.0, may_stand.1, g.part, g.few, within_wider (omega arith) g.small)
 
-    module _ (ready : (y : Standing) → Stood h y → Share (share_at h y)) {t : Running} (after : t ≡ entered h s row.head row.results) (still : Few t.part.group) where
+    module _ (fit : SharesFit h) {t : Running} (after : t ≡ entered h s row.head row.results) (still : Few t.part.group) where
       abbrev adds : Trio
       adds = adds_at h there row.results
 
@@ -128,7 +128,7 @@ module _ (h : Hull) (kept : List ℕ) (rows : ℕ) where
 
       adds_small : Within (10 ^ 9) adds
       unfolding adds_at
-      adds_small = row_within (ready there may_stand.0) (row_weights there.below there.head.height (draughts h.deepest h.light) there.head.kind may_stand.1)
+      adds_small = row_within (fit there may_stand.0) (row_weights there.below there.head.height (draughts h.deepest h.light) there.head.kind may_stand.1)
 
       pub goes_on : Reached t (i + 1)
       unfolding adds_from

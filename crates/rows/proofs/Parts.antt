@@ -32,8 +32,8 @@ module _ (h : Hull) (z : Standing) where
   by_sums e f g = rw (g, e, f) refl
 
   -- in its group's first layer
-  pub first_part : {now : Sums} {share : Ends} → 1 ≤ z.head.count → z.before ≡ 0 → now ≡ down_to z.head.depth → share ≡ row_of nothing now → record { group = now; share = share } ≡ part_at h z
-  first_part some e f g = by_sums (rw e (no_sums h z.head.first z.head.count some)) f g
+  pub first_part : {now : Sums} {share : Ends} → z.before ≡ 0 → now ≡ down_to z.head.depth → share ≡ row_of nothing now → record { group = now; share = share } ≡ part_at h z
+  first_part e f g = by_sums (rw e (no_sums (ship_of h) z.head.first z.head.count)) f g
 
   module _ (y : Standing) (after : z ≡ stands y z.head) where
     same_group_lem : in_group y z.head ≡ true → (z.head.first ≡ y.head.first) × (z.head.count ≡ y.head.count)

@@ -1,5 +1,7 @@
 -- The rows of a case in turn, as they are worked through: what is known after each, and what is asked of it. Assumes nothing.
 use Rattle.std.specs.Prelude.{ℕ, ◌*◌, ◌≤◌, ◌≡◌, List, [], ◌∷◌}
+use Rattle.std.specs.Coded.{×_prop, Unit-prop}
+use Rattle.std.proofs.Props.{props}
 use Rattle.records.specs.declared.Hull.{Hull}
 use Rattle.records.specs.declared.RowHead.{RowHead}
 use Rattle.records.specs.Results.{Results}
@@ -39,6 +41,23 @@ pub record Stood (h : Hull) (y : Standing) : Type 0 where
 abbrev pub Follow : Hull → Standing → List Row → Type 0
 Follow h y [] = Unit {0}
 Follow h y (r ∷ rs) = Stood h (stands y r.head) × Given r.results × Follow h (stands y r.head) rs
+
+-- so stated, that they do is no more than a fact
+stood_prop : (h : Hull) (y : Standing) → IsProp (Stood h y)
+stood_prop h y = Prim.hlevel props
+
+given_prop : (rs : Results) → IsProp (Given rs)
+given_prop rs = Prim.hlevel props
+
+pub follow_prop : (h : Hull) (y : Standing) (rs : List Row) → IsProp (Follow h y rs)
+follow_prop h y [] = Unit-prop
+follow_prop h y (r ∷ rs) =
+    let z = stands y r.head in
+    Prim.hlevel (stood_prop h z, given_prop r.results, follow_prop h z rs)
+
+-- rows have shares of at most one
+abbrev pub SharesFit : Hull → Type 0
+SharesFit h = (y : Standing) → Stood h y → Share (share_at h y)
 
 -- a hull with its span table, whose rows have shares of at most one
 pub record Ready (h : Hull) (t : List ℕ) : Type 0 where

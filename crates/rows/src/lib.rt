@@ -4,6 +4,7 @@
 use chances::Sums;
 use records::{Ends, RowHead, Survival, Trio};
 
+pub mod kept_rows; // the rows as they are kept
 pub mod report_lines; // the rows in turn: their lines in a report
 pub mod row; // a row after those before it
 pub mod sheet; // the rows in turn: their shares on the sheet

@@ -1,32 +1,28 @@
 // The rows of a file in turn: each one's line in a report, and the sums of what they add.
-ghost use Rattle.std.specs.Prelude.{◌≡◌, ◌+◌, ◌*◌, ◌^◌, ◌≤◌, ◌<◌, length};
+ghost use Rattle.std.specs.Prelude.{◌≡◌, ◌+◌, ◌*◌, ◌^◌, ◌≤◌, length};
 ghost use Rattle.digits.specs.Splice.{splice};
 ghost use Rattle.printing.specs.Printed.{row_lines};
 ghost use Rattle.indices.specs.Index.{partials, Within};
-ghost use Rattle.casefile.specs.Kept.{place_width, kept_rows};
+ghost use Rattle.casefile.specs.Kept.{kept_rows};
 ghost use Rattle.rows.specs.Standing.{nowhere};
 ghost use Rattle.rows.specs.Work.{adds_from, lines_from};
-ghost use Rattle.rows.specs.Running.{Follow, Ready};
 
+use super::kept_rows::KeptRows;
 use super::row::{begin, enter};
 use printing::put_row;
-use records::{Hull, Trio};
+use records::Trio;
 
-// So many rows, as they are kept: a line of 25 bytes each, from a place on.
-pub fn print(kept: &[u8], rows: usize, h: Hull, t: &[u64], out: &mut [u8], from: usize) -> Trio
-    requires { Ready h t.now × ((h.deepest < 2 ^ 32) × (h.light < 2 ^ 32)) × (rows ≤ 500) × (place_width * rows ≤ length kept.now) × (from + 25 * rows ≤ length out.old) × Follow h nowhere (kept_rows rows kept.now 0) }
-    ensures { (result ≡ partials (adds_from h nowhere (kept_rows rows kept.now 0))) × Within (500 * 10 ^ 9) result × (out.new ≡ splice from (row_lines (lines_from h nowhere (kept_rows rows kept.now 0))) out.old) }
+// A line of 25 bytes a row, from a place on.
+pub fn print(rows: &KeptRows, out: &mut [u8], from: usize) -> Trio
+    requires { from + 25 * rows.now.count ≤ length out.old }
+    ensures { (result ≡ partials (adds_from rows.now.ship.hull nowhere (kept_rows rows.now.count rows.now.kept.now 0))) × Within (500 * 10 ^ 9) result × (out.new ≡ splice from (row_lines (lines_from rows.now.ship.hull nowhere (kept_rows rows.now.count rows.now.kept.now 0))) out.old) }
 {
+    let h = &rows.ship.hull;
     let at = heights::three_draughts(h.deepest, h.light);
     let mut s = begin();
-    let mut i: usize = 0;
-    while i < rows {
-        s = enter(t, h, at, s, kept, i);
-        let part = s.part;
-        let share = part.share;
-        let survivals = s.survivals;
-        put_row(share, survivals, out, from + 25 * i);
-        i += 1;
+    for i in 0..rows.count {
+        s = enter(&rows.ship, at, s, rows.kept, i);
+        put_row(s.part.share, s.survivals, out, from + 25 * i);
     }
     s.sums
 }

@@ -1,21 +1,19 @@
 // A row after those before it: where it stands, its share, its survivals, and what it adds.
 ghost use Rattle.std.specs.Prelude.{◌≡◌, ◌+◌, ◌*◌, ◌^◌, ◌≤◌, length, false};
 ghost use Rattle.solas.specs.Index.{draughts};
-ghost use Rattle.spans.specs.Hull.{Hulled};
-ghost use Rattle.spans.specs.Table.{table_of};
 ghost use Rattle.indices.specs.Index.{Given, Within};
 ghost use Rattle.rows.specs.Standing.{stands};
 ghost use Rattle.casefile.specs.Kept.{place_width, kept_row};
 ghost use Rattle.casefile.specs.Order.{same_layer};
 ghost use Rattle.chances.specs.Share.{Few};
 ghost use Rattle.rows.specs.Work.{sums_at, part_at};
-ghost use Rattle.rows.specs.Running.{Stood, Ready, begun, entered};
+ghost use Rattle.rows.specs.Running.{Stood, SharesFit, begun, entered};
 
 use super::survivals::survivals_at;
 use super::{Part, Running, Standing};
 use chances::{Sums, row_ends};
-use groups::sums_at;
-use records::{Ends, Hull, Marks, RowHead, Survival, Trio};
+use groups::subdivision::Subdivision;
+use records::{Ends, Marks, RowHead, Survival, Trio};
 use rowlines::kept::head_at;
 
 // Where a row stands after one that stood at y.
@@ -46,12 +44,12 @@ fn next(y: Standing, r: RowHead) -> Standing
 
 // The part of a row that stands at z in another layer than the one before it, which stood at y: what the group came to down to the layer before is
 // known, or nothing where there is none.
-fn next_part(t: &[u64], h: Hull, y: Standing, group: Sums, z: Standing) -> Part
-    requires { Hulled h × (t.now ≡ table_of h) × Stood h z × (group ≡ sums_at h y) × Few group × (z ≡ stands y z.head) × (same_layer y.head z.head ≡ false) }
-    ensures { (result ≡ part_at h z) × Few result.group }
+fn next_part(ship: &Subdivision, y: Standing, group: Sums, z: Standing) -> Part
+    requires { Stood ship.now.hull z × (group ≡ sums_at ship.now.hull y) × Few group × (z ≡ stands y z.head) × (same_layer y.head z.head ≡ false) }
+    ensures { (result ≡ part_at ship.now.hull z) × Few result.group }
 {
     let row = z.head;
-    let now = sums_at(t, h, row.first as usize, row.count as usize, row.depth);
+    let now = ship.sums_at(row.first as usize, row.count as usize, row.depth);
     if z.before == 0 {
         let added = Ends { lower: 0, upper: 0 };
         let taken = Ends { lower: 0, upper: 0 };
@@ -68,9 +66,9 @@ fn next_part(t: &[u64], h: Hull, y: Standing, group: Sums, z: Standing) -> Part
 }
 
 // The part of the row that stands at z: that of the row before it where both are in one layer.
-fn part_after(t: &[u64], h: Hull, y: Standing, part: Part, z: Standing) -> Part
-    requires { Hulled h × (t.now ≡ table_of h) × Stood h z × (part ≡ part_at h y) × Few part.group × (z ≡ stands y z.head) }
-    ensures { (result ≡ part_at h z) × Few result.group }
+fn part_after(ship: &Subdivision, y: Standing, part: Part, z: Standing) -> Part
+    requires { Stood ship.now.hull z × (part ≡ part_at ship.now.hull y) × Few part.group × (z ≡ stands y z.head) }
+    ensures { (result ≡ part_at ship.now.hull z) × Few result.group }
 {
     let last = y.head;
     let row = z.head;
@@ -78,7 +76,7 @@ fn part_after(t: &[u64], h: Hull, y: Standing, part: Part, z: Standing) -> Part
         return part;
     }
     let group = part.group;
-    next_part(t, h, y, group, z)
+    next_part(ship, y, group, z)
 }
 
 // Before the first row.
@@ -126,16 +124,16 @@ pub fn begin() -> Running
 }
 
 // One row more: the one that is kept at place i.
-pub fn enter(t: &[u64], h: Hull, at: [u64; 3], s: Running, kept: &[u8], i: usize) -> Running
-    requires { Ready h t.now × (at ≡ draughts h.deepest h.light) × (place_width * i + place_width ≤ length kept.now) × Stood h (stands s.standing (kept_row kept.now i).head) × Given (kept_row kept.now i).results × (s.part ≡ part_at h s.standing) × Few s.part.group × Within (2 ^ 61) s.sums }
-    ensures { (result ≡ entered h s (kept_row kept.now i).head (kept_row kept.now i).results) × Few result.part.group }
+pub fn enter(ship: &Subdivision, at: [u64; 3], s: Running, kept: &[u8], i: usize) -> Running
+    requires { SharesFit ship.now.hull × (at ≡ draughts ship.now.hull.deepest ship.now.hull.light) × (place_width * i + place_width ≤ length kept.now) × Stood ship.now.hull (stands s.standing (kept_row kept.now i).head) × Given (kept_row kept.now i).results × (s.part ≡ part_at ship.now.hull s.standing) × Few s.part.group × Within (2 ^ 61) s.sums }
+    ensures { (result ≡ entered ship.now.hull s (kept_row kept.now i).head (kept_row kept.now i).results) × Few result.part.group }
 {
     let head = head_at(kept, i);
     let y = s.standing;
     let last = s.part;
     let so_far = s.sums;
     let z = next(y, head);
-    let part = part_after(t, h, y, last, z);
+    let part = part_after(ship, y, last, z);
     let share = part.share;
     let survivals = survivals_at(kept, i, head.kind);
     let adds = sums::row(share, z.below, head.height, at, survivals);

@@ -1,30 +1,27 @@
 // The rows of a file in turn: each one's share on the sheet, and the sums of what they add.
-ghost use Rattle.std.specs.Prelude.{◌≡◌, ◌++◌, ◌*◌, ◌^◌, ◌≤◌, ◌<◌, length, drop};
+ghost use Rattle.std.specs.Prelude.{◌≡◌, ◌++◌, ◌*◌, ◌^◌, ◌≤◌, length, drop};
 ghost use Rattle.indices.specs.Index.{partials, Within};
-ghost use Rattle.casefile.specs.Kept.{place_width, kept_rows};
+ghost use Rattle.casefile.specs.Kept.{kept_rows};
 ghost use Rattle.rows.specs.Standing.{nowhere};
 ghost use Rattle.rows.specs.Work.{shares_from, adds_from, numbers};
-ghost use Rattle.rows.specs.Running.{Follow, Ready};
 
+use super::kept_rows::KeptRows;
 use super::row::{begin, enter};
-use records::{Hull, Trio};
+use records::Trio;
 
-// So many rows, as they are kept: two numbers a row on the sheet.
-pub fn fill(kept: &[u8], rows: usize, h: Hull, t: &[u64], sheet: &mut [u64]) -> Trio
-    requires { Ready h t.now × ((h.deepest < 2 ^ 32) × (h.light < 2 ^ 32)) × (rows ≤ 500) × (place_width * rows ≤ length kept.now) × (2 * rows ≤ length sheet.old) × Follow h nowhere (kept_rows rows kept.now 0) }
-    ensures { (result ≡ partials (adds_from h nowhere (kept_rows rows kept.now 0))) × Within (500 * 10 ^ 9) result × (sheet.new ≡ numbers (shares_from h nowhere (kept_rows rows kept.now 0)) ++ drop (2 * rows) sheet.old) }
+// Two numbers a row on the sheet.
+pub fn fill(rows: &KeptRows, sheet: &mut [u64]) -> Trio
+    requires { 2 * rows.now.count ≤ length sheet.old }
+    ensures { (result ≡ partials (adds_from rows.now.ship.hull nowhere (kept_rows rows.now.count rows.now.kept.now 0))) × Within (500 * 10 ^ 9) result × (sheet.new ≡ numbers (shares_from rows.now.ship.hull nowhere (kept_rows rows.now.count rows.now.kept.now 0)) ++ drop (2 * rows.now.count) sheet.old) }
 {
+    let h = &rows.ship.hull;
     let at = heights::three_draughts(h.deepest, h.light);
     let mut s = begin();
-    let mut i: usize = 0;
-    while i < rows {
-        s = enter(t, h, at, s, kept, i);
-        let part = s.part;
-        let share = part.share;
+    for i in 0..rows.count {
+        s = enter(&rows.ship, at, s, rows.kept, i);
         let k = 2 * i;
-        sheet[k] = share.lower;
-        sheet[k + 1] = share.upper;
-        i += 1;
+        sheet[k] = s.part.share.lower;
+        sheet[k + 1] = s.part.share.upper;
     }
     s.sums
 }

@@ -35,4 +35,4 @@ sum-sums-requires c =
 pub returns : goal.returns
 returns c =
     let part = c.part_after-part.ensures in
-    (row_entered c.args.h c.args.s (kept_row c.args.kept.now c.args.i) c.head_at-head.ensures c.next-z.ensures part.0 c.requires.1 c.survivals_at-survivals.ensures c.row-adds.ensures c.sum-sums.ensures, part.1)
+    (row_entered c.args.ship.now.hull c.args.s (kept_row c.args.kept.now c.args.i) c.head_at-head.ensures c.next-z.ensures part.0 c.requires.1 c.survivals_at-survivals.ensures c.row-adds.ensures c.sum-sums.ensures, part.1)

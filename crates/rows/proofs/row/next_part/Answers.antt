@@ -6,9 +6,9 @@ use Rattle.rows.proofs.row.next_part.Goals as goal
 pub returns-then-z-eq0 : goal.returns-then-z-eq0
 returns-then-z-eq0 c =
     let now = c.sums_at-now.ensures in
-    (first_part c.args.h c.args.z c.requires.2.group.some (search rules) now.0 c.row_ends.ensures, now.1)
+    (first_part c.args.ship.now.hull c.args.z (search rules) now.0 c.row_ends.ensures, now.1)
 
 pub returns : goal.returns
 returns c =
     let now = c.sums_at-now.ensures in
-    (later_part c.args.h c.args.z c.args.y c.requires.5 c.requires.3 c.requires.6 (search rules) now.0 c.row_ends-2.ensures, now.1)
+    (later_part c.args.ship.now.hull c.args.z c.args.y c.requires.3 c.requires.1 c.requires.4 (search rules) now.0 c.row_ends-2.ensures, now.1)

@@ -1,11 +1,9 @@
--- What `fill` keeps from turn to turn, and what its turns count down. Assumes nothing.
-use Prim.Native.Nat.{◌-◌}
+-- What `fill` keeps from turn to turn. Assumes nothing.
 use Rattle.rows.proofs.InTurn.{Reached}
 use Rattle.rows.proofs.OnSheet.{OnSheet}
 use Rattle.rows.proofs.sheet.fill.Given as goal
 
 abbrev pub invariant-loop-i : goal.invariant-loop-i
-invariant-loop-i l = Reached l.h l.kept l.rows l.s l.i × OnSheet l.h l.kept l.rows l.initial.sheet l.sheet l.s.standing l.i
-
-abbrev pub decreases-loop-i : goal.decreases-loop-i
-decreases-loop-i l = l.rows - l.i
+invariant-loop-i l =
+    let r = l.rows in
+    Reached r.ship.hull r.kept.now r.count l.s l.i × OnSheet r.ship.hull r.kept.now r.count l.initial.sheet l.sheet l.s.standing l.i

@@ -39,12 +39,12 @@ module _ (h : Hull) where
       let e : h.zones + 2 - (a + n) ≡ suc (h.zones + 2 - (a + (n + 1))) = omega (arith, l) in
       rw e refl
 
-  -- a zone's last group: the next zone's follow
-  last_taken : (a n : ℕ) → 1 ≤ n → a + n ≡ h.zones + 1 → left a n ≡ group_ends h a n ∷ left (a + 1) 1
+  -- past a zone's last group: the next zone's follow
+  last_passed : (a n : ℕ) → a ≤ h.zones → h.zones + 2 ≤ a + n → left a n ≡ left (a + 1) 1
   unfolding left groups_at
-  last_taken a n l e =
-      let p : h.zones + 2 - (a + n) ≡ suc zero = omega (arith, e) in
-      sym (rw (from_zone (a + 1) (h.zones - a) (omega (arith, l, e))) (rw p refl))
+  last_passed a n l m =
+      let p : h.zones + 2 - (a + n) ≡ zero = omega (arith, m) in
+      sym (from_zone (a + 1) (h.zones - a) (omega (arith, l)) ∙ rw p refl)
 
   left_none : (a n : ℕ) → h.zones < a → 1 ≤ n → left a n ≡ []
   unfolding left groups_at groups_from
@@ -60,7 +60,6 @@ module _ (h : Hull) where
     pub record InGroups (out : List ℕ) (a n i : ℕ) : Type 0 where
       pub from : 1 ≤ a
       pub some : 1 ≤ n
-      pub fits : a ≤ h.zones → a + n ≤ h.zones + 1
       pub count : 2 * i + 2 * length (left a n) ≡ h.zones * (h.zones + 1)
       pub put : Put 2 0 first (group_numbers h) out (numbers (left a n)) i
 
@@ -71,19 +70,18 @@ module _ (h : Hull) where
         record {
           from = omega arith;
           some = omega arith;
-          fits = λ l. omega arith;
           count = omega (arith, ap length e, length_from h 1 h.zones);
           put = rw e (put_none 2 0 first (group_numbers h));
         }
 
     module _ {out : List ℕ} {a n i : ℕ} (b : InGroups out a n i) where
       -- one that is the hull's
-      module _ (l : a ≤ h.zones) where
+      module _ (l : a + n ≤ h.zones + 1) where
         pub group_is : Group (ship_of h) a n
-        group_is = record { from = b.from; some = b.some; fits = b.fits l }
+        group_is = record { from = b.from; some = b.some; fits = l }
 
         pub room : 2 * i + 2 ≤ h.zones * (h.zones + 1)
-        room = omega (arith, b.count, ap length (one_taken a n (b.fits l)))
+        room = omega (arith, b.count, ap length (one_taken a n l))
 
         module _ {next : List ℕ} {e : Ends} (q : e ≡ row_ends (ship_of h) a n 0 (h.breadth / 2)) (w : next ≡ sets out (2 * i) (e.lower ∷ e.upper ∷ [])) where
           two_more : (rest : List Ends) → left a n ≡ group_ends h a n ∷ rest → Put 2 0 first (group_numbers h) next (numbers rest) (i + 1)
@@ -95,27 +93,26 @@ module _ (h : Hull) where
               (subst (λ es. Put 2 0 first (group_numbers h) out (numbers es) i) t b.put)
               refl (w ∙ rw (q, place) refl)
 
-          pub next_group : a + n ≤ h.zones → InGroups next a (n + 1) (i + 1)
-          next_group m =
-              let t = one_taken a n (b.fits l) in
+          pub next_group : InGroups next a (n + 1) (i + 1)
+          next_group =
+              let t = one_taken a n l in
               record {
                 from = b.from;
                 some = omega arith;
-                fits = λ _. omega (arith, m);
                 count = omega (arith, b.count, ap length t);
                 put = two_more (left a (n + 1)) t;
               }
 
-          pub next_zone : h.zones < a + n → InGroups next (a + 1) 1 (i + 1)
-          next_zone m =
-              let t = last_taken a n b.some (omega (arith, m, b.fits l)) in
-              record {
-                from = omega arith;
-                some = omega arith;
-                fits = λ k. omega (arith, k);
-                count = omega (arith, b.count, ap length t);
-                put = two_more (left (a + 1) 1) t;
-              }
+      -- past a zone's last group
+      pub next_zone : a ≤ h.zones → h.zones + 2 ≤ a + n → InGroups out (a + 1) 1 i
+      next_zone l m =
+          let t = last_passed a n l m in
+          record {
+            from = omega arith;
+            some = omega arith;
+            count = omega (arith, b.count, ap length t);
+            put = subst (λ es. Put 2 0 first (group_numbers h) out (numbers es) i) t b.put;
+          }
 
       -- past the last
       pub all_groups : h.zones < a → h.zones * (h.zones + 1) ≤ length first → out ≡ group_numbers h ++ drop (h.zones * (h.zones + 1)) first

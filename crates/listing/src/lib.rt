@@ -1,20 +1,20 @@
 // What a host is told as numbers: twenty for each row of a file; and by its hull R with the mark of a partial index, and each group's share.
 #![tactic(auto)]
 
-ghost use Rattle.std.specs.Prelude.{◌≡◌, [], ◌∷◌, ◌++◌, ◌+◌, ◌*◌, ◌^◌, ◌≤◌, ◌<◌, length, drop};
+ghost use Rattle.std.specs.Prelude.{◌≡◌, [], ◌∷◌, ◌++◌, ◌+◌, ◌*◌, ◌≤◌, length, drop};
 ghost use Rattle.std.proofs.lemmas.List.Edits.{sets};
 ghost use Rattle.heights.specs.Height.{row_vs};
 ghost use Rattle.indices.specs.Index.{Share, Weights, RowWeights, adds_of};
-ghost use Rattle.casefile.specs.Kept.{place_width, kept_rows};
+ghost use Rattle.casefile.specs.Kept.{kept_rows};
 ghost use Rattle.rows.specs.Standing.{nowhere};
-ghost use Rattle.rows.specs.Running.{Follow, Ready};
 ghost use Rattle.listing.specs.Rows.{six_numbers, row_numbers, numbers_from};
 
 use hull::put_ends;
 use printing::mark_byte;
 use records::{Ends, Hull, Survival};
 use rows::Running;
-use rows::row::{begin, enter};
+use rows::kept_rows::KeptRows;
+use rows::row::begin;
 
 pub mod hull; // what the hull alone decides
 
@@ -57,25 +57,18 @@ fn put_entered(s: Running, draughts: [u64; 3], out: &mut [u64], at: usize)
     ensures { out.new ≡ sets out.old at (row_numbers s.part.share (row_vs s.standing.below s.standing.head.height draughts) s.survivals) }
 {
     let standing = s.standing;
-    let head = standing.head;
-    let part = s.part;
-    let share = part.share;
-    let survivals = s.survivals;
-    let vs = heights::row_factors(standing.below, head.height, draughts);
-    put_row(share, vs, survivals, out, at);
+    let vs = heights::row_factors(standing.below, standing.head.height, draughts);
+    put_row(s.part.share, vs, s.survivals, out, at);
 }
 
-// So many rows, as they are kept: twenty numbers each.
-pub fn list(kept: &[u8], rows: usize, h: Hull, t: &[u64], out: &mut [u64])
-    requires { Ready h t.now × ((h.deepest < 2 ^ 32) × (h.light < 2 ^ 32)) × (rows ≤ 500) × (place_width * rows ≤ length kept.now) × (20 * rows ≤ length out.old) × Follow h nowhere (kept_rows rows kept.now 0) }
-    ensures { out.new ≡ numbers_from h nowhere (kept_rows rows kept.now 0) ++ drop (20 * rows) out.old }
+// Twenty numbers a row.
+pub fn list(rows: &KeptRows, out: &mut [u64])
+    requires { 20 * rows.now.count ≤ length out.old }
+    ensures { out.new ≡ numbers_from rows.now.ship.hull nowhere (kept_rows rows.now.count rows.now.kept.now 0) ++ drop (20 * rows.now.count) out.old }
 {
-    let draughts = heights::three_draughts(h.deepest, h.light);
     let mut s = begin();
-    let mut i: usize = 0;
-    while i < rows {
-        s = enter(t, h, draughts, s, kept, i);
-        put_entered(s, draughts, out, 20 * i);
-        i += 1;
+    for i in 0..rows.count {
+        s = rows.enter(s, i);
+        put_entered(s, rows.draughts, out, 20 * i);
     }
 }

@@ -8,7 +8,7 @@ ghost use Rattle.rows.specs.Standing.{nowhere};
 ghost use Rattle.rows.specs.Work.{adds_from, lines_from};
 
 use super::kept_rows::KeptRows;
-use super::row::{begin, enter};
+use super::row::begin;
 use printing::put_row;
 use records::Trio;
 
@@ -17,11 +17,9 @@ pub fn print(rows: &KeptRows, out: &mut [u8], from: usize) -> Trio
     requires { from + 25 * rows.now.count ≤ length out.old }
     ensures { (result ≡ partials (adds_from rows.now.ship.hull nowhere (kept_rows rows.now.count rows.now.kept.now 0))) × Within (500 * 10 ^ 9) result × (out.new ≡ splice from (row_lines (lines_from rows.now.ship.hull nowhere (kept_rows rows.now.count rows.now.kept.now 0))) out.old) }
 {
-    let h = &rows.ship.hull;
-    let at = heights::three_draughts(h.deepest, h.light);
     let mut s = begin();
     for i in 0..rows.count {
-        s = enter(&rows.ship, at, s, rows.kept, i);
+        s = rows.enter(s, i);
         put_row(s.part.share, s.survivals, out, from + 25 * i);
     }
     s.sums

@@ -1,14 +1,14 @@
 // A row after those before it: where it stands, its share, its survivals, and what it adds.
-ghost use Rattle.std.specs.Prelude.{◌≡◌, ◌+◌, ◌*◌, ◌^◌, ◌≤◌, length, false};
-ghost use Rattle.solas.specs.Index.{draughts};
+ghost use Rattle.std.specs.Prelude.{◌≡◌, ◌+◌, ◌*◌, ◌^◌, ◌<◌, false};
 ghost use Rattle.indices.specs.Index.{Given, Within};
 ghost use Rattle.rows.specs.Standing.{stands};
-ghost use Rattle.casefile.specs.Kept.{place_width, kept_row};
+ghost use Rattle.casefile.specs.Kept.{kept_row};
 ghost use Rattle.casefile.specs.Order.{same_layer};
 ghost use Rattle.chances.specs.Share.{Few};
 ghost use Rattle.rows.specs.Work.{sums_at, part_at};
-ghost use Rattle.rows.specs.Running.{Stood, SharesFit, begun, entered};
+ghost use Rattle.rows.specs.Running.{Stood, begun, entered};
 
+use super::kept_rows::KeptRows;
 use super::survivals::survivals_at;
 use super::{Part, Running, Standing};
 use chances::{Sums, row_ends};
@@ -123,25 +123,23 @@ pub fn begin() -> Running
     }
 }
 
-// One row more: the one that is kept at place i.
-pub fn enter(ship: &Subdivision, at: [u64; 3], s: Running, kept: &[u8], i: usize) -> Running
-    requires { SharesFit ship.now.hull × (at ≡ draughts ship.now.hull.deepest ship.now.hull.light) × (place_width * i + place_width ≤ length kept.now) × Stood ship.now.hull (stands s.standing (kept_row kept.now i).head) × Given (kept_row kept.now i).results × (s.part ≡ part_at ship.now.hull s.standing) × Few s.part.group × Within (2 ^ 61) s.sums }
-    ensures { (result ≡ entered ship.now.hull s (kept_row kept.now i).head (kept_row kept.now i).results) × Few result.part.group }
-{
-    let head = head_at(kept, i);
-    let y = s.standing;
-    let last = s.part;
-    let so_far = s.sums;
-    let z = next(y, head);
-    let part = part_after(ship, y, last, z);
-    let share = part.share;
-    let survivals = survivals_at(kept, i, head.kind);
-    let adds = sums::row(share, z.below, head.height, at, survivals);
-    let sums = sums::sum(so_far, adds);
-    Running {
-        standing: z,
-        part,
-        survivals,
-        sums,
+impl<'a> KeptRows<'a> {
+    // One row more: the one that is kept at place i.
+    pub fn enter(&self, s: Running, i: usize) -> Running
+        requires { (i < self.now.count) × Stood self.now.ship.hull (stands s.standing (kept_row self.now.kept.now i).head) × Given (kept_row self.now.kept.now i).results × (s.part ≡ part_at self.now.ship.hull s.standing) × Few s.part.group × Within (2 ^ 61) s.sums }
+        ensures { (result ≡ entered self.now.ship.hull s (kept_row self.now.kept.now i).head (kept_row self.now.kept.now i).results) × Few result.part.group }
+    {
+        let head = head_at(self.kept, i);
+        let standing = next(s.standing, head);
+        let part = part_after(&self.ship, s.standing, s.part, standing);
+        let survivals = survivals_at(self.kept, i, head.kind);
+        let adds = sums::row(part.share, standing.below, head.height, self.draughts, survivals);
+        let sums = sums::sum(s.sums, adds);
+        Running {
+            standing,
+            part,
+            survivals,
+            sums,
+        }
     }
 }

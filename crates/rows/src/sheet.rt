@@ -6,7 +6,7 @@ ghost use Rattle.rows.specs.Standing.{nowhere};
 ghost use Rattle.rows.specs.Work.{shares_from, adds_from, numbers};
 
 use super::kept_rows::KeptRows;
-use super::row::{begin, enter};
+use super::row::begin;
 use records::Trio;
 
 // Two numbers a row on the sheet.
@@ -14,11 +14,9 @@ pub fn fill(rows: &KeptRows, sheet: &mut [u64]) -> Trio
     requires { 2 * rows.now.count ≤ length sheet.old }
     ensures { (result ≡ partials (adds_from rows.now.ship.hull nowhere (kept_rows rows.now.count rows.now.kept.now 0))) × Within (500 * 10 ^ 9) result × (sheet.new ≡ numbers (shares_from rows.now.ship.hull nowhere (kept_rows rows.now.count rows.now.kept.now 0)) ++ drop (2 * rows.now.count) sheet.old) }
 {
-    let h = &rows.ship.hull;
-    let at = heights::three_draughts(h.deepest, h.light);
     let mut s = begin();
     for i in 0..rows.count {
-        s = enter(&rows.ship, at, s, rows.kept, i);
+        s = rows.enter(s, i);
         let k = 2 * i;
         sheet[k] = s.part.share.lower;
         sheet[k + 1] = s.part.share.upper;

@@ -1,11 +1,9 @@
--- What `list` keeps from turn to turn, and what its turns count down. Assumes nothing.
-use Prim.Native.Nat.{◌-◌}
+-- What `list` keeps from turn to turn. Assumes nothing.
 use Rattle.rows.proofs.InTurn.{Reached}
 use Rattle.listing.proofs.InNumbers.{InNumbers}
 use Rattle.listing.proofs.list.Given as goal
 
 abbrev pub invariant-loop-i : goal.invariant-loop-i
-invariant-loop-i l = Reached l.h l.kept l.rows l.s l.i × InNumbers l.h l.kept l.rows l.initial.out l.out l.s.standing l.i
-
-abbrev pub decreases-loop-i : goal.decreases-loop-i
-decreases-loop-i l = l.rows - l.i
+invariant-loop-i l =
+    let r = l.rows in
+    Reached r.ship.hull r.kept.now r.count l.s l.i × InNumbers r.ship.hull r.kept.now r.count l.initial.out l.out l.s.standing l.i

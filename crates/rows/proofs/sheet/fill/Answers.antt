@@ -18,7 +18,7 @@ loop-i-init c =
 pub enter-s-requires : goal.enter-s-requires
 enter-s-requires c =
     let r = c.args.rows.now in
-    may_enter r.ship.hull r.kept.now r.count c.loop-i.s c.loop-i.i c.loop-i.invariant.0 c.loop-i-test.true r.shares c.three_draughts-at.ensures r.few r.room
+    may_enter r.ship.hull r.kept.now r.count c.loop-i.s c.loop-i.i c.loop-i.invariant.0 c.loop-i-test.true r.few
 
 pub loop-i-preserved : goal.loop-i-preserved
 loop-i-preserved c =

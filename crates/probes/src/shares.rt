@@ -1,34 +1,25 @@
 // The ends of rows' shares, from a hull and rows that a host gives as numbers: the span table is made once, and no file is read.
-ghost use Rattle.std.specs.Prelude.{◌≡◌, ◌&&◌, ◌+◌, ◌*◌, ◌≤◌, min, leb, length};
+ghost use Rattle.std.specs.Prelude.{◌≡◌, ◌&&◌, ◌+◌, ◌*◌, ◌≤◌, leb, length};
 ghost use Rattle.std.proofs.lemmas.List.Edits.{sets};
 ghost use Rattle.laws.specs.Lists.{tabulate};
-ghost use Rattle.spans.specs.Hull.{Hulled};
-ghost use Rattle.spans.specs.Table.{table_of};
 ghost use Rattle.casefile.specs.Limits.{head_fits};
 ghost use Rattle.probes.specs.Shares.{number, hull_in, hull_fits, head_with, share_in, share_at, shares_from, rows_told};
 
+use groups::subdivision::Subdivision;
 use records::{Ends, Hull, RowHead};
 use spans::TABLE;
+use std::array;
 
 fn number_at(ns: &[u64], k: usize) -> u64
     ensures { result ≡ number ns.now k }
 {
-    if k < ns.len() {
-        return ns[k];
-    }
-    0
+    ns.get(k).copied().unwrap_or(0)
 }
 
 fn places_in(ns: &[u64]) -> [u64; 21]
     ensures { result ≡ tabulate (λ k. number ns.now (6 + k)) 21 }
 {
-    let mut at = [0u64; 21];
-    let mut k: usize = 0;
-    while k < 21 {
-        at[k] = number_at(ns, 6 + k);
-        k = k + 1;
-    }
-    at
+    array::from_fn(|k| number_at(ns, 6 + k))
 }
 
 fn hull_in(ns: &[u64]) -> Hull
@@ -69,43 +60,35 @@ fn row_fits(h: Hull, a: u64, n: u64, b1: u64, b2: u64) -> bool
     limits::head_fits(h, head) & (b1 <= b2)
 }
 
-fn share_in(t: &[u64], h: Hull, a: u64, n: u64, b1: u64, b2: u64) -> Ends
-    requires { Hulled h × (t.now ≡ table_of h) }
-    ensures { result ≡ share_in h a n b1 b2 }
+fn share_in(ship: &Subdivision, a: u64, n: u64, b1: u64, b2: u64) -> Ends
+    ensures { result ≡ share_in ship.now.hull a n b1 b2 }
 {
-    if !row_fits(h, a, n, b1, b2) {
-        return Ends { lower: 0, upper: 0 };
+    if row_fits(ship.hull, a, n, b1, b2) {
+        ship.share_ends(a as usize, n as usize, b1, b2)
+    } else {
+        Ends { lower: 0, upper: 0 }
     }
-    groups::share_ends(t, h, a as usize, n as usize, b1, b2)
 }
 
 // The share of the row whose four numbers stand at a place.
-fn share_at(t: &[u64], h: Hull, rows: &[u64], at: usize) -> Ends
-    requires { Hulled h × (t.now ≡ table_of h) × (at + 4 ≤ length rows.now) }
-    ensures { result ≡ share_at h rows.now at }
+fn share_at(ship: &Subdivision, rows: &[u64], at: usize) -> Ends
+    requires { at + 4 ≤ length rows.now }
+    ensures { result ≡ share_at ship.now.hull rows.now at }
 {
-    share_in(t, h, rows[at], rows[at + 1], rows[at + 2], rows[at + 3])
+    share_in(ship, rows[at], rows[at + 1], rows[at + 2], rows[at + 3])
 }
 
 // So many rows in turn, two numbers of each.
-fn put_shares(t: &[u64], h: Hull, rows: &[u64], count: usize, out: &mut [u64])
-    requires { Hulled h × (t.now ≡ table_of h) × (4 * count ≤ length rows.now) × (2 * count ≤ length out.old) }
-    ensures { out.new ≡ sets out.old 0 (shares_from h rows.now 0 count) }
+fn put_shares(ship: &Subdivision, rows: &[u64], count: usize, out: &mut [u64])
+    requires { (4 * count ≤ length rows.now) × (2 * count ≤ length out.old) }
+    ensures { out.new ≡ sets out.old 0 (shares_from ship.now.hull rows.now 0 count) }
 {
-    let mut i: usize = 0;
-    while i < count {
-        let e = share_at(t, h, rows, 4 * i);
+    for i in 0..count {
+        let e = share_at(ship, rows, 4 * i);
         let k = 2 * i;
         out[k] = e.lower;
         out[k + 1] = e.upper;
-        i += 1;
     }
-}
-
-fn lesser(a: usize, b: usize) -> usize
-    ensures { result ≡ min a b }
-{
-    if a <= b { a } else { b }
 }
 
 // The share ends of rows, each by a, n, the penetration before and its own; how many rows that is, none where the hull does not fit.
@@ -118,9 +101,10 @@ pub extern "C" fn probe_shares(hull: &[u64], rows: &[u64], out: &mut [u64]) -> u
     if !hull_fits(h) {
         return 0;
     }
-    let count = lesser(rows.len() / 4, out.len() / 2);
+    let count = (rows.len() / 4).min(out.len() / 2);
     let mut t = [0u64; TABLE];
     spans::fill_table(h, &mut t);
-    put_shares(&t, h, rows, count, out);
+    let ship = Subdivision { hull: h, table: &t };
+    put_shares(&ship, rows, count, out);
     count
 }

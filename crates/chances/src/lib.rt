@@ -4,7 +4,6 @@
 ghost use Rattle.std.specs.Prelude.{◌≡◌};
 ghost use Rattle.chances.specs.Share.{Few, row_of};
 
-use numbers::above;
 use records::Ends;
 
 // What a group adds and what it takes away, at one b.
@@ -15,23 +14,17 @@ pub struct Sums {
 }
 
 // A row's share: the sums at its b, less those at the layer before.
+#[tactic(auto, unfolding(crate::specs::Share::row_of, crate::specs::Share::lowest, crate::specs::Share::highest))]
 pub fn row_ends(before: Sums, at: Sums) -> Ends
     requires { Few before × Few at }
     ensures { result ≡ row_of before at }
 {
-    let lower = above(
-        at.added.lower + before.taken.lower,
-        at.taken.upper + before.added.upper,
-    );
-    let upper = above(
-        at.added.upper + before.taken.upper,
-        at.taken.lower + before.added.lower,
-    );
-    if upper <= 1_000_000_000 {
-        return Ends { lower, upper };
-    }
+    let lower = at.added.lower + before.taken.lower;
+    let upper = at.added.upper + before.taken.upper;
     Ends {
-        lower,
-        upper: 1_000_000_000,
+        lower: lower.saturating_sub(at.taken.upper + before.added.upper),
+        upper: upper
+            .saturating_sub(at.taken.lower + before.added.lower)
+            .min(1_000_000_000),
     }
 }

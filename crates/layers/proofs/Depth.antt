@@ -84,20 +84,6 @@ module _ (B b : ℕ) (h : (1 ≤ B) × (B ≤ 6000) × (2 * b ≤ B)) where
       let e : 1375 * b * b * B - 363 * b * b * b ≡ 11 * b * b * (125 * B - 33 * b) = omega (arith, mul-sub (b * b) (125 * B) (33 * b)) in
       ends_are G3_proper.0 G3_is ∙ billionths_both_ways _ _ G3_proper.0 (omega arith) (G3_cancelled B b (125 * B - 33 * b) e)
 
-  -- 64 bits hold the cancelled numerators
-  pub G1_fits : 4400000 * b * (500 * B - 99 * b) ≤ 4400000 * 3000 * 3000000
-  G1_fits =
-      let half : 4400000 * b ≤ 4400000 * 3000 = omega arith in
-      let rest : 500 * B - 99 * b ≤ 3000000 = omega arith in
-      mul-le-mul half rest
-
-  pub G3_fits : (1760000 * b * b ≤ 1760000 * 3000 * 3000) × (1760000 * b * b * (125 * B - 33 * b) ≤ 1760000 * 3000 * 3000 * 750000)
-  G3_fits =
-      let half : b ≤ 3000 = omega arith in
-      let square : 1760000 * b * b ≤ 1760000 * 3000 * 3000 = mul-le-mul (mul-le-mul_left 1760000 half) half in
-      let rest : 125 * B - 33 * b ≤ 750000 = omega arith in
-      (square, mul-le-mul square rest)
-
 -- what is kept for a layer
 pub layer_is : (B b : ℕ) {g1 g3 half : Ends} → g1 ≡ G1Ends B b → g3 ≡ G3Ends B b → half ≡ halves_of g3 →
     record { depth = b; c = 16 * b * B - 12 * b * b; d = 5 * B * B; g1 = g1; g3 = g3; half = half } ≡ layer_of B b

@@ -18,7 +18,9 @@ pub struct Layer {
     pub half: Ends,
 }
 
+// The bounds of the next two stand as they do in `at_depth`, whose clause the crates above cite.
 // 10⁹(5,500bB - 1,089b²)/(7,500B²), with the factor 2,500 cancelled.
+#[tactic(auto, using(crate::proofs::Depth::G1_ends))]
 fn g1_ends(breadth: u64, b: u64) -> Ends
     requires { (1 ≤ breadth) × (breadth ≤ 6000) × (2 * b ≤ breadth) }
     ensures { result ≡ G1Ends breadth b }
@@ -30,6 +32,7 @@ fn g1_ends(breadth: u64, b: u64) -> Ends
 }
 
 // 10⁹(1,375b²B - 363b³)/(56,250B³), with the factor 6,250 cancelled.
+#[tactic(auto, using(crate::proofs::Depth::G3_ends))]
 fn g3_ends(breadth: u64, b: u64) -> Ends
     requires { (1 ≤ breadth) × (breadth ≤ 6000) × (2 * b ≤ breadth) }
     ensures { result ≡ G3Ends breadth b }
@@ -41,21 +44,18 @@ fn g3_ends(breadth: u64, b: u64) -> Ends
 }
 
 // What a layer takes at the penetration b, worked out once.
+#[tactic(auto, using(crate::proofs::Depth::layer_is))]
 pub fn at_depth(breadth: u64, b: u64) -> Layer
     requires { (1 ≤ breadth) × (breadth ≤ 6000) × (2 * b ≤ breadth) }
     ensures { result ≡ layer_of breadth b }
 {
-    let c = 16 * b * breadth - 12 * b * b;
-    let d = 5 * breadth * breadth;
-    let g1 = g1_ends(breadth, b);
     let g3 = g3_ends(breadth, b);
-    let half = halves(g3);
     Layer {
         depth: b,
-        c,
-        d,
-        g1,
+        c: 16 * b * breadth - 12 * b * b,
+        d: 5 * breadth * breadth,
+        g1: g1_ends(breadth, b),
         g3,
-        half,
+        half: halves(g3),
     }
 }

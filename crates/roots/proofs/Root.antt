@@ -1,8 +1,9 @@
 -- What holds of the fourth roots, rounded down and up: each is one number, and those of a fraction are those of its quotient. Assumes nothing.
 use mathlib.Core.Path.{◌≡◌}
 use Prim.Native.Nat.{ℕ, ◌+◌, ◌*◌, ◌/◌, ◌^◌, ◌≤◌, ◌<◌}
-use native.Mathlib.Nat.{lt_of_not-le, le_antisymm, le_trans, le-div_iff_mul-le}
+use native.Mathlib.Nat.{lt_of_not-le, lt_of_le_of_lt, le_antisymm, le_trans, le-div_iff_mul-le}
 use native.Mathlib.Omega.{arith}
+use lib.Dec.{lit<}
 use Rattle.laws.specs.Rounding.{ceil}
 use Rattle.laws.proofs.Roots.{powers_ordered, powers_strict}
 use Rattle.laws.proofs.Rounding.{ceil_least}
@@ -21,6 +22,10 @@ down_between {n} {s} low high =
     record { within = low; greatest = λ t h. let below : t < s + 1 = below_of_fourth (omega arith) in omega arith }
 
 -- ---- the fourth power of a number
+
+-- 64 bits hold that of every root, and of the next number
+pub fits : (s : ℕ) → s ≤ 10001 → s ^ 4 < 2 ^ 64
+fits s h = lt_of_le_of_lt ((powers_ordered 3 s 10001).1 h) (lit< tt)
 
 -- that of 0 is above no number
 pub positive : (n s : ℕ) → n < s ^ 4 → 0 < s

@@ -4,20 +4,10 @@
 ghost use Rattle.std.specs.Prelude.{◌≡◌, ◌+◌, ◌^◌, ◌≤◌, ◌<◌};
 ghost use Rattle.roots.specs.Root.{RootDown, RootUp};
 
-use numbers::above;
-
 // A guess takes the bits after the leading one in 2²⁰ths, and works in 2³⁰ths.
 const PARTS: u64 = 1_048_576;
 
 const ONE: u64 = 1_073_741_824;
-
-fn fourth_power(s: u64) -> u64
-    requires { s < 2 ^ 16 }
-    ensures { result ≡ s ^ 4 }
-{
-    let square = s * s;
-    square * square
-}
 
 // Some number near 2 to the power of r/4, in 2³⁰ths.
 fn quarter(r: u64) -> u64
@@ -47,34 +37,37 @@ fn curve(u: u64) -> u64
 fn guess(n: u64) -> u64
     ensures { result ≤ 10000 }
 {
-    let zeros = u64::leading_zeros(n) as u64;
-    let top = above(63, zeros);
-    let u = (n >> above(top, 20)) % PARTS;
+    let zeros = u64::from(n.leading_zeros());
+    let top = 63_u64.saturating_sub(zeros);
+    let u = (n >> top.saturating_sub(20)) % PARTS;
     let whole = curve(u) * quarter(top % 4) / ONE;
     let near = whole >> (60 + zeros) / 4;
-    if near <= 10_000 { near } else { 10_000 }
+    near.min(10_000)
 }
 
 // A number whose fourth power is not above n, from a guess downwards.
+#[tactic(auto, using(crate::proofs::Root::positive, crate::proofs::Root::fits))]
 fn not_above(from: u64, n: u64) -> u64
     requires { from ≤ 10000 }
-    ensures { result ^ 4 ≤ n }
+    ensures { (result ^ 4 ≤ n) × (result ≤ 10000) }
 {
+    // No range to go over: as a rule the guess is the end.
     let mut s = from;
-    while n < fourth_power(s) {
-        s = s - 1;
+    while n < s.pow(4) {
+        s -= 1;
     }
     s
 }
 
 // The root, from such a number upwards.
+#[tactic(auto, using(crate::proofs::Root::fourth_at_most, crate::proofs::Root::down_between, crate::proofs::Root::fits))]
 fn raised(from: u64, n: u64) -> u64
-    requires { (from ^ 4 ≤ n) × (n ≤ 10 ^ 16) }
+    requires { (from ^ 4 ≤ n) × (from ≤ 10000) × (n ≤ 10 ^ 16) }
     ensures { RootDown n result × (result ≤ 10000) }
 {
     let mut s = from;
-    while fourth_power(s + 1) <= n {
-        s = s + 1;
+    while (s + 1).pow(4) <= n {
+        s += 1;
     }
     s
 }
@@ -88,9 +81,10 @@ pub fn root_down(n: u64) -> u64
 }
 
 // The fourth root rounded up, where s or the next number is: s is the root of n, or of the number before it, rounded down.
+#[tactic(auto, using(crate::proofs::Root::up_exact, crate::proofs::Root::up_next, crate::proofs::Root::fits))]
 pub fn root_up(s: u64, n: u64) -> u64
     requires { (s ≤ 10000) × (s ^ 4 ≤ n) × (n ≤ (s + 1) ^ 4) }
     ensures { RootUp n result }
 {
-    if fourth_power(s) == n { s } else { s + 1 }
+    if s.pow(4) == n { s } else { s + 1 }
 }

@@ -1,17 +1,21 @@
 -- Fields that are written part by part: how long they are, and what the buffer holds once the last part is there. Assumes nothing.
-use Prim.Native.Nat.{ℕ, ◌+◌, ◌/◌, ◌%◌, ◌<◌}
+use Prim.Native.Nat.{ℕ, zero, suc, ◌+◌, ◌-◌, ◌*◌, ◌/◌, ◌%◌, ◌^◌, ◌≤◌, ◌<◌}
 use mathlib.Core.Path.{◌≡◌, refl, sym, ◌∙◌, ap}
-use mathlib.Core.List.{List, ◌++◌}
+use mathlib.Core.List.{List, [], ◌∷◌, ◌++◌}
+use native.Mathlib.Nat.{zero-add, suc-add}
 use native.Mathlib.Numerals.{add-one}
 use native.Mathlib.Omega.{arith}
-use lib.ListN.{length, set, length-append}
+use lib.ListN.{length, get_or, take, drop, set, length-append}
+use lib.Seq.{take_all, take-suc, length-take-le}
+use mir.Syntax.{w64}
+use Rattle.std.specs.Int.{bytes_high_first, to_be_bytes}
 use Rattle.laws.specs.Bytes.{bytes}
 use Rattle.laws.proofs.Bytes.{length_bytes}
 use Rattle.records.specs.declared.Trio.{Trio}
 use Rattle.hexadecimal.specs.Hex.{digit, hex}
 use Rattle.digits.specs.Splice.{splice}
 use Rattle.digits.specs.Fields.{ends_field, partial_field, partials_field}
-use Rattle.digits.proofs.Text.{two_digits, bytes_append, digits_then}
+use Rattle.digits.proofs.Text.{two_digits, digits_then}
 
 -- ---- how long each is
 
@@ -41,19 +45,36 @@ low_written at n xs h e =
     let rest : n % 16 ≡ n = omega arith in
     byte_written at n xs (rw high refl) (rw rest e)
 
+-- the machine's bytes, of which the k low ones are the last k of eight
+all_bytes : (k n : ℕ) → bytes_high_first k n ≡ bytes k n
+unfolding bytes
+all_bytes zero n = refl
+all_bytes (suc zero) n = let e : n % 256 ≡ n / 256 ^ 0 % 256 = omega arith in ap (◌∷ []) e
+all_bytes (suc (suc k)) n = ap (n / 256 ^ suc k % 256 ∷◌) (all_bytes (suc k) n)
+
+drop_bytes : (j k n : ℕ) → drop j (bytes (j + k) n) ≡ bytes k n
+unfolding bytes
+drop_bytes zero k n = rw (zero-add k) refl
+drop_bytes (suc j) k n = rw (suc-add j k) (drop_bytes j k n)
+
+pub low_bytes : (k n : ℕ) {eight : List ℕ} → k ≤ 8 → eight ≡ to_be_bytes w64 n → take (8 - (8 - k)) (drop (8 - k) eight) ≡ bytes k n
+low_bytes k n h e =
+    let parts : 8 ≡ 8 - k + k = omega arith in
+    let count : 8 - (8 - k) ≡ k = omega arith in
+    let low = ap (drop (8 - k)) (e ∙ all_bytes 8 n) ∙ ap (λ m. drop (8 - k) (bytes m n)) parts ∙ drop_bytes (8 - k) k n in
+    rw (count, low) (take_all k (bytes k n) (omega (arith, length_bytes k n)))
+
+-- a byte more, by its two digits
+pub byte_more : (at i b : ℕ) (bs xs : List ℕ) {ys : List ℕ} {high low : ℕ} → i < length bs → b ≡ get_or bs i 0 → ys ≡ splice at (hex (take i bs)) xs →
+    high ≡ digit (b / 16) → low ≡ digit (b % 16) → set (set ys (at + 2 * i) high) (at + 2 * i + 1) low ≡ splice at (hex (take (i + 1) bs)) xs
+unfolding splice hex
+byte_more at i b bs xs {ys} {high} {low} h e p d f =
+    let long : length (take i bs) ≡ i = length-take-le i bs (omega arith) in
+    let stored : set (set ys (at + 2 * i) high) (at + 2 * i + 1) low ≡ splice (at + 2 * i) (hex (b ∷ [])) ys = rw (d, f, add-one (at + 2 * i)) refl in
+    let more : take i bs ++ b ∷ [] ≡ take (i + 1) bs = rw (e, add-one i) (sym (take-suc bs i 0 h)) in
+    digits_then at (at + 2 * i) (take i bs) (b ∷ []) xs (omega (arith, long)) p stored ∙ ap (λ l. splice at (hex l) xs) more
+
 module _ (at : ℕ) (xs : List ℕ) {ys zs : List ℕ} where
-  pub two_written : (n : ℕ) → ys ≡ splice at (hex (bytes 1 (n / 256))) xs → zs ≡ splice (at + 2) (hex (bytes 1 n)) ys →
-      zs ≡ splice at (hex (bytes 2 n)) xs
-  two_written n p q =
-      digits_then at (at + 2) (bytes 1 (n / 256)) (bytes 1 n) xs (omega (arith, length_bytes 1 (n / 256))) p q
-      ∙ ap (λ b. splice at (hex b) xs) (sym (bytes_append 1 1 n))
-
-  pub four_written : (n : ℕ) → ys ≡ splice at (hex (bytes 2 (n / 65536))) xs → zs ≡ splice (at + 4) (hex (bytes 2 n)) ys →
-      zs ≡ splice at (hex (bytes 4 n)) xs
-  four_written n p q =
-      digits_then at (at + 4) (bytes 2 (n / 65536)) (bytes 2 n) xs (omega (arith, length_bytes 2 (n / 65536))) p q
-      ∙ ap (λ b. splice at (hex b) xs) (sym (bytes_append 2 2 n))
-
   pub ends_written : (lower upper : ℕ) → ys ≡ splice at (hex (bytes 4 lower)) xs → zs ≡ splice (at + 8) (hex (bytes 4 upper)) ys →
       zs ≡ splice at (hex (ends_field lower upper)) xs
   unfolding ends_field

@@ -1,7 +1,7 @@
 // Numbers written as digits at a place of a lent buffer: bytes, the ends of figures, and the line feed.
 #![tactic(auto)]
 
-ghost use Rattle.std.specs.Prelude.{◌≡◌, [], ◌∷◌, ◌+◌, ◌≤◌, ◌<◌, length};
+ghost use Rattle.std.specs.Prelude.{◌≡◌, [], ◌∷◌, ◌+◌, ◌*◌, ◌≤◌, ◌<◌, length};
 ghost use Rattle.laws.specs.Bytes.{bytes};
 ghost use Rattle.hexadecimal.specs.Hex.{digit, hex};
 ghost use Rattle.digits.specs.Splice.{splice};
@@ -10,20 +10,22 @@ ghost use Rattle.digits.specs.Fields.{ends_field, partial_field, partials_field}
 use records::Trio;
 
 // The digit of a number below 16: from ten on they stand 39 further. Numbers all along, so that a digit takes no jump.
-fn digit_of(n: u64) -> u8
+fn digit_of(n: u8) -> u8
     requires { n < 16 }
     ensures { result ≡ digit n }
 {
-    (48 + n + n / 10 * 39) as u8
+    b'0' + n + n / 10 * 39
 }
 
-// The low byte of n, as two digits.
-pub fn put_byte(n: u64, out: &mut [u8], at: usize)
-    requires { at + 2 ≤ length out.old }
-    ensures { out.new ≡ splice at (hex (bytes 1 n)) out.old }
+// The N low bytes of n, the high one first: two digits each.
+pub fn put_bytes<const N: usize>(n: u64, out: &mut [u8], at: usize)
+    requires { (N ≤ 8) × (at + 2 * N ≤ length out.old) }
+    ensures { out.new ≡ splice at (hex (bytes N n)) out.old }
 {
-    out[at] = digit_of(n / 16 % 16);
-    out[at + 1] = digit_of(n % 16);
+    for (i, &byte) in n.to_be_bytes()[8 - N..].iter().enumerate() {
+        out[at + 2 * i] = digit_of(byte / 16);
+        out[at + 2 * i + 1] = digit_of(byte % 16);
+    }
 }
 
 // A byte below 16: a zero, and its one digit.
@@ -31,26 +33,8 @@ pub fn put_low(n: u64, out: &mut [u8], at: usize)
     requires { (n < 16) × (at + 2 ≤ length out.old) }
     ensures { out.new ≡ splice at (hex (bytes 1 n)) out.old }
 {
-    out[at] = 48;
-    out[at + 1] = digit_of(n);
-}
-
-// The two low bytes of n.
-pub fn put_two(n: u64, out: &mut [u8], at: usize)
-    requires { at + 4 ≤ length out.old }
-    ensures { out.new ≡ splice at (hex (bytes 2 n)) out.old }
-{
-    put_byte(n / 256, out, at);
-    put_byte(n, out, at + 2);
-}
-
-// The four low bytes of n.
-fn put_four(n: u64, out: &mut [u8], at: usize)
-    requires { at + 8 ≤ length out.old }
-    ensures { out.new ≡ splice at (hex (bytes 4 n)) out.old }
-{
-    put_two(n / 65536, out, at);
-    put_two(n, out, at + 4);
+    out[at] = b'0';
+    out[at + 1] = digit_of(n as u8);
 }
 
 // A figure's ends.
@@ -58,8 +42,8 @@ pub fn put_ends(lower: u64, upper: u64, out: &mut [u8], at: usize)
     requires { at + 16 ≤ length out.old }
     ensures { out.new ≡ splice at (hex (ends_field lower upper)) out.old }
 {
-    put_four(lower, out, at);
-    put_four(upper, out, at + 8);
+    put_bytes::<4>(lower, out, at);
+    put_bytes::<4>(upper, out, at + 8);
 }
 
 // The ends of the partial index at draught j.
@@ -87,5 +71,5 @@ pub fn put_feed(out: &mut [u8], at: usize)
     requires { at + 1 ≤ length out.old }
     ensures { out.new ≡ splice at (10 ∷ []) out.old }
 {
-    out[at] = 10;
+    out[at] = b'\n';
 }

@@ -1,10 +1,14 @@
 -- Two bytes with a sign: the number on either side of 32,768, written and read back. Assumes nothing.
-use Prim.Native.Nat.{ℕ, suc, ◌+◌, ◌-◌, ◌%◌, ◌≤◌, ◌<◌}
+use Prim.Native.Nat.{ℕ, suc, ◌+◌, ◌-◌, ◌≤◌, ◌<◌}
 use mathlib.Core.Path.{◌≡◌, refl, ◌∙◌, ap}
+use mathlib.Core.Bool.{Bool, true, false, cond}
 use mathlib.Core.List.{List, [], ◌∷◌, ◌++◌}
 use native.Mathlib.Omega.{arith}
-use lib.IntN.{ℤ, pos, negsuc, ◌-ℤ◌}
+use mir.Syntax.{w16}
+use mir.Val.{sel, to_z}
+use lib.IntN.{ℤ, pos, negsuc}
 use lib.Signed.{mag}
+use lib.Dec.{ltb}
 use borrow.Author.Tests.{lt-ltb, le-ltb}
 use Rattle.laws.specs.Bytes.{Octets, bytes}
 use Rattle.laws.proofs.Choice.{split}
@@ -19,25 +23,14 @@ pub signed_high : (n : ℕ) → 32768 ≤ n → signed n ≡ negsuc (65535 - n)
 unfolding signed
 signed_high n h = rw (le-ltb n 32768 h) refl
 
--- half a turn on, around at 65,536, and half a turn back
-pub around : (n : ℕ) → n < 65536 → pos ((n + 32768) % 65536) -ℤ pos 32768 ≡ signed n
-around n h = split 32768 n high low
+-- as the machine reads two bytes
+pub as_read : (n : ℕ) → to_z w16 n ≡ signed n
+unfolding signed
+as_read n = by (ltb n 32768)
   where
-    high : 32768 ≤ n → pos ((n + 32768) % 65536) -ℤ pos 32768 ≡ signed n
-    high l =
-        let e : (n + 32768) % 65536 ≡ n - 32768 = omega arith in
-        let k : 32768 - suc (n - 32768) ≡ 65535 - n = omega arith in
-        rw (e, lt-ltb (n - 32768) 32768 (omega arith), signed_high n l) (ap negsuc k)
-
-    low : n < 32768 → pos ((n + 32768) % 65536) -ℤ pos 32768 ≡ signed n
-    low l =
-        let e : (n + 32768) % 65536 ≡ n + 32768 = omega arith in
-        let k : n + 32768 - 32768 ≡ n = omega arith in
-        rw (e, le-ltb (n + 32768) 32768 (omega arith), signed_low n l) (ap pos k)
-
--- and no further from 0 than that
-pub near_0 : (n : ℕ) → n < 65536 → mag (signed n) < 32768
-near_0 n h = split 32768 n (λ l. rw (signed_high n l) (omega arith)) (λ l. rw (signed_low n l) l)
+    by : (t : Bool) → sel t (pos n) (negsuc (65536 - suc n)) ≡ cond t (pos n) (negsuc (65535 - n))
+    by true = refl
+    by false = let e : 65536 - suc n ≡ 65535 - n = omega arith in ap negsuc e
 
 -- ---- there and back
 pub unsigned_signed : (n : ℕ) → n < 65536 → unsigned (signed n) ≡ n

@@ -9,10 +9,10 @@ pub fn byte_at(f: &[u8], at: usize) -> u64
     ensures value { result ≡ byte_at f.now at }
     ensures small { result < 256 }
 {
-    if at < f.len() {
-        return f[at] as u64;
+    match f.get(at) {
+        Some(&byte) => byte.into(),
+        None => 0,
     }
-    0
 }
 
 // Two bytes of a part of a line, the high one first.
@@ -32,33 +32,27 @@ pub fn byte_in(f: &[u8], at: usize) -> u64
     ensures value { result ≡ byte_at f.now at }
     ensures small { result < 256 }
 {
-    f[at] as u64
+    f[at].into()
 }
 
 // Two bytes of a part of a line that has both, the high one first.
+#[tactic(auto, unfolding(crate::specs::Fields::word_at))]
 pub fn word_in(f: &[u8], at: usize) -> u64
     requires { at + 2 ≤ length f.now }
     ensures value { result ≡ word_at f.now at }
     ensures small { result < 65536 }
 {
-    f[at] as u64 * 256 + f[at + 1] as u64
+    u16::from_be_bytes([f[at], f[at + 1]]).into()
 }
 
 // Four bytes of a part of a line that has them, the highest first.
+#[tactic(auto, unfolding(crate::specs::Fields::word_at, crate::specs::Fields::long_at))]
 pub fn long_in(f: &[u8], at: usize) -> u64
     requires { at + 4 ≤ length f.now }
     ensures value { result ≡ long_at f.now at }
     ensures small { result < 4294967296 }
 {
-    word_in(f, at) * 65536 + word_in(f, at + 2)
-}
-
-// The number with a sign that two bytes have in two's complement: with no jump.
-fn with_sign(n: u64) -> i64
-    requires { n < 65536 }
-    ensures { result ≡ signed n }
-{
-    ((n + 32768) % 65536) as i64 - 32768
+    u32::from_be_bytes([f[at], f[at + 1], f[at + 2], f[at + 3]]).into()
 }
 
 // Two bytes of a part of a line that has both, the high one first, in two's complement.
@@ -66,5 +60,5 @@ pub fn signed_in(f: &[u8], at: usize) -> i64
     requires { at + 2 ≤ length f.now }
     ensures { result ≡ signed_at f.now at }
 {
-    with_sign(word_in(f, at))
+    i16::from_be_bytes([f[at], f[at + 1]]).into()
 }

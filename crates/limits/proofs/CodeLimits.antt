@@ -1,102 +1,116 @@
--- Limits as the code tests them: places that rise one by one, and a group of zones without the sum that could wrap. Assumes nothing.
-use Prim.Native.Nat.{ℕ, ◌+◌, ◌-◌, ◌≤◌, ◌<◌}
-use mathlib.Core.Path.{◌≡◌, refl}
-use mathlib.Core.Bool.{Bool, true, false, not, ◌&&◌, and-true, and-false}
+-- Limits as the code tests them: ranges, places that rise, a sum that stops at the greatest number, and a test of each of three. Assumes nothing.
+use Prim.Native.Nat.{ℕ, zero, suc, ◌+◌, ◌≤◌, ◌<◌, min}
+use mathlib.Core.Path.{◌≡◌, refl, sym, ◌∙◌}
+use mathlib.Core.Bool.{Bool, true, false, cond, ◌&&◌, and-false}
 use mathlib.Core.List.{List, [], ◌∷◌}
+use native.Mathlib.Nat.{min-eq_left, min-eq_right, le_of_lt}
 use native.Mathlib.Numerals.{add-one}
 use native.Mathlib.Omega.{arith}
 use lib.Dec.{leb, ltb, eqb}
-use lib.ListN.{length, get_or}
-use borrow.Author.Tests.{le-leb, lt-leb, leb-true, ne_eqb}
-use Rattle.laws.proofs.Tests.{same_test}
+use lib.ListN.{length, get_or, take}
+use borrow.Author.Tests.{le-leb, lt-leb, lt-ltb, le-ltb, eq-eqb, ne_eqb}
+use lib.IntN.{ℤ, pos, negsuc}
+use Rattle.std.specs.Ordering.{is_le, nat_cmp, int_cmp}
+use Rattle.std.specs.List.{IsAllAdjacentAnswer}
+use Rattle.std.proofs.lemmas.List.{get_or-take, length-take-le}
+use Rattle.std.proofs.Common.{All, IsTrue, ◌↔◌, Less, Equal, Greater}
+use Rattle.laws.proofs.Tests.{both, same_test}
+use Rattle.laws.proofs.Choice.{split}
 use Rattle.records.specs.declared.Finding.{Finding}
 use Rattle.records.specs.declared.Flooding.{Flooding}
 use Rattle.records.specs.declared.Hull.{Hull}
-use Rattle.casefile.specs.Limits.{between, aboard, persons_fit, rising_to, zones_fit, finding_fits, findings_fit, flooding_fits, floodings_fit}
+use Rattle.casefile.specs.Limits.{between, rising_to, zones_fit, opening_fits, finding_fits, findings_fit, flooding_fits, floodings_fit}
+
+-- ---- ranges
+
+le_told : (x y : ℕ) → is_le (nat_cmp x y) ≡ leb x y
+le_told x y =
+    split x y
+    (λ h. split (suc x) y (λ l. rw (lt-ltb x y l, le-leb x y h) refl) (λ l. rw (le-ltb x y (omega arith), eq-eqb x y (omega arith), le-leb x y h) refl))
+    (λ h. rw (le-ltb x y (omega arith), ne_eqb x y (λ e. omega arith), lt-leb x y h) refl)
+
+-- what a range tells of a number
+pub within : (low high x : ℕ) → (is_le (nat_cmp low x) && is_le (nat_cmp x high)) ≡ between low high x
+unfolding between
+within low high x = rw (le_told low x, le_told x high) refl
+
+-- and of one with a sign
+le_told_z : (x y : ℕ) → is_le (cond (ltb x y) Less (cond (ltb y x) Greater Equal)) ≡ leb x y
+le_told_z x y =
+    split x y
+    (λ h. split (suc x) y (λ l. rw (lt-ltb x y l, le-leb x y h) refl) (λ l. rw (le-ltb x y (omega arith), le-ltb y x h, le-leb x y h) refl))
+    (λ h. rw (le-ltb x y (omega arith), lt-ltb y x h, lt-leb x y h) refl)
+
+pub opening_within : (o : ℤ) → (is_le (int_cmp (negsuc 29999) o) && is_le (int_cmp o (pos 30000))) ≡ opening_fits o
+unfolding opening_fits
+opening_within (pos n) = le_told_z n 30000
+opening_within (negsuc n) = rw (le_told_z n 29999) refl
 
 -- ---- the zones of a hull
 
-pub rising_none : (places : List ℕ) → true ≡ rising_to places 0
+rising_all : (places : List ℕ) (m : ℕ) → ((k : ℕ) → k < m → true ≡ ltb (get_or places k 0) (get_or places (suc k) 0)) → true ≡ rising_to places m
 unfolding rising_to
-rising_none places = refl
+rising_all places zero a = refl
+rising_all places (suc m) a = rw (← rising_all places m (λ k h. a k (omega arith)), ← a m (omega arith)) refl
 
-pub rising_more : (places : List ℕ) (k : ℕ) (rising : Bool) → rising ≡ rising_to places k → (rising && ltb (get_or places k 0) (get_or places (k + 1) 0)) ≡ rising_to places (k + 1)
+rising_not : (places : List ℕ) (m k : ℕ) → k < m → false ≡ ltb (get_or places k 0) (get_or places (suc k) 0) → false ≡ rising_to places m
 unfolding rising_to
-rising_more places k rising e = rw (add-one, e) refl
+rising_not places zero k h e = absurd (omega arith)
+rising_not places (suc m) k h e =
+    split (suc k) m
+    (λ l. rw (← rising_not places m k l e) refl)
+    (λ l. let last : k ≡ m = omega arith in rw (← (rw last at e), and-false (rising_to places m)) refl)
+
+-- of the first of them
+pub rising_told : (places : List ℕ) (m : ℕ) (r : Bool) → m + 1 ≤ length places → IsAllAdjacentAnswer (λ x y b. b ≡ ltb x y) (take (m + 1) places) r → r ≡ rising_to places m
+rising_told places m true h a =
+    rising_all places m
+    (λ k l. rw (get_or-take (m + 1) places k 0 (omega arith), get_or-take (m + 1) places (k + 1) 0 (omega arith), add-one k) at (a k 0 (omega (arith, length-take-le (m + 1) places h))))
+rising_told places m false h (k, l, e) =
+    let n : k < m = omega (arith, length-take-le (m + 1) places h) in
+    rising_not places m k n
+    (rw (get_or-take (m + 1) places k 0 (omega arith), get_or-take (m + 1) places (k + 1) 0 (omega arith), add-one k) at (e 0))
 
 module _ (h : Hull) where
-  pub no_zones : h.zones < 1 → false ≡ zones_fit h
-  unfolding zones_fit between
-  no_zones l = rw (lt-leb 1 h.zones l) refl
+  pub zones_outside : between 1 20 h.zones ≡ false → false ≡ zones_fit h
+  unfolding zones_fit
+  zones_outside e = rw e refl
 
-  pub too_many_zones : 1 ≤ h.zones → 20 < h.zones → false ≡ zones_fit h
-  unfolding zones_fit between
-  too_many_zones l k = rw (le-leb 1 h.zones l, lt-leb h.zones 20 k) refl
-
-  pub zones_by_places : (rising : Bool) → 1 ≤ h.zones → h.zones ≤ 20 → rising ≡ rising_to h.places h.zones
+  pub zones_by_places : (rising : Bool) → between 1 20 h.zones ≡ true → rising ≡ rising_to h.places h.zones
       → (eqb (get_or h.places 0 0) 0 && eqb (get_or h.places h.zones 0) h.length && rising) ≡ zones_fit h
-  unfolding zones_fit between
-  zones_by_places rising l k e = rw (le-leb 1 h.zones l, le-leb h.zones 20 k, e) refl
+  unfolding zones_fit
+  zones_by_places rising t e = rw (t, e) refl
 
--- ---- its persons, summed where the sum cannot wrap
+-- ---- its persons, whose sum stops at the greatest number
 
-module _ (h : Hull) where
-  pub of_the_earlier_rule : (h.rule ≡ 1 → ⊥) → true ≡ persons_fit h
-  unfolding persons_fit
-  of_the_earlier_rule n = rw (ne_eqb h.rule 1 n) refl
+pub persons_capped : (n : ℕ) → between 1351 6000 (min n 18446744073709551615) ≡ between 1351 6000 n
+unfolding between
+persons_capped n =
+    split n 18446744073709551615
+    (λ h. rw (min-eq_left h) refl)
+    (λ h. rw (min-eq_right (le_of_lt h), lt-leb n 6000 (omega arith), and-false (leb 1351 n)) refl)
 
-  pub above_the_band : 6000 < aboard h → true ≡ persons_fit h
-  unfolding persons_fit between
-  above_the_band l = rw (lt-leb (aboard h) 6000 l, and-false (leb 1351 (aboard h)), and-false (eqb h.rule 1)) refl
-
-  pub persons_by_sum : h.rule ≡ 1 → (band : Bool) → band ≡ between 1351 6000 (aboard h) → not band ≡ persons_fit h
-  unfolding persons_fit
-  persons_by_sum r band e = rw (r, e) refl
-
--- ---- sums that could wrap
-
--- a group by its first zone a and zone count n, in a ship of m zones
-module _ (a n m : ℕ) where
-  pub no_first : a < 1 → false ≡ (leb 1 a && leb 1 n && leb (a + n - 1) m)
-  no_first h = rw (lt-leb 1 a h) refl
-
-  pub no_count : 1 ≤ a → n < 1 → false ≡ (leb 1 a && leb 1 n && leb (a + n - 1) m)
-  no_count h k = rw (le-leb 1 a h, lt-leb 1 n k) refl
-
-  module _ (h : 1 ≤ a) (k : 1 ≤ n) where
-    pub first_beyond : m < a → false ≡ (leb 1 a && leb 1 n && leb (a + n - 1) m)
-    first_beyond l = rw (le-leb 1 a h, le-leb 1 n k, lt-leb (a + n - 1) m (omega arith)) refl
-
-    pub last_within : a ≤ m → leb (n - 1) (m - a) ≡ (leb 1 a && leb 1 n && leb (a + n - 1) m)
-    last_within l =
-        rw (le-leb 1 a h, le-leb 1 n k)
-        (same_test (leb (n - 1) (m - a)) (leb (a + n - 1) m)
-        (λ e. le-leb (a + n - 1) m (omega (arith, leb-true (n - 1) (m - a) e)))
-        (λ e. le-leb (n - 1) (m - a) (omega (arith, leb-true (a + n - 1) m e))))
-
--- ---- three of a kind by their places
+-- ---- each of a list
 
 -- a test of each of a list, written along it
 module _ {A : Type 0} (fits : A → Bool) (all_fit : List A → Bool) (none : all_fit [] ≡ true) (more : (x : A) (xs : List A) → all_fit (x ∷ xs) ≡ (fits x && all_fit xs)) where
-  three_fit : (xs : List A) (d : A) → length xs ≡ 3 → (fits (get_or xs 0 d) && (fits (get_or xs 1 d) && fits (get_or xs 2 d))) ≡ all_fit xs
-  three_fit [] d e = absurd (omega arith)
-  three_fit (a ∷ []) d e = absurd (omega arith)
-  three_fit (a ∷ b ∷ []) d e = absurd (omega arith)
-  three_fit (a ∷ b ∷ c ∷ []) d e = rw (more a (b ∷ c ∷ []), more b (c ∷ []), more c [], none, and-true (fits c)) refl
-  three_fit (a ∷ b ∷ c ∷ x ∷ xs) d e = absurd (omega arith)
+  each_fits : (xs : List A) → all_fit xs ≡ true → All (λ x. fits x ≡ true) xs
+  each_fits [] e k d h = absurd (omega arith)
+  each_fits (x ∷ xs) e zero d h = (both (fits x) (all_fit xs) (sym (more x xs) ∙ e)).0
+  each_fits (x ∷ xs) e (suc k) d h = each_fits xs (both (fits x) (all_fit xs) (sym (more x xs) ∙ e)).1 k d (omega arith)
 
-  of_three : (xs : List A) (d : A) (a b c : Bool) → length xs ≡ 3 → a ≡ fits (get_or xs 0 d) → b ≡ fits (get_or xs 1 d) → c ≡ fits (get_or xs 2 d) → (a && (b && c)) ≡ all_fit xs
-  of_three xs d a b c n p q r = rw (p, q, r) (three_fit xs d n)
+  they_fit : (xs : List A) → All (λ x. fits x ≡ true) xs → all_fit xs ≡ true
+  they_fit [] a = none
+  they_fit (x ∷ xs) a = rw (more x xs, a 0 x (omega arith), they_fit xs (λ k d h. a (suc k) d (omega arith))) refl
+
+  fit_told : (xs : List A) {b : Bool} → (IsTrue b ↔ All (λ x. fits x ≡ true) xs) → b ≡ all_fit xs
+  fit_told xs {b} t = same_test b (all_fit xs) (λ e. they_fit xs (t.0 e)) (λ e. t.1 (each_fits xs e))
 
 -- results, and what a passenger ship's row tells besides
-pub set_of_three : (rs : List Finding) (d : Finding) (a b c : Bool) → length rs ≡ 3
-    → a ≡ finding_fits (get_or rs 0 d) → b ≡ finding_fits (get_or rs 1 d) → c ≡ finding_fits (get_or rs 2 d)
-    → (a && (b && c)) ≡ findings_fit rs
+pub findings_told : (rs : List Finding) {b : Bool} → (IsTrue b ↔ All (λ r. finding_fits r ≡ true) rs) → b ≡ findings_fit rs
 unfolding findings_fit
-set_of_three = of_three finding_fits findings_fit refl (λ x xs. refl)
+findings_told = fit_told finding_fits findings_fit refl (λ x xs. refl)
 
-pub floodings_of_three : (ws : List Flooding) (d : Flooding) (a b c : Bool) → length ws ≡ 3
-    → a ≡ flooding_fits (get_or ws 0 d) → b ≡ flooding_fits (get_or ws 1 d) → c ≡ flooding_fits (get_or ws 2 d)
-    → (a && (b && c)) ≡ floodings_fit ws
+pub floodings_told : (ws : List Flooding) {b : Bool} → (IsTrue b ↔ All (λ w. flooding_fits w ≡ true) ws) → b ≡ floodings_fit ws
 unfolding floodings_fit
-floodings_of_three = of_three flooding_fits floodings_fit refl (λ x xs. refl)
+floodings_told = fit_told flooding_fits floodings_fit refl (λ x xs. refl)

@@ -9,37 +9,28 @@ use records::{Finding, Flooding, Hull, RowHead};
 fn is_between(low: u64, high: u64, x: u64) -> bool
     ensures { result ≡ between low high x }
 {
-    (low <= x) & (x <= high)
+    (low..=high).contains(&x)
 }
 
 // Whether the draughts differ by a multiple of 5; where the light one is above the deepest, the difference is taken as 0.
 fn differ_by_fifths(deepest: u64, light: u64) -> bool
     ensures { result ≡ eqb ((deepest - light) % 5) 0 }
 {
-    if deepest < light {
-        return true;
-    }
-    (deepest - light) % 5 == 0
+    deepest.saturating_sub(light) % 5 == 0
 }
 
 // The least length of a ship of a kind.
 fn shortest(kind: u64) -> u64
     ensures { result ≡ shortest_ship kind }
 {
-    if kind == 6 {
-        return 2000;
-    }
-    8000
+    if kind == 6 { 2000 } else { 8000 }
 }
 
 // Its least breadth.
 fn narrowest(kind: u64) -> u64
     ensures { result ≡ narrowest_ship kind }
 {
-    if kind == 6 {
-        return 400;
-    }
-    1000
+    if kind == 6 { 400 } else { 1000 }
 }
 
 // Refusal 4 is given where this does not hold.
@@ -53,33 +44,18 @@ pub fn sizes_fit(h: Hull) -> bool
         & ((h.lifeboats <= 10000) & (h.excess <= 10000) & (h.rule <= 1))
 }
 
-// Refusal 13 is given where this does not hold. Each count is held against 6,000 first, so that the sum cannot wrap.
+// Refusal 13 is given where this does not hold. A sum that would not fit is above the band too.
 pub fn persons_fit(h: Hull) -> bool
     ensures { result ≡ persons_fit h }
 {
-    if h.rule != 1 {
-        return true;
-    }
-    if 6000 < h.lifeboats {
-        return true;
-    }
-    if 6000 < h.excess {
-        return true;
-    }
-    !is_between(1351, 6000, h.lifeboats + h.excess)
+    !((h.rule == 1) & is_between(1351, 6000, h.lifeboats.saturating_add(h.excess)))
 }
 
 fn is_rising(places: [u64; 21], m: usize) -> bool
     requires { m ≤ 20 }
     ensures { result ≡ rising_to places m }
 {
-    let mut rising = true;
-    let mut k: usize = 0;
-    while k < m {
-        rising = rising & (places[k] < places[k + 1]);
-        k = k + 1;
-    }
-    rising
+    places[..=m].is_sorted_by(|&before, &place| before < place)
 }
 
 // Refusal 5 is given where this does not hold.
@@ -88,10 +64,7 @@ pub fn zones_fit(h: Hull) -> bool
 {
     let m = h.zones;
     let places = h.places;
-    if m < 1 {
-        return false;
-    }
-    if 20 < m {
+    if !(1..=20).contains(&m) {
         return false;
     }
     (places[0] == 0) & (places[m] == h.length) & is_rising(places, m)
@@ -101,17 +74,13 @@ pub fn zones_fit(h: Hull) -> bool
 fn group_fits(first: u64, count: u64, zones: usize) -> bool
     ensures { result ≡ (leb 1 first && leb 1 count && leb (first + count - 1) zones) }
 {
-    let m = zones as u64;
-    if first < 1 {
+    if (first < 1) | (count < 1) {
         return false;
     }
-    if count < 1 {
+    let Some(last) = first.checked_add(count - 1) else {
         return false;
-    }
-    if m < first {
-        return false;
-    }
-    count - 1 <= m - first
+    };
+    last <= zones as u64
 }
 
 // Refusal 7 is given where this does not hold of a row's head, or `set_fits` not of a set of its results, or `floodings_fit` not of what else it tells.
@@ -126,7 +95,7 @@ pub fn head_fits(h: Hull, r: RowHead) -> bool
 fn opening_fits(o: i64) -> bool
     ensures { result ≡ opening_fits o }
 {
-    (-30000 <= o) & (o <= 30000)
+    (-30000..=30000).contains(&o)
 }
 
 fn finding_fits(r: Finding) -> bool
@@ -143,10 +112,7 @@ fn finding_fits(r: Finding) -> bool
 pub fn set_fits(results: [Finding; 3]) -> bool
     ensures { result ≡ findings_fit results }
 {
-    let deepest = results[0];
-    let partial = results[1];
-    let light = results[2];
-    finding_fits(deepest) & (finding_fits(partial) & finding_fits(light))
+    results.iter().all(|&r| finding_fits(r))
 }
 
 fn flooding_fits(w: Flooding) -> bool
@@ -162,8 +128,5 @@ fn flooding_fits(w: Flooding) -> bool
 pub fn floodings_fit(floodings: [Flooding; 3]) -> bool
     ensures { result ≡ floodings_fit floodings }
 {
-    let deepest = floodings[0];
-    let partial = floodings[1];
-    let light = floodings[2];
-    flooding_fits(deepest) & (flooding_fits(partial) & flooding_fits(light))
+    floodings.iter().all(|&w| flooding_fits(w))
 }

@@ -6,9 +6,13 @@ use mathlib.Core.List.{List, [], ◌∷◌, ◌++◌}
 use native.Mathlib.Numerals.{add-one}
 use native.Mathlib.Omega.{arith}
 use lib.Dec.{eqb, ltb, leb-suc-suc}
-use lib.ListN.{length, get_or, take, drop, length-drop, drop_of_length-le}
-use lib.Seq.{drop-cons, drop-drop, get_or-drop}
+use lib.ListN.{length, get_or, take, drop, length-drop, length-append, drop_of_length-le}
+use lib.Seq.{drop-cons, drop-drop, take_all, take_at, drop_at}
 use borrow.Author.Tests.{eq-eqb, ne_eqb, lt-ltb, ltb-true, eqb-true}
+use Rattle.std.specs.Option.{unwrap_or}
+use Rattle.std.specs.List.{AllWithin, HoldsAt}
+use Rattle.std.proofs.Common.{Option, MatchOption}
+use Rattle.std.proofs.lemmas.Iterator.{index_from_first}
 use Rattle.laws.proofs.Tests.{neither, same_test}
 use Rattle.lines.specs.Lines.{Line, onto, lines, line_length, has_feed}
 -- checked first, so that a definition that gives other lines is refused there
@@ -44,11 +48,29 @@ length_past (suc n) [] h e = absurd (omega arith)
 length_past (suc n) (b ∷ g) h e = let (p, q) = neither (eqb b 10) (has_feed (take n g)) e in rw p (omega (arith, length_past n g (omega arith) q))
 
 module _ (f : List ℕ) (i : ℕ) where
-  pub feed_next : (k : ℕ) → i + k < length f → (has_feed (take k (drop i f)) || eqb (get_or f (i + k) 0) 10) ≡ has_feed (take (k + 1) (drop i f))
-  feed_next k h = rw (add-one, ← get_or-drop i f k 0) (feed_taken (drop i f) k (omega (arith, length-drop i f)))
-
   pub feedless_go_on : (n : ℕ) → i + n ≤ length f → has_feed (take n (drop i f)) ≡ false → i + n + line_length (drop (i + n) f) ≡ i + line_length (drop i f)
   feedless_go_on n h e = rw (← drop-drop n i f) (omega (arith, length_past n (drop i f) (omega (arith, length-drop i f)) e))
+
+-- a run of n bytes from a place on, and what follows it
+module _ (f : List ℕ) (past n : ℕ) (run rest : List ℕ) (e : drop past f ≡ run ++ rest) (l : length run ≡ n) (h : past ≤ length f) where
+  pub run_within : past + n ≤ length f
+  run_within = omega (arith, length-drop past f, ap length e, length-append run rest)
+
+  pub run_leaves : rest ≡ drop (past + n) f
+  run_leaves = sym (drop_at run rest n l) ∙ sym (ap (drop n) e) ∙ drop-drop n past f
+
+  pub run_feedless : has_feed run ≡ false → past + n + line_length (drop (past + n) f) ≡ past + line_length (drop past f)
+  run_feedless t = feedless_go_on f past n run_within (ap has_feed (ap (take n) e ∙ take_at run rest n l) ∙ t)
+
+-- all that is left from a place on
+pub all_left : (k : ℕ) (f : List ℕ) → take (length f - k) (drop k f) ≡ drop k f
+all_left k f = take_all (length f - k) (drop k f) (omega (arith, length-drop k f))
+
+-- the place of the first line feed, or where the bytes end
+pub length_found : (f : List ℕ) (r : Option ℕ) → MatchOption r (AllWithin (λ b. b ≡ 10 → ⊥) f 0 (length f)) (λ i. (i < length f) × HoldsAt (λ b. b ≡ 10) f i × AllWithin (λ b. b ≡ 10 → ⊥) f 0 i) →
+    line_length f ≡ unwrap_or r (length f)
+unfolding line_length
+length_found f r = index_from_first line_length (λ b. b ≡ 10) (λ b. b ≡ 10 → ⊥) refl (λ b g e. rw (eq-eqb b 10 e) refl) (λ b g e. rw (add-one, ne_eqb b 10 e) refl) f r
 
 pub length_within : (f : List ℕ) → line_length f ≤ length f
 unfolding line_length

@@ -1,39 +1,34 @@
 // The case file's lines: cut at line feeds.
 #![tactic(auto)]
 
-ghost use Rattle.std.specs.Prelude.{◌≡◌, ◌+◌, ◌≤◌, length, take, drop};
+ghost use Rattle.std.specs.Prelude.{◌≡◌, ◌+◌, ◌≤◌, length, drop};
 ghost use Rattle.lines.specs.Lines.{line_length, has_feed};
 
-// Whether one of the n bytes from a place on is a line feed: each is looked at whatever the others are, so that no jump is taken among them.
-fn feed_in(input: &[u8], at: usize, n: usize) -> bool
-    requires { at + n ≤ length input.now }
-    ensures { result ≡ has_feed (take n (drop at input.now)) }
+// Whether one of these bytes is a line feed: each is looked at whatever the others are, so that no jump is taken among them.
+fn has_feed(run: &[u8]) -> bool
+    ensures { result ≡ has_feed run.now }
 {
     let mut found = false;
-    let mut k: usize = 0;
-    while k < n {
-        found = found | (input[at + k] == b'\n');
-        k = k + 1;
+    for &b in run {
+        found |= b == b'\n';
     }
     found
 }
 
-// A place from which the line ends where it does from `at`: past as many runs of n bytes as hold no line feed.
-fn past_runs(input: &[u8], at: usize, n: usize) -> usize
-    requires { 1 ≤ n }
-    ensures { result + line_length (drop result input.now) ≡ at + line_length (drop at input.now) }
+// How far a text has no line feed, in whole runs of N bytes.
+fn past_runs<const N: usize>(text: &[u8]) -> usize
+    requires { 1 ≤ N }
+    ensures within { result ≤ length text.now }
+    ensures feedless { result + line_length (drop result text.now) ≡ line_length text.now }
 {
-    let mut i = at;
-    while i < input.len() {
-        if input.len() - i < n {
-            return i;
+    let mut past = 0;
+    for run in text.chunks_exact(N) {
+        if has_feed(run) {
+            return past;
         }
-        if feed_in(input, i, n) {
-            return i;
-        }
-        i = i + n;
+        past += N;
     }
-    i
+    past
 }
 
 // Where the line that starts at a place ends: at its line feed, or where the input ends. Sixteen bytes are looked at together as long as there are so
@@ -41,13 +36,11 @@ fn past_runs(input: &[u8], at: usize, n: usize) -> usize
 pub fn line_end(input: &[u8], at: usize) -> usize
     ensures { result ≡ at + line_length (drop at input.now) }
 {
-    let sixteens = past_runs(input, at, 16);
-    let mut i = past_runs(input, sixteens, 8);
-    while i < input.len() {
-        if input[i] == b'\n' {
-            return i;
-        }
-        i = i + 1;
-    }
-    i
+    let Some(text) = input.get(at..) else {
+        return at;
+    };
+    let sixteens = past_runs::<16>(text);
+    let past = sixteens + past_runs::<8>(&text[sixteens..]);
+    let rest = &text[past..];
+    at + past + rest.iter().position(|&b| b == b'\n').unwrap_or(rest.len())
 }

@@ -2,12 +2,9 @@
 use Prim.Native.Nat.{ℕ, zero, suc, ◌+◌, ◌*◌, ◌≤◌}
 use mathlib.Core.Path.{◌≡◌, refl, ◌∙◌, ap}
 use mathlib.Core.List.{List, [], ◌∷◌, ◌++◌}
-use native.Mathlib.Numerals.{add-one}
 use native.Mathlib.Nat.{mul-le-mul}
 use native.Mathlib.Omega.{arith}
-use lib.ListN.{length, drop, set, length-append}
-use lib.Seq.{sets}
-use Rattle.laws.proofs.Pieces.{put_in_front}
+use lib.ListN.{length, length-append}
 use Rattle.records.specs.declared.Ends.{Ends}
 use Rattle.records.specs.declared.Hull.{Hull}
 use Rattle.records.specs.declared.Ratio.{Ratio}
@@ -24,15 +21,11 @@ pub length_required : (h : Hull) → length (required_numbers h) ≡ 4
 unfolding required_numbers
 length_required h = refl
 
-pub four_put : (h : Hull) (out : List ℕ) {r m : Ratio} → r ≡ ratio_of (required_of h) → m ≡ ratio_of (mark_of h) → 4 ≤ length out →
-    set (set (set (set out 0 r.num) 1 r.den) 2 m.num) 3 m.den ≡ required_numbers h ++ drop 4 out
+pub four_told : (h : Hull) {r m : Ratio} → r ≡ ratio_of (required_of h) → m ≡ ratio_of (mark_of h) → r.num ∷ r.den ∷ m.num ∷ m.den ∷ [] ≡ required_numbers h
 unfolding required_numbers
-four_put h out e f room = put_in_front out (required_numbers h) (rw (e, f) refl) refl room
+four_told h e f = rw (e, f) refl
 
 -- ---- how many groups there are
-
-pub two_stores : (a b at : ℕ) (xs : List ℕ) → set (set xs at a) (at + 1) b ≡ sets xs at (a ∷ b ∷ [])
-two_stores a b at xs = rw (add-one at) refl
 
 length_numbers : (es : List Ends) → length (numbers es) ≡ 2 * length es
 length_numbers [] = refl

@@ -1,10 +1,11 @@
 -- The rows as numbers, row by row: twenty each. Assumes nothing.
-use Prim.Native.Nat.{ℕ, suc, ◌+◌, ◌*◌, ◌≤◌, ◌<◌}
+use Prim.Native.Nat.{ℕ, suc, ◌+◌, ◌-◌, ◌*◌, ◌≤◌, ◌<◌}
 use mathlib.Core.Path.{◌≡◌, refl, sym, ◌∙◌, ap, subst}
 use mathlib.Core.List.{List, [], ◌∷◌, ◌++◌}
 use native.Mathlib.Omega.{arith}
 use lib.ListN.{length, set, drop, length-append}
-use lib.Seq.{sets}
+use lib.Seq.{sets, sets-eq, drop-drop}
+use borrow.Rule.Slice.PartMut.{put_mid}
 use Rattle.laws.proofs.Lists.{sets_append}
 use Rattle.laws.proofs.Pieces.{Put, put_none, put_more, put_all, put_in_front}
 use Rattle.records.specs.declared.Ends.{Ends}
@@ -48,19 +49,16 @@ length_from h y (r ∷ rs) =
     rw length-append (omega (arith, length_at h z r.results, length_from h z rs))
 
 -- ---- how they are written
-pub three_stores : (a b d at : ℕ) (xs : List ℕ) → set (set (set xs at a) (at + 1) b) (at + 2) d ≡ sets xs at (a ∷ b ∷ d ∷ [])
-three_stores a b d at xs =
-    let one : at + 1 ≡ suc at = omega arith in
-    let two : at + 2 ≡ suc (suc at) = omega arith in
-    rw (one, two) refl
-
--- three numbers after three
-pub six_put : (v : ℕ) (s : Survival) (adds : Ends) (at : ℕ) (xs : List ℕ) {n : ℕ} {e : Ends} {ys zs : List ℕ} → e ≡ adds → ys ≡ sets xs at (v ∷ s.bottom ∷ s.top ∷ []) →
-    n ≡ mark_byte s.marks → zs ≡ sets ys (at + 3) (n ∷ e.lower ∷ e.upper ∷ []) → zs ≡ sets xs at (six_numbers v s adds)
+-- the six at a draught
+pub six_told : (v : ℕ) (s : Survival) (adds : Ends) {n : ℕ} {e : Ends} → e ≡ adds → n ≡ mark_byte s.marks → v ∷ s.bottom ∷ s.top ∷ n ∷ e.lower ∷ e.upper ∷ [] ≡ six_numbers v s adds
 unfolding six_numbers
-six_put v s adds at xs e p n q =
-    let three : at + 3 ≡ suc (suc (suc at)) = omega arith in
-    q ∙ rw (p, n, e, three) refl
+six_told v s adds p q = rw (p, q) refl
+
+pub six_copied : (at : ℕ) (xs : List ℕ) (v : ℕ) (s : Survival) (adds : Ends) {six : List ℕ} → at + 6 ≤ length xs → six ≡ six_numbers v s adds → put_mid at (at + 6 - at) xs six ≡ sets xs at (six_numbers v s adds)
+unfolding six_numbers
+six_copied at xs v s adds h e =
+    let k : at + 6 - at ≡ 6 = omega arith in
+    rw (k, e, drop-drop 6 at xs) (sym (sets-eq (six_numbers v s adds) xs at h))
 
 -- two, and six after six
 pub row_put : (share : Ends) (vs : List ℕ) (ss : List Survival) (at : ℕ) (xs : List ℕ) {ws bs cs ds : List ℕ} → ws ≡ sets xs at (share.lower ∷ share.upper ∷ []) →

@@ -14,10 +14,7 @@ pub fn put_required(h: Hull, out: &mut [u64])
 {
     let required = verdicts::required_of(h);
     let mark = verdicts::mark_of(h);
-    out[0] = required.num;
-    out[1] = required.den;
-    out[2] = mark.num;
-    out[3] = mark.den;
+    out[..4].copy_from_slice(&[required.num, required.den, mark.num, mark.den]);
 }
 
 // The two ends of a share.
@@ -25,8 +22,7 @@ pub fn put_ends(e: Ends, out: &mut [u64], at: usize)
     requires { at + 2 ≤ length out.old }
     ensures { out.new ≡ sets out.old at (e.lower ∷ e.upper ∷ []) }
 {
-    out[at] = e.lower;
-    out[at + 1] = e.upper;
+    out[at..at + 2].copy_from_slice(&[e.lower, e.upper]);
 }
 
 // The share of each group of zones down to half the breadth: of the groups of n zones from zone a, by a and then by n.

@@ -18,23 +18,20 @@ use rows::row::begin;
 
 pub mod hull; // what the hull alone decides
 
-fn put_three(first: u64, second: u64, third: u64, out: &mut [u64], at: usize)
-    requires { at + 3 ≤ length out.old }
-    ensures { out.new ≡ sets out.old at (first ∷ second ∷ third ∷ []) }
-{
-    out[at] = first;
-    out[at + 1] = second;
-    out[at + 2] = third;
-}
-
 // A row's six numbers at one draught, by its share, its v and its survival there.
 fn put_draught(share: Ends, v: u64, s: Survival, out: &mut [u64], at: usize)
     requires { Share share × Weights v s × (at + 6 ≤ length out.old) }
     ensures { out.new ≡ sets out.old at (six_numbers v s (adds_of share v s.bottom s.top)) }
 {
     let adds = sums::adds(share, v, s);
-    put_three(v, s.bottom, s.top, out, at);
-    put_three(mark_byte(s.marks), adds.lower, adds.upper, out, at + 3);
+    out[at..at + 6].copy_from_slice(&[
+        v,
+        s.bottom,
+        s.top,
+        mark_byte(s.marks),
+        adds.lower,
+        adds.upper,
+    ]);
 }
 
 // Its twenty, by its share, its v and its survival at each draught.

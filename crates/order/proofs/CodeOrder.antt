@@ -1,14 +1,14 @@
--- Order as the code tests it: a height against a sum that could wrap. Assumes nothing.
-use Prim.Native.Nat.{ℕ, ◌+◌, ◌-◌, ◌≤◌}
-use mathlib.Core.Path.{◌≡◌}
-use native.Mathlib.Omega.{arith}
-use lib.Dec.{leb}
-use borrow.Author.Tests.{le-leb, leb-true}
-use Rattle.laws.proofs.Tests.{same_test}
+-- Order as the code tests it: groups as pairs. Assumes nothing.
+use mathlib.Core.Path.{◌≡◌, refl}
+use mathlib.Core.Bool.{Bool, true, false, cond, ◌&&◌, ◌||◌}
+use Rattle.std.specs.Ordering.{is_lt, is_some_and, partial_ordering_then}
+use Rattle.std.proofs.Common.{Less, Equal, Greater, Some}
 
--- t is at or above d + k
-pub raised : (d k t : ℕ) → k ≤ t → leb d (t - k) ≡ leb (d + k) t
-raised d k t h =
-    same_test (leb d (t - k)) (leb (d + k) t)
-    (λ e. le-leb (d + k) t (omega (arith, leb-true d (t - k) e)))
-    (λ e. le-leb d (t - k) (omega (arith, leb-true (d + k) t e)))
+-- a pair is before another by its first number, or by its second where the first ones are equal
+pub pair_before : (less same then_less then_same : Bool) →
+    is_some_and is_lt (partial_ordering_then (Some (cond less Less (cond same Equal Greater))) (Some (cond then_less Less (cond then_same Equal Greater)))) ≡ (less || (same && then_less))
+pair_before true same u v = refl
+pair_before false true true v = refl
+pair_before false true false true = refl
+pair_before false true false false = refl
+pair_before false false u v = refl

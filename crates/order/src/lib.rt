@@ -6,14 +6,14 @@ ghost use Rattle.casefile.specs.Order.{at_top, closes_group, same_group, same_la
 
 use records::{Hull, RowHead};
 
-// At or above ds + 12,500: the top of its layer.
+// At or above ds + 12,500: the top of its layer. No height reaches a sum that does not fit.
 fn at_top(h: Hull, r: RowHead) -> bool
     ensures { result ≡ at_top h r }
 {
-    if r.height < 12500 {
+    let Some(top) = h.deepest.checked_add(12500) else {
         return false;
-    }
-    h.deepest <= r.height - 12500
+    };
+    top <= r.height
 }
 
 fn closes_group(h: Hull, r: RowHead) -> bool
@@ -25,7 +25,7 @@ fn closes_group(h: Hull, r: RowHead) -> bool
 fn same_group(before: RowHead, r: RowHead) -> bool
     ensures { result ≡ same_group before r }
 {
-    (r.first == before.first) & (r.count == before.count)
+    (r.first, r.count) == (before.first, before.count)
 }
 
 fn same_layer(before: RowHead, r: RowHead) -> bool
@@ -37,7 +37,7 @@ fn same_layer(before: RowHead, r: RowHead) -> bool
 fn earlier_group(before: RowHead, r: RowHead) -> bool
     ensures { result ≡ earlier_group before r }
 {
-    (r.first < before.first) | ((r.first == before.first) & (r.count < before.count))
+    (r.first, r.count) < (before.first, before.count)
 }
 
 // Refusal 8 is given where this holds.

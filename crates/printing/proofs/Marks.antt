@@ -1,11 +1,12 @@
 -- Marks and their byte, there and back; and a row's three, as they are written. Assumes nothing.
-use Prim.Native.Nat.{ℕ, ◌+◌, ◌<◌}
+use Prim.Native.Nat.{ℕ, ◌+◌, ◌*◌, ◌<◌}
 use mathlib.Core.Path.{◌≡◌, refl, ap}
 use mathlib.Core.Bool.{Bool, true, false, cond}
 use mathlib.Core.List.{List, [], ◌∷◌, ◌++◌}
 use native.Mathlib.Omega.{arith}
 use lib.Dec.{lit<}
 use lib.ListN.{length, length-append}
+use Rattle.std.specs.Int.{from_bool}
 use Rattle.laws.specs.Bytes.{bytes}
 use Rattle.laws.proofs.Bytes.{length_bytes}
 use Rattle.records.specs.declared.Marks.{Marks}
@@ -20,9 +21,17 @@ use Rattle.printing.proofs.Examples.{refusal_length}
 
 -- ---- one byte
 
-pub added_up : (m : Marks) {l r h o : ℕ} → l ≡ cond m.lever 1 0 → r ≡ cond m.range 2 0 → h ≡ cond m.heel 4 0 → o ≡ cond m.opening 8 0 → l + r + h + o ≡ mark_byte m
+weighed : (marked : Bool) (n : ℕ) → from_bool marked * n ≡ cond marked n 0
+weighed true n = omega arith
+weighed false n = omega arith
+
+alone : (marked : Bool) → from_bool marked ≡ cond marked 1 0
+alone true = refl
+alone false = refl
+
+pub added_up : (m : Marks) {l r h o : ℕ} → l ≡ from_bool m.lever → r ≡ from_bool m.range → h ≡ from_bool m.heel → o ≡ from_bool m.opening → l + r * 2 + h * 4 + o * 8 ≡ mark_byte m
 unfolding mark_byte
-added_up m p q s t = rw (p, q, s, t) refl
+added_up m p q s t = rw (p, q, s, t, weighed m.range 2, weighed m.heel 4, weighed m.opening 8, alone m.lever) refl
 
 by_name : (lever range heel opening : Bool) →
     let m : Marks = record { lever = lever; range = range; heel = heel; opening = opening } in (mark_byte m < 16) × (marks_by (mark_byte m) ≡ m)

@@ -8,7 +8,7 @@ ghost use Rattle.printing.specs.Marks.{mark_byte, marks_field};
 ghost use Rattle.printing.specs.Printed.{refusal_frame, figures_frame, row_frame};
 ghost use Rattle.printing.specs.Written.{count_in, written_in};
 
-use digits::{put_byte, put_ends, put_feed, put_low, put_partials, put_two};
+use digits::{put_bytes, put_ends, put_feed, put_low, put_partials};
 use records::{Answer, Ends, Marks, Survival};
 
 // A refusal's line, in front.
@@ -16,9 +16,9 @@ fn put_refusal(number: u64, line: u64, out: &mut [u8])
     requires { 9 ≤ length out.old }
     ensures { out.new ≡ splice 0 (line_of (refusal_frame number line)) out.old }
 {
-    put_byte(143, out, 0);
-    put_byte(number, out, 2);
-    put_two(line, out, 4);
+    put_bytes::<1>(143, out, 0);
+    put_bytes::<1>(number, out, 2);
+    put_bytes::<2>(line, out, 4);
     put_feed(out, 8);
 }
 
@@ -38,25 +38,18 @@ pub fn put_figures(a: Answer, out: &mut [u8])
     requires { 69 ≤ length out.old }
     ensures { out.new ≡ splice 0 (line_of (figures_frame a)) out.old }
 {
-    put_byte(129, out, 0);
-    put_byte(a.verdict, out, 2);
+    put_bytes::<1>(129, out, 0);
+    put_bytes::<1>(a.verdict, out, 2);
     put_ends(a.attained.lower, a.attained.upper, out, 4);
     put_partials(a.partials, out, 20);
     put_feed(out, 68);
-}
-
-// What a mark counts for.
-fn weight(marked: bool, n: u64) -> u64
-    ensures { (result ≡ cond marked n 0) × (result ≤ n) }
-{
-    if marked { n } else { 0 }
 }
 
 // The marks as a byte.
 pub fn mark_byte(m: Marks) -> u64
     ensures { result ≡ mark_byte m }
 {
-    weight(m.lever, 1) + weight(m.range, 2) + weight(m.heel, 4) + weight(m.opening, 8)
+    u64::from(m.lever) + u64::from(m.range) * 2 + u64::from(m.heel) * 4 + u64::from(m.opening) * 8
 }
 
 // The marks at the three draughts.
@@ -77,7 +70,7 @@ pub fn put_row(share: Ends, ss: [Survival; 3], out: &mut [u8], at: usize)
     requires { at + 25 ≤ length out.old }
     ensures { out.new ≡ splice at (line_of (row_frame (record { share = share; survivals = ss }))) out.old }
 {
-    put_byte(130, out, at);
+    put_bytes::<1>(130, out, at);
     put_ends(share.lower, share.upper, out, at + 2);
     put_marks(ss, out, at + 18);
     put_feed(out, at + 24);

@@ -3,4 +3,4 @@ use Rattle.digits.proofs.Fields.{ends_written}
 use Rattle.digits.proofs.put_ends.Goals as goal
 
 pub returns : goal.returns
-returns c = let args = c.args in ends_written args.at args.out.now args.lower args.upper c.put_four.ensures c.put_four-2.ensures
+returns c = let args = c.args in ends_written args.at args.out.now args.lower args.upper c.put_bytes.ensures c.put_bytes-2.ensures

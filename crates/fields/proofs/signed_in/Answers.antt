@@ -1,9 +1,16 @@
--- `signed_in` meets its contract: it is the field's number with its sign. Assumes nothing.
-use mathlib.Core.Path.{◌∙◌, ap}
-use mir.Syntax.{w64}
+-- `signed_in` meets its contract. Assumes nothing.
+use mathlib.Core.Path.{◌∙◌}
+use mir.Syntax.{w16, w64}
 use mir.ValLaws.{to_z-of_z}
-use Rattle.fields.specs.Fields.{signed}
+use Rattle.fields.specs.Fields.{word_at}
+use Rattle.fields.proofs.Signed.{as_read}
 use Rattle.fields.proofs.signed_in.Goals as goal
 
 pub returns : goal.returns
-returns c = to_z-of_z w64 c.with_sign.result (record { sfits = c.with_sign.type_inv }) ∙ c.with_sign.ensures ∙ ap signed c.word_in.ensures.value
+unfolding word_at
+returns c =
+    to_z-of_z w64 c.into.result (record { sfits = c.into.type_inv })
+    ∙ c.into.ensures
+    ∙ to_z-of_z w16 c.from_be_bytes.result (record { sfits = c.from_be_bytes.type_inv })
+    ∙ c.from_be_bytes.ensures
+    ∙ as_read _

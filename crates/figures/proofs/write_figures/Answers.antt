@@ -1,7 +1,13 @@
--- `figures::write_figures` meets its contract: six times two figures are the twelve. Assumes nothing.
-use Rattle.figures.proofs.Written.{figures_written}
+-- `figures::write_figures` meets its contract: the twelve are copied to the front. Assumes nothing.
+use mathlib.Core.Path.{ap}
+use mathlib.Core.List.{◌++◌}
+use lib.ListN.{drop}
+use Rattle.printing.specs.ReadBack.{ends_of}
+use Rattle.figures.specs.Figures.{figures_of, figures_in}
+-- checked first, so that a definition that gives other figures is refused there
+use Rattle.figures.proofs.Examples.{rest_stays}
 use Rattle.figures.proofs.write_figures.Goals as goal
 
 pub returns : goal.returns
-returns c =
-    figures_written c.args.a c.args.figures.now c.put_two.ensures c.put_two-2.ensures c.put_two-3.ensures c.put_two-4.ensures c.put_two-5.ensures c.put_two-6.ensures c.requires
+unfolding figures_in figures_of ends_of
+returns c = ap (◌++ drop 12 c.args.figures.now) c.copy_from_slice.ensures.after

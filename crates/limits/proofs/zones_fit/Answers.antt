@@ -1,13 +1,14 @@
 -- `zones_fit` meets its contract. Assumes nothing.
-use Rattle.limits.proofs.CodeLimits.{no_zones, too_many_zones, zones_by_places}
-use native.Mathlib.Omega.{arith}
+use mathlib.Core.Path.{sym, ◌∙◌}
+use Rattle.limits.proofs.CodeLimits.{within, zones_outside, zones_by_places}
 use Rattle.limits.proofs.zones_fit.Goals as goal
 
-pub returns-then-m-lt1 : goal.returns-then-m-lt1
-returns-then-m-lt1 c = no_zones _ (omega arith)
-
-pub returns-then-m-gt20 : goal.returns-then-m-gt20
-returns-then-m-gt20 c = too_many_zones _ (omega arith) (omega arith)
+pub returns-then-not-contains : goal.returns-then-not-contains
+returns-then-not-contains c =
+    let e = rw (c.new.ensures.start, c.new.ensures.end, c.new.ensures.exhausted) at c.contains.ensures.value ∙ within 1 20 c.args.h.zones in
+    zones_outside _ (sym e ∙ c.if-not-contains.true)
 
 pub returns : goal.returns
-returns c = zones_by_places c.args.h _ (omega arith) (omega arith) c.is_rising.ensures
+returns c =
+    let e = rw (c.new.ensures.start, c.new.ensures.end, c.new.ensures.exhausted) at c.contains.ensures.value ∙ within 1 20 c.args.h.zones in
+    zones_by_places c.args.h _ (sym e ∙ c.if-not-contains.false) c.is_rising.ensures

@@ -1,7 +1,9 @@
 -- `listing::put_draught` meets its contract. Assumes nothing.
-use Rattle.listing.proofs.InNumbers.{six_put}
+use mathlib.Core.Path.{◌∙◌}
+use Rattle.listing.proofs.InNumbers.{six_told, six_copied}
 use Rattle.listing.proofs.put_draught.Goals as goal
 
 pub returns : goal.returns
 returns c =
-    six_put c.args.v c.args.s _ c.args.at c.args.out.now c.adds-adds.ensures c.put_three.ensures c.mark_byte.ensures c.put_three-2.ensures
+    let a = c.args in
+    six_copied a.at a.out.now a.v a.s _ c.requires.1.1 (c.copy_from_slice.ensures.after ∙ six_told a.v a.s _ c.adds-adds.ensures c.mark_byte.ensures)

@@ -1,8 +1,7 @@
 -- `same_group` meets its contract. Assumes nothing.
-use mathlib.Core.Path.{refl}
 use Rattle.casefile.specs.Order.{same_group}
 use Rattle.order.proofs.same_group.Goals as goal
 
 pub returns : goal.returns
 unfolding same_group
-returns c = refl
+returns c = c.eq.ensures

@@ -5,4 +5,4 @@ use Rattle.printing.proofs.put_figures.Goals as goal
 pub returns : goal.returns
 returns c =
     let args = c.args in
-    figures_written args.a args.out.now c.put_byte.ensures c.put_byte-2.ensures c.put_ends.ensures c.put_partials.ensures c.put_feed.ensures
+    figures_written args.a args.out.now c.put_bytes.ensures c.put_bytes-2.ensures c.put_ends.ensures c.put_partials.ensures c.put_feed.ensures

@@ -5,4 +5,4 @@ use Rattle.printing.proofs.put_refusal.Goals as goal
 pub returns : goal.returns
 returns c =
     let args = c.args in
-    refusal_written args.number args.line args.out.now c.put_byte.ensures c.put_byte-2.ensures c.put_two.ensures c.put_feed.ensures
+    refusal_written args.number args.line args.out.now c.put_bytes.ensures c.put_bytes-2.ensures c.put_bytes-3.ensures c.put_feed.ensures

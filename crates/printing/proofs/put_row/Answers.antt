@@ -5,4 +5,4 @@ use Rattle.printing.proofs.put_row.Goals as goal
 pub returns : goal.returns
 returns c =
     let args = c.args in
-    row_written (record { share = args.share; survivals = args.ss }) args.at args.out.now c.put_byte.ensures c.put_ends.ensures c.put_marks.ensures c.put_feed.ensures
+    row_written (record { share = args.share; survivals = args.ss }) args.at args.out.now c.put_bytes.ensures c.put_ends.ensures c.put_marks.ensures c.put_feed.ensures

@@ -8,7 +8,7 @@ use native.Mathlib.Omega.{arith}
 use lib.Dec.{eqb, ltb, leb-suc-suc}
 use lib.ListN.{length, get_or, take, drop, length-drop, length-append, drop_of_length-le}
 use lib.Seq.{drop-cons, drop-drop, take_all, take_at, drop_at}
-use borrow.Author.Tests.{eq-eqb, ne_eqb, lt-ltb, ltb-true, eqb-true}
+use borrow.Author.Tests.{eq-eqb, ne_eqb, lt-ltb, le-ltb, ltb-true, eqb-true}
 use Rattle.std.specs.Option.{unwrap_or}
 use Rattle.std.specs.List.{AllWithin, HoldsAt}
 use Rattle.std.proofs.Common.{Option, MatchOption}
@@ -192,3 +192,32 @@ pub lines_closed : (s f : List ℕ) → NoFeed s → lines (s ++ 10 ∷ f) ≡ r
 unfolding lines
 lines_closed [] f n = refl
 lines_closed (b ∷ s) f n = rw (ne_eqb b 10 n.0, lines_closed s f n.1) refl
+
+-- ---- the first line of a text, cut off
+
+module _ (f : List ℕ) (end : ℕ) (e : end ≡ 0 + line_length (drop 0 f)) (some : 0 < length f) where
+  first_cut : lines f ≡ record { text = take end f; closed = ltb end (length f) } ∷ lines (drop (suc end) f)
+  first_cut = let n : line_length f ≡ end = omega (arith, e) in first_of f some ∙ rw n refl
+
+  module _ {text after : List ℕ} (t : text ≡ take end f) (a : after ≡ drop end f) where
+    left : length after ≡ length f - end
+    left = ap length a ∙ length-drop end f
+
+    -- where a byte stands after its text, that is its line feed
+    pub cut_closed : (x : ℕ) (rest : List ℕ) → after ≡ x ∷ rest → lines f ≡ record { text = text; closed = true } ∷ lines rest
+    cut_closed x rest i =
+        let l : end < length f = omega (arith, left, ap length i) in
+        let others : drop (suc end) f ≡ rest = rw add-one at (sym (drop-drop 1 end f)) ∙ ap (drop 1) (sym a ∙ i) in
+        first_cut ∙ rw (lt-ltb end (length f) l, others, t) refl
+
+    -- where none does, nothing is left
+    pub cut_open : length after ≡ 0 → lines f ≡ record { text = text; closed = false } ∷ lines after
+    cut_open i =
+        let l : length f ≤ end = omega (arith, left, i) in
+        let none : lines (drop (suc end) f) ≡ [] = lines_end f (suc end) (omega (arith, l)) in
+        let nothing : lines after ≡ [] = lines_end after 0 (omega (arith, i)) in
+        first_cut ∙ rw (le-ltb end (length f) l, none, nothing, t) refl
+
+-- one line fewer is left
+pub one_fewer : (f g : List ℕ) (l : Line) → lines f ≡ l ∷ lines g → length (lines g) < length (lines f)
+one_fewer f g l e = omega (arith, ap length e)

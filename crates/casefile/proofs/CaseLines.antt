@@ -9,8 +9,7 @@ use lib.ListN.{length}
 use Rattle.records.specs.declared.Hull.{Hull}
 use Rattle.lines.specs.Lines.{Line, lines}
 use Rattle.hexadecimal.specs.Hex.{pairs}
-use Rattle.casefile.specs.declared.FirstLine.{FirstLine}
-use Rattle.casefile.specs.declared.Frame.{Frame}
+use Rattle.casefile.specs.Judged.{Frame, FirstLine}
 use Rattle.casefile.specs.declared.Progress.{Progress}
 use Rattle.casefile.specs.Record.{Row, Case}
 use Rattle.casefile.specs.Layout.{kind_of, fields_of, is_row, hull_of, row_of, count_of}

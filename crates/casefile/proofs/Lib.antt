@@ -4,6 +4,7 @@ pub mod PassengerExamples
 pub mod Checks
 pub mod Steps
 pub mod LineJudging
+pub mod Told
 pub mod Limits
 pub mod Order
 pub mod Words

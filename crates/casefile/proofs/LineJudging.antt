@@ -13,7 +13,7 @@ use Rattle.hexadecimal.specs.Hex.{pairs}
 use Rattle.hexadecimal.proofs.Pairs.{pairs_octets}
 use Rattle.fields.specs.Fields.{byte_at, word_at}
 use Rattle.fields.proofs.Fields.{octets_drop}
-use Rattle.casefile.specs.declared.Frame.{Frame}
+use Rattle.casefile.specs.Judged.{Frame}
 use Rattle.casefile.specs.declared.Progress.{Progress}
 use Rattle.casefile.specs.Layout.{kind_of, fields_of, is_row, persons_length, zones_at, hull_of, head_of, results_of, row_of, count_of, persons_of, rule_of, hull_values}
 use Rattle.casefile.specs.Table.{first_holds, hull_checks, line_checks}

@@ -11,7 +11,7 @@ use Rattle.records.specs.declared.Hull.{Hull}
 use Rattle.records.specs.declared.RowHead.{RowHead}
 use Rattle.lines.specs.Lines.{Line, lines}
 use Rattle.hexadecimal.specs.Hex.{pairs}
-use Rattle.casefile.specs.declared.Frame.{Frame}
+use Rattle.casefile.specs.Judged.{Frame}
 use Rattle.casefile.specs.declared.Progress.{Progress}
 use Rattle.casefile.specs.Record.{Row}
 use Rattle.casefile.specs.Layout.{kind_of, is_row, row_of, count_of}

@@ -6,10 +6,8 @@ use Rattle.records.specs.Results.{Results, found}
 use Rattle.lines.specs.Lines.{Line}
 use Rattle.hexadecimal.specs.Hex.{pairs}
 use Rattle.fields.specs.Fields.{byte_at, word_at, long_at}
-use Rattle.casefile.specs.declared.FirstLine.{FirstLine}
-use Rattle.casefile.specs.declared.Frame.{Frame}
+use Rattle.casefile.specs.Judged.{Frame, FirstLine, Judgement}
 use Rattle.casefile.specs.declared.Progress.{Progress}
-use Rattle.casefile.specs.declared.Judgement.{Judgement}
 use Rattle.casefile.specs.Layout.{kind_of, fields_of, is_row, hull_of, results_of, row_of, count_of, result_numbers, hull_values}
 use Rattle.casefile.specs.Table.{first_holds, hull_checks, line_checks}
 use Rattle.casefile.specs.Reading.{Reading, refused, accepted, Stage, begin, inside}

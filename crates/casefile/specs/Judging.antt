@@ -2,11 +2,8 @@
 use Rattle.std.specs.Prelude.{ℕ, ◌+◌, Bool, false, cond, not, ◌||◌, ◌&&◌, List, [], ◌∷◌, eqb}
 use Rattle.records.specs.declared.Hull.{Hull}
 use Rattle.records.specs.declared.RowHead.{RowHead}
-use Rattle.casefile.specs.declared.FirstLine.{FirstLine}
-use Rattle.casefile.specs.declared.Frame.{Frame}
+use Rattle.casefile.specs.Judged.{Frame, FirstLine, Step, Judgement}
 use Rattle.casefile.specs.declared.Progress.{Progress}
-use Rattle.casefile.specs.declared.Judgement.{Judgement}
-use Rattle.casefile.specs.declared.Step.{Step}
 use Rattle.casefile.specs.Record.{Row}
 use Rattle.casefile.specs.Layout.{kind_of, is_row, hull_length, row_of, count_of}
 use Rattle.casefile.specs.Limits.{sizes_fit, persons_fit, zones_fit, head_fits}

@@ -4,11 +4,13 @@ pub mod Limits
 pub mod Order
 pub mod Table
 pub mod Reading
+pub mod Judged
 pub mod Encode
 pub mod Valid
 pub mod Answer
 pub mod Acceptance
 pub mod Refusal
 pub mod Judging
+pub mod Told
 pub mod Kept
 pub mod Groups

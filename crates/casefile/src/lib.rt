@@ -1,6 +1,9 @@
 // Theorems only: the case file is in specs/, what is proved of it in proofs/. The values that its judging hands on stand here.
 #![tactic(auto)]
 
+ghost use Rattle.std.specs.Prelude.{◌≡◌};
+ghost use Rattle.casefile.specs.Told.{number_of_fault};
+
 use records::{Hull, RowHead};
 
 // An input has at most so many bytes.
@@ -11,21 +14,57 @@ pub const PLACE_WIDTH: usize = 76;
 
 pub const KEPT: usize = 501 * PLACE_WIDTH;
 
-// What a line is: a hull, a row by its head, the end with its count, or a refusal's number. A hull's places and a row's results are arrays, and stand
-// beside it.
-#[derive(Clone, Copy)]
-pub enum Frame {
-    Hull,
-    Row(RowHead),
-    End(u64),
-    Wrong(u64),
+// A refusal of document 01's table, and of document 02's of persons.
+#[derive(Clone, Copy, Debug, PartialEq, Eq)]
+pub enum Fault {
+    TooLong,
+    BadlyWritten,
+    WrongFrame,
+    Sizes,
+    Zones,
+    Count,
+    Limits,
+    OutOfOrder,
+    LeftOpen,
+    NoEnd,
+    ShortSheet,
+    PersonsBand,
 }
 
-// What line 1 is, and beside it the hull that it gives: zeros where it is refused.
+impl From<Fault> for u64 {
+    ghost from_gives = { λ f n. n ≡ number_of_fault f };
+
+    // Its number in the table.
+    fn from(fault: Fault) -> u64 {
+        match fault {
+            Fault::TooLong => 1,
+            Fault::BadlyWritten => 2,
+            Fault::WrongFrame => 3,
+            Fault::Sizes => 4,
+            Fault::Zones => 5,
+            Fault::Count => 6,
+            Fault::Limits => 7,
+            Fault::OutOfOrder => 8,
+            Fault::LeftOpen => 9,
+            Fault::NoEnd => 10,
+            Fault::ShortSheet => 11,
+            Fault::PersonsBand => 13,
+        }
+    }
+}
+
+// Why a file is refused, and the line where: 0 where no line is at fault.
+#[derive(Clone, Copy, Debug, PartialEq, Eq)]
+pub struct Refused {
+    pub fault: Fault,
+    pub line: u64,
+}
+
+// What a line after the hull is: a row by its head, or the end with its count. A row's results are arrays, and stand beside it.
 #[derive(Clone, Copy)]
-pub struct FirstLine {
-    pub frame: Frame,
-    pub hull: Hull,
+pub enum Frame {
+    Row(RowHead),
+    End(u64),
 }
 
 // What is known after some lines: how many rows they held, the head of the last (kind 0: none yet), and whether the end was read.
@@ -36,18 +75,9 @@ pub struct Progress {
     pub ended: bool,
 }
 
-// What is known after a line, or the refusal's number and line.
+// What an accepted file says: the row count and the hull.
 #[derive(Clone, Copy)]
-pub enum Step {
-    Next(Progress),
-    Refused(u64, u64),
-}
-
-// What a file's reading says: at a refusal its number and line, and zeros; else the row count and the hull.
-#[derive(Clone, Copy)]
-pub struct Judgement {
-    pub number: u64,
-    pub line: u64,
+pub struct Accepted {
     pub rows: u64,
     pub hull: Hull,
 }

@@ -14,7 +14,8 @@ use Rattle.hexadecimal.specs.Hex.{digit_of, refusal_of, mark_of, pairs, byte_of,
 use Rattle.hexadecimal.proofs.Marks.{mark_tells, mark_counts}
 use Rattle.hexadecimal.proofs.Pairs.{proper_parts, length_pairs, pairs_some}
 use Rattle.hexadecimal.proofs.Decode.{length_bytes_of, byte_there, bytes_pairs, digits_taken, digits_joined, proper_by_parts}
-use Rattle.frames.specs.declared.Written.TheVariants.{Bytes, Badly}
+use Rattle.std.specs.Prelude.{Some, None}
+use Rattle.std.proofs.lemmas.Option.{none-some, cond_some}
 use Rattle.frames.specs.Decoding.{mark_at, written_of}
 
 -- ---- i pairs are read, and their bytes stand at the front of out, which came as was
@@ -132,39 +133,35 @@ module _ (text was out : List ℕ) (bad : Bool) (i : ℕ) (p : Decoding text was
 
 -- the answer by the four tests
 module _ (text : List ℕ) (k : ℕ) {f r : Bool} (front : f ≡ not (digits_only (take k text))) (rest : r ≡ not (digits_only (drop k text))) where
-  pub told_badly : (f || r || eqb (length text % 2) 1 || eqb (length text / 2) 0) ≡ true → Badly ≡ written_of text
+  pub told_badly : (f || r || eqb (length text % 2) 1 || eqb (length text / 2) 0) ≡ true → None ≡ written_of text
   unfolding written_of
   told_badly t = rw (proper_by_parts text k, rw (front, rest) at t) refl
 
-  pub told_bytes : (f || r || eqb (length text % 2) 1 || eqb (length text / 2) 0) ≡ false → Bytes (length text / 2) ≡ written_of text
+  pub told_bytes : (f || r || eqb (length text % 2) 1 || eqb (length text / 2) 0) ≡ false → Some (length text / 2) ≡ written_of text
   unfolding written_of
   told_bytes t = rw (proper_by_parts text k, rw (front, rest) at t) refl
 
 -- ---- what a caller has of the answer and of the buffer
 
 module _ (text : List ℕ) where
-  bytes_case : (t : Bool) (n : ℕ) → proper text ≡ t → cond t (Bytes (length text / 2)) Badly ≡ Bytes n → (proper text ≡ true) × (n ≡ length (pairs text))
-  bytes_case true n e f = let k : length text / 2 ≡ n = cc in (e, omega (arith, length_pairs text e))
-  bytes_case false n e f = let z : ◌≡◌ {A = ℕ} 0 1 = cc in absurd (omega arith)
-
-  pub well_written : (n : ℕ) → written_of text ≡ Bytes n → (proper text ≡ true) × (n ≡ length (pairs text))
+  pub well_written : (n : ℕ) → written_of text ≡ Some n → (proper text ≡ true) × (n ≡ length (pairs text))
   unfolding written_of
-  well_written n e = bytes_case (proper text) n refl e
+  well_written n e = let (t, k) = cond_some (proper text) (length text / 2) n e in (t, omega (arith, k, length_pairs text t))
 
-  badly_case : (t : Bool) → cond t (Bytes (length text / 2)) Badly ≡ Badly → t ≡ false
-  badly_case true f = let z : ◌≡◌ {A = ℕ} 0 1 = cc in absurd (omega arith)
+  badly_case : (t : Bool) → cond t (Some (length text / 2)) None ≡ None → t ≡ false
+  badly_case true f = absurd (none-some (length text / 2) (sym f))
   badly_case false f = refl
 
-  pub badly_written_lem : written_of text ≡ Badly → proper text ≡ false
+  pub badly_written_lem : written_of text ≡ None → proper text ≡ false
   unfolding written_of
   badly_written_lem e = badly_case (proper text) e
 
 -- what is well written is stored pair by pair
-pub stored : (text was : List ℕ) {out : List ℕ} (n : ℕ) → written_of text ≡ Bytes n → out ≡ sets was 0 (bytes_of text) → out ≡ sets was 0 (pairs text)
+pub stored : (text was : List ℕ) {out : List ℕ} (n : ℕ) → written_of text ≡ Some n → out ≡ sets was 0 (bytes_of text) → out ≡ sets was 0 (pairs text)
 stored text was n w e = e ∙ ap (sets was 0) (bytes_pairs text (proper_parts text (well_written text n w).0).2)
 
 -- a buffer that is long enough has the bytes at its front
-module _ (text was out : List ℕ) (n : ℕ) (w : written_of text ≡ Bytes n) (e : out ≡ sets was 0 (bytes_of text)) (h : n ≤ length was) where
+module _ (text was out : List ℕ) (n : ℕ) (w : written_of text ≡ Some n) (e : out ≡ sets was 0 (bytes_of text)) (h : n ≤ length was) where
   pub front_decoded : take n out ≡ pairs text
   front_decoded =
       let count : n ≡ length (pairs text) = (well_written text n w).1 in
@@ -173,7 +170,7 @@ module _ (text was out : List ℕ) (n : ℕ) (w : written_of text ≡ Bytes n) (
   pub front_long : n ≡ length (take n out)
   front_long = (well_written text n w).1 ∙ sym (ap length front_decoded)
 
-pub some_bytes : (text : List ℕ) (n : ℕ) → written_of text ≡ Bytes n → 0 < n
+pub some_bytes : (text : List ℕ) (n : ℕ) → written_of text ≡ Some n → 0 < n
 some_bytes text n w = let (e, k) = well_written text n w in omega (arith, pairs_some text e)
 
 sets_beyond : (w : ℕ) (was bs : List ℕ) (i : ℕ) → sets (w ∷ was) (suc i) bs ≡ w ∷ sets was i bs

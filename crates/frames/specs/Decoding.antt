@@ -1,9 +1,7 @@
 -- What the code says of a line's text: the bytes that it writes, or refusal 2. Assumes nothing.
-use Rattle.std.specs.Prelude.{ℕ, zero, suc, ◌/◌, ◌≡◌, Bool, true, false, cond, ◌||◌, List, eqb, length, get_or}
+use Rattle.std.specs.Prelude.{ℕ, zero, suc, ◌/◌, ◌≡◌, Bool, true, false, cond, ◌||◌, List, eqb, length, get_or, Option, Some, None}
 use Rattle.lines.specs.Lines.{Line}
 use Rattle.hexadecimal.specs.Hex.{digit_of, mark_of, pairs, proper, badly_written}
-use Rattle.frames.specs.declared.Written.{Written}
-use Rattle.frames.specs.declared.Written.TheVariants.{Bytes, Badly}
 
 -- the mark of a line's byte at a place
 abbrev pub mark_at : List ℕ → ℕ → ℕ
@@ -14,19 +12,19 @@ unfoldable pub other_below : List ℕ → ℕ → Bool
 other_below marks zero = false
 other_below marks (suc k) = other_below marks k || eqb (get_or marks k 0) 16
 
--- two digits a byte
-unfoldable pub written_of : List ℕ → Written
-written_of text = cond (proper text) (Bytes (length text / 2)) Badly
+-- two digits a byte; none where it is badly written
+unfoldable pub written_of : List ℕ → Option ℕ
+written_of text = cond (proper text) (Some (length text / 2)) None
 
 -- the refusal's number, 0 where the text is well written
-abbrev pub written_number : Written → ℕ
-written_number (Bytes n) = 0
-written_number Badly = 2
+abbrev pub written_number : Option ℕ → ℕ
+written_number (Some n) = 0
+written_number None = 2
 
 -- how many bytes it writes, none where it is badly written
-abbrev pub written_count : Written → ℕ
-written_count (Bytes n) = n
-written_count Badly = 0
+abbrev pub written_count : Option ℕ → ℕ
+written_count (Some n) = n
+written_count None = 0
 
 -- of a line that is closed: 2 exactly where the table has it, and else as many bytes as the line's digits come to
 pub record Numbered (l : Line) : Type 0 where

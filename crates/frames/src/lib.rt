@@ -9,13 +9,6 @@ ghost use Rattle.frames.specs.Decoding.{mark_at, other_below, written_of};
 
 use hexadecimal::value_of;
 
-// What a line's text is: as many bytes as it has pairs of digits, or badly written.
-#[derive(Clone, Copy)]
-pub enum Written {
-    Bytes(usize),
-    Badly,
-}
-
 // The values of the 32 bytes from a place on: in an array of their own, so that no store can touch them.
 fn values(text: &[u8], at: usize) -> [u8; 32]
     requires { at + 32 ≤ length text.now }
@@ -117,8 +110,8 @@ fn other_from(text: &[u8], at: usize) -> bool
     bad
 }
 
-// Judges all of a line's text, and writes its bytes to the front of the buffer, as many as go in.
-pub fn decode_text(text: &[u8], out: &mut [u8]) -> Written
+// Judges all of a line's text, and writes its bytes to the front of the buffer, as many as go in: how many it has, or none where it is badly written.
+pub fn decode_text(text: &[u8], out: &mut [u8]) -> Option<usize>
     ensures result { result ≡ written_of text.now }
     ensures buffer { out.new ≡ sets out.old 0 (bytes_of text.now) }
 {
@@ -127,7 +120,7 @@ pub fn decode_text(text: &[u8], out: &mut [u8]) -> Written
     let front = decode_pairs(text, out, m);
     let rest = other_from(text, m * 2);
     if front | rest | (text.len() % 2 == 1) | (n == 0) {
-        return Written::Badly;
+        return None;
     }
-    Written::Bytes(n)
+    Some(n)
 }

@@ -6,8 +6,7 @@ use native.Mathlib.Omega.{arith}
 use lib.Dec.{leb, eqb}
 use borrow.Author.Tests.{leb-true, le-leb, lt-leb, ne_eqb}
 use Rattle.laws.proofs.Tests.{both}
-use Rattle.hexadecimal.specs.declared.Digit.{Digit}
-use Rattle.hexadecimal.specs.declared.Digit.TheVariants.{Value, Bad}
+use Rattle.std.specs.Prelude.{Option, Some, None}
 use Rattle.hexadecimal.specs.Hex.{digit_of, refusal_of, value_of, mark_of}
 use Rattle.hexadecimal.proofs.Hex.{digit_below}
 
@@ -46,9 +45,9 @@ module _ (b : ℕ) {d l : ℕ} (e : d ≡ cond (leb 48 b && leb b 57) (b - 48) 1
 
 -- what is no digit has a mark of its own, which counts as 0 in a byte
 module _ (b m : ℕ) (e : m ≡ mark_of (digit_of b)) where
-  by_digit : (d : Digit) → ((v : ℕ) → d ≡ Value v → v < 16) → m ≡ mark_of d → (eqb m 16 ≡ not (eqb (refusal_of d) 0)) × (m % 16 ≡ value_of d)
-  by_digit (Value v) below f = let h : v < 16 = below v refl in (ne_eqb m 16 (λ g. omega arith), omega arith)
-  by_digit Bad below f = rw f (refl, refl)
+  by_digit : (d : Option ℕ) → ((v : ℕ) → d ≡ Some v → v < 16) → m ≡ mark_of d → (eqb m 16 ≡ not (eqb (refusal_of d) 0)) × (m % 16 ≡ value_of d)
+  by_digit (Some v) below f = let h : v < 16 = below v refl in (ne_eqb m 16 (λ g. omega arith), omega arith)
+  by_digit None below f = rw f (refl, refl)
 
   pub mark_tells : eqb m 16 ≡ not (eqb (refusal_of (digit_of b)) 0)
   mark_tells = (by_digit (digit_of b) (digit_below b) e).0

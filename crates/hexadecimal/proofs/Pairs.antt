@@ -12,8 +12,7 @@ use Rattle.laws.proofs.Bytes.{octets_cons, octets_rest}
 use Rattle.laws.proofs.Tests.{both}
 use Rattle.lines.specs.Lines.{lines}
 use Rattle.lines.proofs.Lines.{NoFeed, lines_closed}
-use Rattle.hexadecimal.specs.declared.Digit.{Digit}
-use Rattle.hexadecimal.specs.declared.Digit.TheVariants.{Value, Bad}
+use Rattle.std.specs.Prelude.{Option, Some, None}
 use Rattle.hexadecimal.specs.Hex.{digit_of, refusal_of, pair_of, before, pairs, digits_only, proper, hex, line_of}
 use Rattle.hexadecimal.proofs.Hex.{value_of_digit, digit_no_feed, pair_below, pair_again, pair_of_digits}
 
@@ -55,9 +54,9 @@ line_in_front frame text o = ap lines (append_assoc (hex frame) (10 ∷ []) text
 
 -- ---- digits to bytes
 
-front_octets : (d : Digit) (bs : List ℕ) → ((x : ℕ) → d ≡ Value x → x < 256) → Octets bs → Octets (before d bs)
-front_octets (Value x) bs h o = octets_cons x bs (h x refl) o
-front_octets Bad bs h o = λ i. lit< tt
+front_octets : (d : Option ℕ) (bs : List ℕ) → ((x : ℕ) → d ≡ Some x → x < 256) → Octets bs → Octets (before d bs)
+front_octets (Some x) bs h o = octets_cons x bs (h x refl) o
+front_octets None bs h o = λ i. lit< tt
 
 pub pairs_octets : (s : List ℕ) → Octets (pairs s)
 unfolding pairs
@@ -65,11 +64,11 @@ pairs_octets [] = λ i. lit< tt
 pairs_octets (a ∷ []) = λ i. lit< tt
 pairs_octets (a ∷ b ∷ s) = front_octets (pair_of a b) (pairs s) (pair_below a b) (pairs_octets s)
 
-value_is : (d : Digit) → eqb (refusal_of d) 0 ≡ true → (v : ℕ) × (d ≡ Value v)
-value_is (Value v) e = (v, refl)
-value_is Bad e = absurd (false≢true e)
+value_is : (d : Option ℕ) → eqb (refusal_of d) 0 ≡ true → (v : ℕ) × (d ≡ Some v)
+value_is (Some v) e = (v, refl)
+value_is None e = absurd (false≢true e)
 
-first_digit : (b : ℕ) (s : List ℕ) → digits_only (b ∷ s) ≡ true → (v : ℕ) × (digit_of b ≡ Value v) × (digits_only s ≡ true)
+first_digit : (b : ℕ) (s : List ℕ) → digits_only (b ∷ s) ≡ true → (v : ℕ) × (digit_of b ≡ Some v) × (digits_only s ≡ true)
 unfolding digits_only
 first_digit b s e =
     let (d, r) = both (eqb (refusal_of (digit_of b)) 0) (digits_only s) e in
@@ -77,7 +76,7 @@ first_digit b s e =
     (v, p, r)
 
 -- two digits in front write a byte
-pub first_pair : (a b : ℕ) (s : List ℕ) → digits_only (a ∷ b ∷ s) ≡ true → (x : ℕ) × (pair_of a b ≡ Value x) × (digits_only s ≡ true)
+pub first_pair : (a b : ℕ) (s : List ℕ) → digits_only (a ∷ b ∷ s) ≡ true → (x : ℕ) × (pair_of a b ≡ Some x) × (digits_only s ≡ true)
 unfolding pair_of
 first_pair a b s e =
     let (h, p, r) = first_digit a (b ∷ s) e in

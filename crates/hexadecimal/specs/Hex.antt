@@ -1,40 +1,38 @@
 -- Document 01, "The case file": lower-case hexadecimal, two digits a byte, the high one first. Assumes nothing.
-use Rattle.std.specs.Prelude.{ℕ, ◌+◌, ◌-◌, ◌*◌, ◌/◌, ◌%◌, Bool, true, cond, not, ◌&&◌, ◌||◌, List, [], ◌∷◌, ◌++◌, length, leb, ltb, eqb}
+use Rattle.std.specs.Prelude.{ℕ, ◌+◌, ◌-◌, ◌*◌, ◌/◌, ◌%◌, Bool, true, cond, not, ◌&&◌, ◌||◌, List, [], ◌∷◌, ◌++◌, length, leb, ltb, eqb, Option, Some, None}
 use Rattle.lines.specs.Lines.{Line}
-use Rattle.hexadecimal.specs.declared.Digit.{Digit}
-use Rattle.hexadecimal.specs.declared.Digit.TheVariants.{Value, Bad}
 
 -- 0-9 are the bytes 48 to 57, a-f the bytes 97 to 102
-unfoldable pub digit_of : ℕ → Digit
-digit_of b = cond (leb 48 b && leb b 57) (Value (b - 48)) (cond (leb 97 b && leb b 102) (Value (b - 87)) Bad)
+unfoldable pub digit_of : ℕ → Option ℕ
+digit_of b = cond (leb 48 b && leb b 57) (Some (b - 48)) (cond (leb 97 b && leb b 102) (Some (b - 87)) None)
 
 -- a byte that is no digit is refusal 2
-abbrev pub refusal_of : Digit → ℕ
-refusal_of (Value v) = 0
-refusal_of Bad = 2
+abbrev pub refusal_of : Option ℕ → ℕ
+refusal_of (Some v) = 0
+refusal_of None = 2
 
-abbrev pub value_of : Digit → ℕ
-value_of (Value v) = v
-value_of Bad = 0
+abbrev pub value_of : Option ℕ → ℕ
+value_of (Some v) = v
+value_of None = 0
 
 -- the value of a digit, and for what is none a number that no digit has
-abbrev pub mark_of : Digit → ℕ
-mark_of (Value v) = v
-mark_of Bad = 16
+abbrev pub mark_of : Option ℕ → ℕ
+mark_of (Some v) = v
+mark_of None = 16
 
-abbrev pub joined : Digit → Digit → Digit
-joined (Value h) (Value l) = Value (h * 16 + l)
-joined (Value h) Bad = Bad
-joined Bad d = Bad
+abbrev pub joined : Option ℕ → Option ℕ → Option ℕ
+joined (Some h) (Some l) = Some (h * 16 + l)
+joined (Some h) None = None
+joined None d = None
 
 -- the byte that two digits write
-unfoldable pub pair_of : ℕ → ℕ → Digit
+unfoldable pub pair_of : ℕ → ℕ → Option ℕ
 pair_of a b = joined (digit_of a) (digit_of b)
 
 -- a pair that is none ends the list
-abbrev pub before : Digit → List ℕ → List ℕ
-before (Value x) rest = x ∷ rest
-before Bad rest = []
+abbrev pub before : Option ℕ → List ℕ → List ℕ
+before (Some x) rest = x ∷ rest
+before None rest = []
 
 -- the bytes of a line's pairs of digits, up to the first that is none
 unfoldable pub pairs : List ℕ → List ℕ

@@ -4,13 +4,6 @@
 ghost use Rattle.std.specs.Prelude.{◌≡◌, cond, ◌&&◌, ◌-◌, leb};
 ghost use Rattle.hexadecimal.specs.Hex.{digit_of, mark_of};
 
-// What a byte is as a digit, or two bytes as a pair of digits: the value that they write, or none.
-#[derive(Clone, Copy)]
-pub enum Digit {
-    Value(u8),
-    Bad,
-}
-
 // The value of a digit from 0 to 9, and for any other byte 16, which no digit has.
 fn decimal_of(b: u8) -> u8
     ensures { result ≡ cond (leb 48 b && leb b 57) (b - 48) 16 }

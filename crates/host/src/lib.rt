@@ -43,8 +43,8 @@ pub extern "C" fn damindex_figures(input: &[u8], sheet: &mut [u64], figures: &mu
     if figures.len() < 12 {
         return 0;
     }
-    let a = index::answer(input, sheet);
-    figures::write_figures(a, figures);
+    let answer = index::laid_out(index::answer(input, sheet));
+    figures::write_figures(answer, figures);
     12
 }
 

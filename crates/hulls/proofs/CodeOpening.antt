@@ -14,12 +14,11 @@ use Rattle.laws.proofs.Tests.{both}
 use Rattle.records.specs.declared.Hull.{Hull}
 use Rattle.lines.specs.Lines.{Line}
 use Rattle.hexadecimal.specs.Hex.{pairs, proper, badly_written}
-use Rattle.frames.specs.declared.Written.TheVariants.{Bytes}
+use Rattle.std.specs.Prelude.{Some}
 use Rattle.frames.specs.Decoding.{written_of}
 use Rattle.fields.specs.Fields.{byte_at, word_at}
 use Rattle.frames.proofs.CodeDecoding.{well_written, byte_stored}
-use Rattle.casefile.specs.declared.FirstLine.{FirstLine}
-use Rattle.casefile.specs.declared.Frame.{Frame}
+use Rattle.casefile.specs.Judged.{Frame, FirstLine}
 use Rattle.casefile.specs.Layout.{kind_of, fields_of, is_hull, persons_length, hull_length, shortest_hull, place_of, places_of, hull_of}
 use Rattle.casefile.specs.Limits.{between, sizes_fit, persons_fit, zones_fit}
 use Rattle.casefile.specs.Table.{first_holds, wrong_hull_frame, wrong_zones, hull_checks}
@@ -62,16 +61,13 @@ few_zones h e =
 
 -- ---- a refusal, and the hull by its number
 
-pub no_hull_beside : (k : ℕ) (h : Hull) → h ≡ no_hull → record { frame = Frame.Wrong k; hull = h } ≡ refused_first k
-no_hull_beside k h e = rw e refl
-
 module _ (h g : Hull) (n k : ℕ) (e : h ≡ g) (f : k ≡ hull_number h n) where
   same : hull_number g n ≡ k
   same = sym (f ∙ rw e refl)
 
-  pub hull_refused : (k ≡ 0 → ⊥) → (r : FirstLine) → r ≡ refused_first k → r ≡ hull_judged g n
+  pub hull_refused : (k ≡ 0 → ⊥) → refused_first k ≡ hull_judged g n
   unfolding hull_judged
-  hull_refused d r q = q ∙ rw (same, ne_eqb k 0 d) refl
+  hull_refused d = rw (same, ne_eqb k 0 d) refl
 
   pub hull_given : k ≡ 0 → given_first h ≡ hull_judged g n
   unfolding hull_judged
@@ -170,7 +166,7 @@ module _ (text : List ℕ) where
   pub first_no_digits : proper text ≡ false → refused_first 2 ≡ first_judged (record { text = text; closed = true })
   first_no_digits e = badly _ (unfold badly_written in rw e refl)
 
-  module _ (n : ℕ) (w : written_of text ≡ Bytes n) where
+  module _ (n : ℕ) (w : written_of text ≡ Some n) where
     count : n ≡ length (pairs text)
     count = (well_written text n w).1
 

@@ -19,7 +19,7 @@ use Rattle.numbers.specs.Ratio.{ratio_of}
 use Rattle.indices.specs.Index.{partials, attained_of}
 use Rattle.verdicts.specs.Required.{Sized, required_of, mark_of}
 use Rattle.verdicts.specs.Verdict.{verdict_of}
-use Rattle.casefile.specs.declared.Judgement.{Judgement}
+use Rattle.casefile.specs.Judged.{Judgement}
 use Rattle.casefile.specs.Record.{Case}
 use Rattle.casefile.specs.Limits.{sizes_fit, persons_fit}
 use Rattle.casefile.specs.Reading.{Reading, refused, accepted, reading}

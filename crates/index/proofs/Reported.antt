@@ -8,7 +8,7 @@ use Rattle.hexadecimal.specs.Hex.{line_of}
 use Rattle.digits.specs.Splice.{splice}
 use Rattle.records.specs.declared.Answer.{Answer}
 use Rattle.records.specs.declared.Hull.{Hull}
-use Rattle.casefile.specs.declared.Judgement.{Judgement}
+use Rattle.casefile.specs.Judged.{Judgement}
 use Rattle.casefile.specs.Record.{Case}
 use Rattle.casefile.specs.Reading.{Reading, refused, accepted, reading}
 use Rattle.casefile.specs.Answer.{judgement_of}

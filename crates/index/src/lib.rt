@@ -7,47 +7,64 @@ ghost use Rattle.verdicts.specs.Required.{Sized};
 ghost use Rattle.casefile.specs.Kept.{place_width};
 ghost use Rattle.casefile.specs.Reading.{reading};
 ghost use Rattle.casefile.specs.Valid.{Valid};
-ghost use Rattle.answers.specs.Answer.{figures, answer, shares, refusal, answered, sheet_after};
+ghost use Rattle.answers.specs.Answer.{figures, answer, shares, answered, sheet_after};
 ghost use Rattle.index.specs.Kept.{kept_case};
+ghost use Rattle.index.specs.Told.{answer_with, answer_told};
 
-use casefile::KEPT;
+use casefile::{Accepted, Fault, KEPT, Refused};
 use records::{Answer, Ends, Hull, Trio};
 use rows::sheet::fill;
 use spans::TABLE;
+use verdicts::Compliance;
 
 pub mod printed; // the printed answer
 
-// A refusal's number and line, and zeros.
-fn refuse(number: u64, line: u64) -> Answer
-    ensures { result ≡ refusal number line }
+// What an accepted case comes to: whether the ship meets its marks, how many rows there are, A, and the partial indices.
+#[derive(Clone, Copy)]
+pub struct Figures {
+    pub verdict: Compliance,
+    pub rows: u64,
+    pub attained: Ends,
+    pub partials: Trio,
+}
+
+// An answer as one flat record, for a host: of a refusal its number and line, and zeros.
+pub fn laid_out(answer: Result<Figures, Refused>) -> Answer
+    ensures { result ≡ answer_told answer }
 {
-    let attained = Ends { lower: 0, upper: 0 };
-    let partials = Trio {
-        lower: [0, 0, 0],
-        upper: [0, 0, 0],
-    };
-    Answer {
-        number,
-        line,
-        verdict: 0,
-        rows: 0,
-        attained,
-        partials,
+    match answer {
+        Ok(f) => Answer {
+            number: 0,
+            line: 0,
+            verdict: u64::from(f.verdict),
+            rows: f.rows,
+            attained: f.attained,
+            partials: f.partials,
+        },
+        Err(r) => Answer {
+            number: u64::from(r.fault),
+            line: r.line,
+            verdict: 0,
+            rows: 0,
+            attained: Ends { lower: 0, upper: 0 },
+            partials: Trio {
+                lower: [0; 3],
+                upper: [0; 3],
+            },
+        },
     }
 }
 
 // A and the verdict from the partial indices.
-fn conclude(h: Hull, rows: u64, partials: Trio) -> Answer
+fn conclude(h: Hull, rows: u64, partials: Trio) -> Figures
     requires { Sized h × Within (2 ^ 60) partials }
-    ensures { result ≡ figures h rows partials }
+    ensures { answer_with result ≡ figures h rows partials }
 {
     let attained = sums::attained(partials);
     let required = verdicts::required_of(h);
     let mark = verdicts::mark_of(h);
     let verdict = verdicts::verdict(attained, partials, required, mark);
-    Answer {
-        number: 0,
-        line: 0,
+    Figures {
         verdict,
         rows,
         attained,
@@ -55,30 +72,29 @@ fn conclude(h: Hull, rows: u64, partials: Trio) -> Answer
     }
 }
 
-// A valid case, by its hull and its rows as they are kept, with room for its shares.
-fn complete(kept: &[u8], h: Hull, rows: u64, sheet: &mut [u64]) -> Answer
-    requires { Valid (kept_case kept.now h rows) × (place_width * rows ≤ length kept.now) × (2 * rows ≤ length sheet.old) }
-    ensures { (result ≡ answer (kept_case kept.now h rows)) × (sheet.new ≡ shares (kept_case kept.now h rows) ++ drop (2 * rows) sheet.old) }
+// A valid case, by its file and its rows as they are kept, with room for its shares.
+fn complete(kept: &[u8], file: Accepted, sheet: &mut [u64]) -> Figures
+    requires { Valid (kept_case kept.now file.hull file.rows) × (place_width * file.rows ≤ length kept.now) × (2 * file.rows ≤ length sheet.old) }
+    ensures { (answer_with result ≡ answer (kept_case kept.now file.hull file.rows)) × (sheet.new ≡ shares (kept_case kept.now file.hull file.rows) ++ drop (2 * file.rows) sheet.old) }
 {
     let mut t = [0u64; TABLE];
-    spans::fill_table(h, &mut t);
-    let partials = fill(kept, rows as usize, h, &t, sheet);
-    conclude(h, rows, partials)
+    spans::fill_table(file.hull, &mut t);
+    let partials = fill(kept, file.rows as usize, file.hull, &t, sheet);
+    conclude(file.hull, file.rows, partials)
 }
 
 // Any bytes whatever: a refusal, which leaves the sheet as it is, or the answer, with each row's share on the sheet. There is room to
 // keep 500 rows, and a line more.
-pub fn answer(input: &[u8], sheet: &mut [u64]) -> Answer
-    ensures { (result ≡ answered (reading input.now) (length sheet.old)) × (sheet.new ≡ sheet_after (reading input.now) sheet.old) }
+pub fn answer(input: &[u8], sheet: &mut [u64]) -> Result<Figures, Refused>
+    ensures { (answer_told result ≡ answered (reading input.now) (length sheet.old)) × (sheet.new ≡ sheet_after (reading input.now) sheet.old) }
 {
     let mut kept = [0u8; KEPT];
-    let judged = reader::judge(input, &mut kept);
-    if judged.number != 0 {
-        return refuse(judged.number, judged.line);
+    let file = reader::judge(input, &mut kept)?;
+    if ((sheet.len() / 2) as u64) < file.rows {
+        return Err(Refused {
+            fault: Fault::ShortSheet,
+            line: 0,
+        });
     }
-    if ((sheet.len() / 2) as u64) < judged.rows {
-        return refuse(11, 0);
-    }
-    let h = judged.hull;
-    complete(&kept, h, judged.rows, sheet)
+    Ok(complete(&kept, file, sheet))
 }

@@ -10,22 +10,21 @@ ghost use Rattle.answers.specs.Answer.{answer};
 ghost use Rattle.answers.specs.Report.{lines_in, report};
 ghost use Rattle.index.specs.Kept.{kept_case};
 
-use super::conclude;
-use casefile::KEPT;
-use records::Hull;
+use super::{conclude, laid_out};
+use casefile::{Accepted, KEPT};
 use spans::TABLE;
 
-// A valid case, by its hull and its rows as they are kept, in a buffer with room for its lines: those of the rows as they are worked out, then that
+// A valid case, by its file and its rows as they are kept, in a buffer with room for its lines: those of the rows as they are worked out, then that
 // of the figures in front.
-fn put_case(kept: &[u8], h: Hull, rows: u64, out: &mut [u8])
-    requires { Valid (kept_case kept.now h rows) × (place_width * rows ≤ length kept.now) × (69 + 25 * rows ≤ length out.old) }
-    ensures { out.new ≡ splice 0 (printed (answer (kept_case kept.now h rows)) (lines_in (accepted (kept_case kept.now h rows)))) out.old }
+fn put_case(kept: &[u8], file: Accepted, out: &mut [u8])
+    requires { Valid (kept_case kept.now file.hull file.rows) × (place_width * file.rows ≤ length kept.now) × (69 + 25 * file.rows ≤ length out.old) }
+    ensures { out.new ≡ splice 0 (printed (answer (kept_case kept.now file.hull file.rows)) (lines_in (accepted (kept_case kept.now file.hull file.rows)))) out.old }
 {
     let mut t = [0u64; TABLE];
-    spans::fill_table(h, &mut t);
-    let partials = rows::report_lines::print(kept, rows as usize, h, &t, out, 69);
-    let a = conclude(h, rows, partials);
-    printing::put_figures(a, out);
+    spans::fill_table(file.hull, &mut t);
+    let partials = rows::report_lines::print(kept, file.rows as usize, file.hull, &t, out, 69);
+    let figures = conclude(file.hull, file.rows, partials);
+    printing::put_figures(laid_out(Ok(figures)), out);
 }
 
 // The printed answer of any bytes, in front of the buffer, and how many bytes that is: none where there is too little room.
@@ -33,15 +32,15 @@ pub fn report(input: &[u8], out: &mut [u8]) -> usize
     ensures { (result ≡ count_in (report (reading input.now)) out.old) × (out.new ≡ written_in (report (reading input.now)) out.old) }
 {
     let mut kept = [0u8; KEPT];
-    let judged = reader::judge(input, &mut kept);
-    if judged.number != 0 {
-        return printing::write_refusal(judged.number, judged.line, out);
+    match reader::judge(input, &mut kept) {
+        Err(refused) => printing::write_refusal(u64::from(refused.fault), refused.line, out),
+        Ok(file) => {
+            let n = 69 + 25 * (file.rows as usize);
+            if out.len() < n {
+                return 0;
+            }
+            put_case(&kept, file, out);
+            n
+        }
     }
-    let n = 69 + 25 * (judged.rows as usize);
-    if out.len() < n {
-        return 0;
-    }
-    let h = judged.hull;
-    put_case(&kept, h, judged.rows, out);
-    n
 }

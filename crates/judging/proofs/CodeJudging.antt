@@ -16,11 +16,11 @@ use Rattle.records.specs.declared.RowHead.{RowHead}
 use Rattle.records.specs.Results.{Results}
 use Rattle.lines.specs.Lines.{Line}
 use Rattle.hexadecimal.specs.Hex.{pairs, proper, badly_written}
-use Rattle.frames.specs.declared.Written.TheVariants.{Bytes}
+use Rattle.std.specs.Prelude.{Some}
 use Rattle.frames.specs.Decoding.{written_of}
 use Rattle.frames.proofs.CodeDecoding.{well_written}
 use Rattle.fields.specs.Fields.{word_at}
-use Rattle.casefile.specs.declared.Frame.{Frame}
+use Rattle.casefile.specs.Judged.{Frame}
 use Rattle.casefile.specs.declared.Progress.{Progress}
 use Rattle.casefile.specs.Record.{Row}
 use Rattle.casefile.specs.Layout.{kind_of, is_row, takes, frame_length, result_length, result_count, flooding_length, flooding_count, head_of, set_of, floodings_of, results_of, row_of, count_of}
@@ -208,7 +208,7 @@ module _ (h : Hull) (p : Progress) (text : List ℕ) (going : p.ended ≡ false)
   pub line_no_digits : proper text ≡ false → Frame.Wrong 2 ≡ judged h p (record { text = text; closed = true })
   line_no_digits e = line_badly h p _ going (unfold badly_written in rw e refl)
 
-  module _ (n : ℕ) (w : written_of text ≡ Bytes n) where
+  module _ (n : ℕ) (w : written_of text ≡ Some n) where
     well : badly_written (record { text = text; closed = true }) ≡ false
     unfolding badly_written
     well = rw (well_written text n w).0 refl

@@ -3,8 +3,9 @@ ghost use Rattle.std.specs.Prelude.{◌≡◌, ◌+◌, ◌*◌, ◌≤◌, leng
 ghost use Rattle.casefile.specs.Layout.{result_length, result_count, flooding_length, flooding_count, head_of, results_of};
 ghost use Rattle.casefile.specs.Limits.{results_fit};
 ghost use Rattle.casefile.specs.Judging.{row_number, row_judged};
+ghost use Rattle.casefile.specs.Told.{checks_told, frame_told};
 
-use casefile::{Frame, Progress};
+use casefile::{Fault, Frame, Progress};
 use records::{Hull, RowHead};
 use rowlines::readers;
 
@@ -23,36 +24,33 @@ fn results_fit(kind: u64, f: &[u8]) -> bool
     first
 }
 
-// A row by its head, and by whether its results fit, after the rows before it: the number of the first check that holds, or 0.
-fn row_number(h: Hull, p: Progress, head: RowHead, fit: bool) -> u64
-    ensures { result ≡ row_number h p head fit }
+// A row by its head, and by whether its results fit, after the rows before it: refused by the first check that holds.
+fn check_row(h: Hull, p: Progress, head: RowHead, fit: bool) -> Result<(), Fault>
+    ensures { checks_told result ≡ row_number h p head fit }
 {
     let last = p.last;
     if 500 <= p.rows {
-        return 6;
+        return Err(Fault::Count);
     }
     if !(limits::head_fits(h, head) & fit) {
-        return 7;
+        return Err(Fault::Limits);
     }
     if order::out_of_order(h, last, head) {
-        return 8;
+        return Err(Fault::OutOfOrder);
     }
     if order::leaves_open(h, last, head) {
-        return 9;
+        return Err(Fault::LeftOpen);
     }
-    0
+    Ok(())
 }
 
 // A row of a kind, from the fields of its frame.
-pub fn judge_row(kind: u64, f: &[u8], h: Hull, p: Progress) -> Frame
+pub fn judge_row(kind: u64, f: &[u8], h: Hull, p: Progress) -> Result<Frame, Fault>
     requires { 6 + result_count kind * result_length kind + flooding_count kind * flooding_length ≤ length f.now }
-    ensures { result ≡ row_judged h p (record { head = head_of kind f.now; results = results_of kind f.now }) }
+    ensures { frame_told result ≡ row_judged h p (record { head = head_of kind f.now; results = results_of kind f.now }) }
 {
     let head = readers::head(kind, f);
     let fit = results_fit(kind, f);
-    let number = row_number(h, p, head, fit);
-    if number != 0 {
-        return Frame::Wrong(number);
-    }
-    Frame::Row(head)
+    check_row(h, p, head, fit)?;
+    Ok(Frame::Row(head))
 }

@@ -6,10 +6,11 @@ ghost use Rattle.std.specs.Prelude.{◌≡◌};
 ghost use Rattle.solas.specs.Height.{row_v};
 ghost use Rattle.casefile.specs.Answer.{judgement_of};
 ghost use Rattle.casefile.specs.Reading.{reading};
+ghost use Rattle.casefile.specs.Told.{judgement_told};
 ghost use Rattle.printing.specs.Marks.{mark_byte};
 ghost use Rattle.survival.specs.Survival.{survival_of};
 
-use casefile::{Judgement, KEPT};
+use casefile::{Accepted, KEPT, Refused};
 
 pub mod ferry; // a passenger ship's survival
 pub mod shares; // rows' shares by the one span table
@@ -69,8 +70,8 @@ pub extern "C" fn probe_height(below: u64, height: u64, draught: u64) -> u64
 }
 
 // What is said of any bytes whatever; the rows that are kept on the way go no further.
-fn judged(input: &[u8]) -> Judgement
-    ensures { result ≡ judgement_of (reading input.now) }
+fn judged(input: &[u8]) -> Result<Accepted, Refused>
+    ensures { judgement_told result ≡ judgement_of (reading input.now) }
 {
     let mut kept = [0u8; KEPT];
     reader::judge(input, &mut kept)
@@ -81,7 +82,10 @@ fn judged(input: &[u8]) -> Judgement
 pub extern "C" fn probe_number(input: &[u8]) -> u64
     ensures { result ≡ (judgement_of (reading input.now)).number }
 {
-    judged(input).number
+    match judged(input) {
+        Ok(_) => 0,
+        Err(refused) => u64::from(refused.fault),
+    }
 }
 
 // Its line.
@@ -89,7 +93,10 @@ pub extern "C" fn probe_number(input: &[u8]) -> u64
 pub extern "C" fn probe_line(input: &[u8]) -> u64
     ensures { result ≡ (judgement_of (reading input.now)).line }
 {
-    judged(input).line
+    match judged(input) {
+        Ok(_) => 0,
+        Err(refused) => refused.line,
+    }
 }
 
 // The row count of a file that is accepted.
@@ -97,5 +104,8 @@ pub extern "C" fn probe_line(input: &[u8]) -> u64
 pub extern "C" fn probe_rows(input: &[u8]) -> u64
     ensures { result ≡ (judgement_of (reading input.now)).rows }
 {
-    judged(input).rows
+    match judged(input) {
+        Ok(file) => file.rows,
+        Err(_) => 0,
+    }
 }

@@ -11,25 +11,26 @@ use lib.Dec.{ltb}
 use lib.ListN.{length, take, drop}
 use lib.Seq.{sets}
 use borrow.Rule.Slice.PartMut.{mid_of, put_mid}
+use Rattle.std.specs.Prelude.{Result, Ok, Err}
 use Rattle.records.specs.declared.Hull.{Hull}
 use Rattle.lines.specs.Lines.{Line, lines, line_length}
 use Rattle.lines.proofs.Lines.{lines_end, lines_next}
 use Rattle.hexadecimal.specs.Hex.{pairs, bytes_of}
-use Rattle.casefile.specs.declared.FirstLine.{FirstLine}
-use Rattle.casefile.specs.declared.Frame.{Frame}
+use Rattle.casefile.specs.Judged.{Frame, FirstLine, Step, Judgement}
+use Rattle.casefile.specs.declared.Fault.{Fault}
 use Rattle.casefile.specs.declared.Progress.{Progress}
-use Rattle.casefile.specs.declared.Judgement.{Judgement}
-use Rattle.casefile.specs.declared.Step.{Step}
 use Rattle.casefile.specs.Record.{Row}
 use Rattle.casefile.specs.Layout.{row_of}
 use Rattle.casefile.specs.Kept.{place_width, kept_row, kept_rows, Keeps}
 use Rattle.casefile.specs.Limits.{longest_input, most_rows}
 use Rattle.casefile.specs.Table.{first_holds, hull_checks}
 use Rattle.casefile.specs.Reading.{Reading, refused, begin, inside, start, with_end, read_from, reading}
-use Rattle.casefile.specs.Answer.{number_of, no_hull, first_judged, judged, judgement_of}
+use Rattle.casefile.specs.Answer.{number_of, given_first, refused_first, first_judged, judged, judgement_of}
 use Rattle.casefile.specs.Judging.{stepped, judgement_at}
 use Rattle.casefile.proofs.Steps.{not_too_long, no_line_lem, line_passes, line_refused, row_goes_on, end_goes_on, judged_no_hull, wrong_stops, row_counts, row_passes_as, after, after_none, after_row, after_end, no_end}
 use Rattle.casefile.proofs.LineJudging.{first_passes, first_says_number}
+use Rattle.casefile.specs.Told.{number_of_fault, first_told}
+use Rattle.casefile.proofs.Told.{some_number}
 use Rattle.casefile.proofs.Kept.{Placed, length_kept, same_rows, kept_next, row_placed}
 use Rattle.reader.proofs.Places.{placed}
 
@@ -125,9 +126,6 @@ module _ (input : List ℕ) (h : Hull) (from m size : ℕ) (was : List ℕ) (p :
 
 -- ---- the whole input
 
-pub refusal_is : (k l : ℕ) (h : Hull) → h ≡ no_hull → record { number = k; line = l; rows = 0; hull = h } ≡ judgement_of (refused k l)
-refusal_is k l h e = rw e refl
-
 -- what a judgement and the buffer say of a reading
 abbrev pub Told : Reading → Judgement → List ℕ → Type 0
 Told r j kept = (j ≡ judgement_of r) × Keeps r kept
@@ -139,16 +137,17 @@ pub no_line_at_all : (f : List ℕ) → length f ≡ 0 → reading f ≡ refused
 no_line_at_all f e = not_too_long f (omega arith) ∙ ap (read_from begin 1) (lines_end f 0 (omega arith)) ∙ no_line_lem begin 1
 
 -- line 1: a refusal stops the reading, a hull goes on
-module _ (l : Line) (ls : List Line) (o : FirstLine) (g : o ≡ first_judged l) where
-  number_is : number_of o.frame ≡ first_holds (hull_checks l)
-  number_is = ap (λ (a : FirstLine). number_of a.frame) g ∙ first_says_number l
+module _ (l : Line) (ls : List Line) where
+  number_is : {o : FirstLine} → o ≡ first_judged l → number_of o.frame ≡ first_holds (hull_checks l)
+  number_is g = ap (λ (a : FirstLine). number_of a.frame) g ∙ first_says_number l
 
-  first_stops : (o.frame ≡ Frame.Hull → ⊥) → read_from begin 1 (l ∷ ls) ≡ refused (number_of o.frame) 1
-  first_stops n =
-      line_refused begin 1 l ls (number_of o.frame) (sym number_is) (λ z. n (ap (λ (a : FirstLine). a.frame) (g ∙ first_passes l (sym number_is ∙ z))))
+  first_stops : (k : ℕ) → (k ≡ 0 → ⊥) → refused_first k ≡ first_judged l → read_from begin 1 (l ∷ ls) ≡ refused k 1
+  first_stops k some g = line_refused begin 1 l ls k (sym (number_is g)) some
 
-  first_goes_on : o.frame ≡ Frame.Hull → read_from (inside o.hull start) 2 ls ≡ read_from begin 1 (l ∷ ls)
-  first_goes_on e = let p : first_holds (hull_checks l) ≡ 0 = sym number_is ∙ ap number_of e in rw (g ∙ first_passes l p) (sym (line_passes begin 1 l ls p))
+  first_goes_on : (h : Hull) → given_first h ≡ first_judged l → read_from (inside h start) 2 ls ≡ read_from begin 1 (l ∷ ls)
+  first_goes_on h g =
+      let p : first_holds (hull_checks l) ≡ 0 = sym (number_is g) in
+      rw (ap (λ (a : FirstLine). a.hull) (g ∙ first_passes l p)) (sym (line_passes begin 1 l ls p))
 
 module _ (f : List ℕ) (few : length f ≤ longest_input) (some : 0 < length f) (end : ℕ) (e : end ≡ 0 + line_length (drop 0 f)) where
   abbrev opening : Line
@@ -157,11 +156,11 @@ module _ (f : List ℕ) (few : length f ≤ longest_input) (some : 0 < length f)
   opens : reading f ≡ read_from begin 1 (opening ∷ lines (drop (end + 1) f))
   opens = not_too_long f few ∙ ap (read_from begin 1) (lines_next f 0 end e some ∙ rw (sub-zero end) refl)
 
-  module _ (o : FirstLine) (g : o ≡ first_judged opening) (kept : List ℕ) where
-    pub input_stops : (o.frame ≡ Frame.Hull → ⊥) → (k : ℕ) → k ≡ number_of o.frame → (r : Judgement) → r ≡ judgement_of (refused k 1) → Told (reading f) r kept
-    input_stops n k is r d = told_refused kept (opens ∙ first_stops opening (lines (drop (end + 1) f)) o g n) (rw is at d)
+  module _ (r : Result Hull Fault) (g : first_told r ≡ first_judged opening) (kept : List ℕ) where
+    pub input_stops : (k : Fault) → r ≡ Err k → Told (reading f) (judgement_of (refused (number_of_fault k) 1)) kept
+    input_stops k e = told_refused kept (opens ∙ first_stops opening (lines (drop (end + 1) f)) (number_of_fault k) (some_number k) (rw e at g)) refl
 
-    pub input_goes_on : o.frame ≡ Frame.Hull → (r : Judgement) → Told (read_from (inside o.hull start) 2 (lines (drop (end + 1) f))) r kept → Told (reading f) r kept
-    input_goes_on n r d =
-        let same : read_from (inside o.hull start) 2 (lines (drop (end + 1) f)) ≡ reading f = first_goes_on opening (lines (drop (end + 1) f)) o g n ∙ sym opens in
+    pub input_goes_on : (h : Hull) → r ≡ Ok h → (j : Judgement) → Told (read_from (inside h start) 2 (lines (drop (end + 1) f))) j kept → Told (reading f) j kept
+    input_goes_on h e j d =
+        let same : read_from (inside h start) 2 (lines (drop (end + 1) f)) ≡ reading f = first_goes_on opening (lines (drop (end + 1) f)) h (rw e at g) ∙ sym opens in
         rw same at d

@@ -4,59 +4,32 @@
 ghost use Rattle.std.specs.Prelude.{◌≡◌, ◌+◌, ◌*◌, ◌≤◌, length, drop};
 ghost use Rattle.lines.specs.Lines.{lines};
 ghost use Rattle.casefile.specs.Limits.{most_rows};
-ghost use Rattle.casefile.specs.Reading.{refused, inside, start, read_from, reading};
-ghost use Rattle.casefile.specs.Answer.{number_of, judgement_of};
+ghost use Rattle.casefile.specs.Reading.{inside, start, read_from, reading};
+ghost use Rattle.casefile.specs.Answer.{judgement_of};
 ghost use Rattle.casefile.specs.Judging.{stepped, judgement_at};
 ghost use Rattle.casefile.specs.Kept.{place_width, Keeps};
+ghost use Rattle.casefile.specs.Told.{frame_told, step_told, judgement_told};
 
-use casefile::{Frame, Judgement, LONGEST_INPUT, PLACE_WIDTH, Progress, Step};
+use casefile::{Accepted, Fault, Frame, LONGEST_INPUT, PLACE_WIDTH, Progress, Refused};
 use records::{Hull, RowHead};
 
-// A refusal's number and line, and zeros.
-fn refusal(number: u64, line: u64) -> Judgement
-    ensures { result ≡ judgement_of (refused number line) }
-{
-    let none = hulls::no_hull();
-    Judgement {
-        number,
-        line,
-        rows: 0,
-        hull: none,
-    }
-}
-
-// The number of a line's refusal, 0 where it passes.
-fn number_of(frame: Frame) -> u64
-    ensures { result ≡ number_of frame }
-{
-    match frame {
-        Frame::Hull => 0,
-        Frame::Row(_) => 0,
-        Frame::End(_) => 0,
-        Frame::Wrong(number) => number,
-    }
-}
-
-// What a line's frame adds to what is known, or the refusal with the line's number: a hull stands in line 1 alone.
-fn step(frame: Frame, p: Progress, line: u64) -> Step
+// What a line's frame adds to what is known, or the refusal with the line's number.
+fn step(judged: Result<Frame, Fault>, p: Progress, line: u64) -> Result<Progress, Refused>
     requires { p.rows ≤ most_rows }
-    ensures { result ≡ stepped frame p line }
+    ensures { step_told result ≡ stepped (frame_told judged) p line }
 {
-    let rows = p.rows;
-    let last = p.last;
-    match frame {
-        Frame::Hull => Step::Refused(3, line),
-        Frame::Row(head) => Step::Next(Progress {
-            rows: rows + 1,
-            last: head,
+    match judged {
+        Ok(Frame::Row(last)) => Ok(Progress {
+            rows: p.rows + 1,
+            last,
             ended: false,
         }),
-        Frame::End(_) => Step::Next(Progress {
-            rows,
-            last,
+        Ok(Frame::End(_)) => Ok(Progress {
+            rows: p.rows,
+            last: p.last,
             ended: true,
         }),
-        Frame::Wrong(number) => Step::Refused(number, line),
+        Err(fault) => Err(Refused { fault, line }),
     }
 }
 
@@ -79,9 +52,9 @@ fn at_start() -> Progress
 }
 
 // The lines from a place on, the first of which has the number that is given: the last step, or the first refusal. Each row is kept.
-fn run(input: &[u8], h: Hull, from: usize, first: u64, kept: &mut [u8]) -> Step
+fn run(input: &[u8], h: Hull, from: usize, first: u64, kept: &mut [u8]) -> Result<Progress, Refused>
     requires { (first ≤ 4294967296) × (place_width * most_rows + place_width ≤ length kept.old) }
-    ensures step { judgement_at h result ≡ judgement_of (read_from (inside h start) first (lines (drop from input.now))) }
+    ensures step { judgement_at h (step_told result) ≡ judgement_of (read_from (inside h start) first (lines (drop from input.now))) }
     ensures rows { Keeps (read_from (inside h start) first (lines (drop from input.now))) kept.new }
 {
     let mut p = at_start();
@@ -93,8 +66,9 @@ fn run(input: &[u8], h: Hull, from: usize, first: u64, kept: &mut [u8]) -> Step
         let place = p.rows as usize * PLACE_WIDTH;
         let after = place + PLACE_WIDTH;
         let frame = judging::judge_line(&input[at..end], closed, h, p, &mut kept[place..after]);
+        // `let .. else`, where `?` would do: document 01's list of forms by place wants it here
         let stepped = step(frame, p, line);
-        let Step::Next(next) = stepped else {
+        let Ok(next) = stepped else {
             return stepped;
         };
         p = next;
@@ -102,48 +76,56 @@ fn run(input: &[u8], h: Hull, from: usize, first: u64, kept: &mut [u8]) -> Step
         line = line + 1;
     }
     if p.ended {
-        return Step::Next(p);
+        return Ok(p);
     }
-    Step::Refused(10, line)
+    Err(Refused {
+        fault: Fault::NoEnd,
+        line,
+    })
 }
 
 // The rows and the end of a file whose hull is known, from a place on.
-pub fn judge_rows(input: &[u8], h: Hull, from: usize, first: u64, kept: &mut [u8]) -> Judgement
+pub fn judge_rows(
+    input: &[u8],
+    h: Hull,
+    from: usize,
+    first: u64,
+    kept: &mut [u8],
+) -> Result<Accepted, Refused>
     requires { (first ≤ 4294967296) × (place_width * most_rows + place_width ≤ length kept.old) }
-    ensures judgement { result ≡ judgement_of (read_from (inside h start) first (lines (drop from input.now))) }
+    ensures judgement { judgement_told result ≡ judgement_of (read_from (inside h start) first (lines (drop from input.now))) }
     ensures rows { Keeps (read_from (inside h start) first (lines (drop from input.now))) kept.new }
 {
-    match run(input, h, from, first, kept) {
-        Step::Next(p) => Judgement {
-            number: 0,
-            line: 0,
-            rows: p.rows,
-            hull: h,
-        },
-        Step::Refused(number, line) => refusal(number, line),
-    }
+    let p = run(input, h, from, first, kept)?;
+    Ok(Accepted {
+        rows: p.rows,
+        hull: h,
+    })
 }
 
-// Any bytes whatever: a refusal's number and line, or the row count and the hull, with the rows kept in the buffer that is lent.
-pub fn judge(input: &[u8], kept: &mut [u8]) -> Judgement
+// Any bytes whatever: a refusal, or the row count and the hull, with the rows kept in the buffer that is lent.
+pub fn judge(input: &[u8], kept: &mut [u8]) -> Result<Accepted, Refused>
     requires { place_width * most_rows + place_width ≤ length kept.old }
-    ensures judgement { result ≡ judgement_of (reading input.now) }
+    ensures judgement { judgement_told result ≡ judgement_of (reading input.now) }
     ensures rows { Keeps (reading input.now) kept.new }
 {
     let n = input.len();
     if LONGEST_INPUT < n {
-        return refusal(1, 0);
+        return Err(Refused {
+            fault: Fault::TooLong,
+            line: 0,
+        });
     }
     if n == 0 {
-        return refusal(10, 1);
+        return Err(Refused {
+            fault: Fault::NoEnd,
+            line: 1,
+        });
     }
     let end = lines::line_end(input, 0);
     let closed = end < n;
-    let first = hulls::judge_first(&input[..end], closed);
-    let frame = first.frame;
-    let h = first.hull;
-    let Frame::Hull = frame else {
-        return refusal(number_of(frame), 1);
-    };
-    judge_rows(input, h, end + 1, 2, kept)
+    match hulls::judge_first(&input[..end], closed) {
+        Ok(h) => judge_rows(input, h, end + 1, 2, kept),
+        Err(fault) => Err(Refused { fault, line: 1 }),
+    }
 }

@@ -3,6 +3,7 @@ use Rattle.std.specs.Prelude.{ℕ, ◌*◌, ◌^◌, Bool, cond, not, ◌&&◌, 
 use Rattle.records.specs.declared.Ends.{Ends}
 use Rattle.records.specs.declared.Trio.{Trio}
 use Rattle.records.specs.declared.Ratio.{Ratio}
+use Rattle.verdicts.specs.declared.Compliance.{Compliance}
 
 -- is an end not below the mark? "All compared exactly"
 unfoldable pub reaches : ℕ → Ratio → Bool
@@ -12,6 +13,12 @@ reaches end mark = leb (10 ^ 9 * mark.num) (end * mark.den)
 unfoldable pub all_reach : ℕ → List ℕ → Ratio → Ratio → Bool
 all_reach index partials required mark =
     reaches index required && reaches (get_or partials 0 0) mark && reaches (get_or partials 1 0) mark && reaches (get_or partials 2 0) mark
+
+-- the number of what is said
+abbrev pub number_of : Compliance → ℕ
+number_of Compliance.Meets = 1
+number_of Compliance.Fails = 2
+number_of Compliance.Unsettled = 3
 
 -- "Verdict 1 meets: lower end of A at least R and each partial's at least R/2. 2 fails: some upper end below its mark. 3 unsettled: otherwise"
 unfoldable pub verdict_of : Ends → Trio → Ratio → Ratio → ℕ

@@ -5,9 +5,30 @@ ghost use Rattle.std.specs.Prelude.{◌≡◌, ◌^◌, ◌≤◌};
 ghost use Rattle.solas.specs.Index.{R, passenger_R, NoLogarithm, R2020};
 ghost use Rattle.numbers.specs.Ratio.{Proper, ratio_of};
 ghost use Rattle.verdicts.specs.Required.{Sized, required_of, mark_of};
-ghost use Rattle.verdicts.specs.Verdict.{reaches, all_reach, verdict_of};
+ghost use Rattle.verdicts.specs.Verdict.{number_of, reaches, all_reach, verdict_of};
 
 use records::{Ends, Hull, Ratio, Trio};
+
+// What is said of a ship: all lower ends reach their marks; some upper end does not; or neither is settled.
+#[derive(Clone, Copy, Debug, PartialEq, Eq)]
+pub enum Compliance {
+    Meets,
+    Fails,
+    Unsettled,
+}
+
+impl From<Compliance> for u64 {
+    ghost from_gives = { λ v n. n ≡ number_of v };
+
+    // Its number in document 01.
+    fn from(v: Compliance) -> u64 {
+        match v {
+            Compliance::Meets => 1,
+            Compliance::Fails => 2,
+            Compliance::Unsettled => 3,
+        }
+    }
+}
 
 // What a whole comes to in billionths.
 const WHOLE: u64 = 1_000_000_000;
@@ -118,18 +139,18 @@ fn all_reach(index: u64, partials: [u64; 3], required: Ratio, mark: Ratio) -> bo
         & end_reaches(partials[2], mark)
 }
 
-// 1 meets: all lower ends reach their marks. 2 fails: some upper end does not. 3 unsettled: otherwise.
-pub fn verdict(index: Ends, partials: Trio, required: Ratio, mark: Ratio) -> u64
+// Meets where all lower ends reach their marks, fails where some upper end does not, and else is unsettled.
+pub fn verdict(index: Ends, partials: Trio, required: Ratio, mark: Ratio) -> Compliance
     requires { Proper (10 ^ 9) required × Proper (10 ^ 9) mark }
-    ensures { result ≡ verdict_of index partials required mark }
+    ensures { number_of result ≡ verdict_of index partials required mark }
 {
     let lower = partials.lower;
     let upper = partials.upper;
     if all_reach(index.lower, lower, required, mark) {
-        return 1;
+        return Compliance::Meets;
     }
     if !all_reach(index.upper, upper, required, mark) {
-        return 2;
+        return Compliance::Fails;
     }
-    3
+    Compliance::Unsettled
 }

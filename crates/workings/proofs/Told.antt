@@ -4,7 +4,7 @@ use mathlib.Core.Path.{◌≡◌, refl, ◌∙◌, ap}
 use mathlib.Core.List.{List, [], ◌++◌}
 use native.Mathlib.Omega.{arith}
 use lib.ListN.{length, drop}
-use Rattle.casefile.specs.declared.Judgement.{Judgement}
+use Rattle.casefile.specs.Judged.{Judgement}
 use Rattle.casefile.specs.Reading.{Reading, refused, accepted, reading}
 use Rattle.casefile.specs.Answer.{judgement_of}
 use Rattle.casefile.specs.Kept.{kept_rows, Keeps}

@@ -13,18 +13,18 @@ ghost use Rattle.listing.specs.Rows.{numbers_from};
 ghost use Rattle.answers.specs.Report.{rows_in, required_in, groups_in};
 ghost use Rattle.index.specs.Kept.{kept_case};
 
-use casefile::KEPT;
+use casefile::{Accepted, KEPT};
 use records::Hull;
 use spans::TABLE;
 
-// A valid case, by its hull and its rows as they are kept, with room for twenty numbers a row.
-fn put_rows(kept: &[u8], h: Hull, rows: u64, out: &mut [u64])
-    requires { Valid (kept_case kept.now h rows) × (place_width * rows ≤ length kept.now) × (20 * rows ≤ length out.old) }
-    ensures { out.new ≡ numbers_from h nowhere (kept_rows rows kept.now 0) ++ drop (20 * rows) out.old }
+// A valid case, by its file and its rows as they are kept, with room for twenty numbers a row.
+fn put_rows(kept: &[u8], file: Accepted, out: &mut [u64])
+    requires { Valid (kept_case kept.now file.hull file.rows) × (place_width * file.rows ≤ length kept.now) × (20 * file.rows ≤ length out.old) }
+    ensures { out.new ≡ numbers_from file.hull nowhere (kept_rows file.rows kept.now 0) ++ drop (20 * file.rows) out.old }
 {
     let mut t = [0u64; TABLE];
-    spans::fill_table(h, &mut t);
-    listing::list(kept, rows as usize, h, &t, out);
+    spans::fill_table(file.hull, &mut t);
+    listing::list(kept, file.rows as usize, file.hull, &t, out);
 }
 
 // Twenty numbers a row, in front of what is lent, and how many that is: none where the bytes are refused or there is too little room.
@@ -32,16 +32,14 @@ pub fn rows(input: &[u8], out: &mut [u64]) -> usize
     ensures { (result ≡ count_in (rows_in (reading input.now)) out.old) × (out.new ≡ written_in (rows_in (reading input.now)) out.old) }
 {
     let mut kept = [0u8; KEPT];
-    let judged = reader::judge(input, &mut kept);
-    if judged.number != 0 {
+    let Ok(file) = reader::judge(input, &mut kept) else {
         return 0;
-    }
-    let n = 20 * (judged.rows as usize);
+    };
+    let n = 20 * (file.rows as usize);
     if out.len() < n {
         return 0;
     }
-    let h = judged.hull;
-    put_rows(&kept, h, judged.rows, out);
+    put_rows(&kept, file, out);
     n
 }
 
@@ -51,14 +49,13 @@ pub fn required(input: &[u8], out: &mut [u64]) -> usize
     ensures { (result ≡ count_in (required_in (reading input.now)) out.old) × (out.new ≡ written_in (required_in (reading input.now)) out.old) }
 {
     let mut kept = [0u8; KEPT];
-    let judged = reader::judge(input, &mut kept);
-    if judged.number != 0 {
+    let Ok(file) = reader::judge(input, &mut kept) else {
         return 0;
-    }
+    };
     if out.len() < 4 {
         return 0;
     }
-    let h = judged.hull;
+    let h = file.hull;
     listing::hull::put_required(h, out);
     4
 }
@@ -78,11 +75,10 @@ pub fn groups(input: &[u8], out: &mut [u64]) -> usize
     ensures { (result ≡ count_in (groups_in (reading input.now)) out.old) × (out.new ≡ written_in (groups_in (reading input.now)) out.old) }
 {
     let mut kept = [0u8; KEPT];
-    let judged = reader::judge(input, &mut kept);
-    if judged.number != 0 {
+    let Ok(file) = reader::judge(input, &mut kept) else {
         return 0;
-    }
-    let h = judged.hull;
+    };
+    let h = file.hull;
     let n = h.zones * (h.zones + 1);
     if out.len() < n {
         return 0;

@@ -6,28 +6,26 @@ use Rattle.hulls.proofs.CodeOpening.{first_not_closed, first_no_digits, first_sh
 use Rattle.hulls.proofs.judge_first.Goals as goal
 
 pub returns-then-not-closed : goal.returns-then-not-closed
-returns-then-not-closed c = c.refused.ensures ∙ rw c.if-not-closed.true (first_not_closed _)
+returns-then-not-closed c = rw c.if-not-closed.true (first_not_closed _)
 
 pub returns-in_default : goal.returns-in_default
 returns-in_default c =
-    c.refused-in_default.ensures
-    ∙ rw c.if-not-closed.false
+    rw c.if-not-closed.false
     (first_no_digits _ (badly_written_lem _ (sym c.decode_text.ensures.result ∙ c.in_default.is)))
 
 pub returns-then-n-hull_length : goal.returns-then-n-hull_length
 returns-then-n-hull_length c =
     let text = c.args.text.now in
-    let w = sym c.decode_text.ensures.result ∙ c.in-Bytes.is in
+    let w = sym c.decode_text.ensures.result ∙ c.in-Some.is in
     let there = stored text _ _ w c.decode_text.ensures.buffer in
     let kind = c.byte_at-kind.ensures.value ∙ kind_stored (pairs text) _ there in
-    c.refused-then-n-hull_length.ensures
-    ∙ rw c.if-not-closed.false
+    rw c.if-not-closed.false
     (first_short _ _ w _ kind (rw c.hull_length.ensures at c.if-n-hull_length.true))
 
 pub returns-in-1 : goal.returns-in-1
 returns-in-1 c =
     let text = c.args.text.now in
-    let w = sym c.decode_text.ensures.result ∙ c.in-Bytes.is in
+    let w = sym c.decode_text.ensures.result ∙ c.in-Some.is in
     let there = stored text _ _ w c.decode_text.ensures.buffer in
     let kind = c.byte_at-kind.ensures.value ∙ kind_stored (pairs text) _ there in
     rw c.if-not-closed.false
@@ -36,9 +34,8 @@ returns-in-1 c =
 pub returns-in_default-kind : goal.returns-in_default-kind
 returns-in_default-kind c =
     let text = c.args.text.now in
-    let w = sym c.decode_text.ensures.result ∙ c.in-Bytes.is in
+    let w = sym c.decode_text.ensures.result ∙ c.in-Some.is in
     let there = stored text _ _ w c.decode_text.ensures.buffer in
     let kind = c.byte_at-kind.ensures.value ∙ kind_stored (pairs text) _ there in
-    c.refused-in_default-kind.ensures
-    ∙ rw c.if-not-closed.false
+    rw c.if-not-closed.false
     (first_other _ _ w _ kind c.in_default-kind.in_default-kind-own.rest.1)

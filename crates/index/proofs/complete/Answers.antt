@@ -7,18 +7,18 @@ use Rattle.index.proofs.Accepted.{hull_is, sized, rows_asked, answer_is, shares_
 use Rattle.index.proofs.complete.Goals as goal
 
 pub fill_table-requires : goal.fill_table-requires
-fill_table-requires c = (hull_is c.args.kept.now c.args.h c.args.rows c.requires.0, refl)
+fill_table-requires c = (hull_is c.args.kept.now c.args.file.hull c.args.file.rows c.requires.0, refl)
 
 pub fill-partials-requires : goal.fill-partials-requires
 fill-partials-requires c =
-    rows_asked c.args.kept.now c.args.h c.args.rows c.requires.0 c.fill_table.ensures c.requires.1 c.requires.2
+    rows_asked c.args.kept.now c.args.file.hull c.args.file.rows c.requires.0 c.fill_table.ensures c.requires.1 c.requires.2
 
 pub conclude-requires : goal.conclude-requires
 conclude-requires c =
-    (sized c.args.kept.now c.args.h c.args.rows c.requires.0, within_wider {k = 2 ^ 60} (omega arith) c.fill-partials.ensures.1)
+    (sized c.args.kept.now c.args.file.hull c.args.file.rows c.requires.0, within_wider {k = 2 ^ 60} (omega arith) c.fill-partials.ensures.1)
 
 pub returns : goal.returns
 returns c = (
-  answer_is c.args.kept.now c.args.h c.args.rows c.requires.0 c.fill-partials.ensures.0 c.conclude.ensures,
-  shares_are c.args.kept.now c.args.h c.args.rows c.requires.0 c.args.sheet.now c.fill-partials.ensures.2,
+  answer_is c.args.kept.now c.args.file.hull c.args.file.rows c.requires.0 c.fill-partials.ensures.0 c.conclude.ensures,
+  shares_are c.args.kept.now c.args.file.hull c.args.file.rows c.requires.0 c.args.sheet.now c.fill-partials.ensures.2,
 )

@@ -15,17 +15,17 @@ pub returns-in_default : goal.returns-in_default
 returns-in_default c = record { frame = rw (c.if-not-closed.false) (line_no_digits _ _ _ c.if-p.false (badly_written_lem _ (sym c.decode_text-written.ensures.result ∙ c.in_default.is))); kept = c.decode_text-written.ensures.buffer }
 
 pub returns-then-n-gt-PLACE_WIDTH : goal.returns-then-n-gt-PLACE_WIDTH
-returns-then-n-gt-PLACE_WIDTH c = record { frame = rw (c.if-not-closed.false) (line_too_long _ _ _ c.if-p.false _ (sym c.decode_text-written.ensures.result ∙ c.in-Bytes.is) c.if-n-gt-PLACE_WIDTH.true); kept = c.decode_text-written.ensures.buffer }
+returns-then-n-gt-PLACE_WIDTH c = record { frame = rw (c.if-not-closed.false) (line_too_long _ _ _ c.if-p.false _ (sym c.decode_text-written.ensures.result ∙ c.in-Some.is) c.if-n-gt-PLACE_WIDTH.true); kept = c.decode_text-written.ensures.buffer }
 
 pub slice_bounds-judge_frame-end-2 : goal.slice_bounds-judge_frame-end-2
-slice_bounds-judge_frame-end-2 c = front_long c.args.text.now _ _ _ (sym c.decode_text-written.ensures.result ∙ c.in-Bytes.is) c.decode_text-written.ensures.buffer (omega arith)
+slice_bounds-judge_frame-end-2 c = front_long c.args.text.now _ _ _ (sym c.decode_text-written.ensures.result ∙ c.in-Some.is) c.decode_text-written.ensures.buffer (omega arith)
 
 pub judge_frame-requires : goal.judge_frame-requires
 judge_frame-requires c =
-    let w = sym c.decode_text-written.ensures.result ∙ c.in-Bytes.is in
+    let w = sym c.decode_text-written.ensures.result ∙ c.in-Some.is in
     rw (← front_long c.args.text.now _ _ _ w c.decode_text-written.ensures.buffer (omega arith)) (some_bytes _ _ w)
 
 pub returns : goal.returns
 returns c =
-    let w = sym c.decode_text-written.ensures.result ∙ c.in-Bytes.is in
+    let w = sym c.decode_text-written.ensures.result ∙ c.in-Some.is in
     record { frame = rw (c.if-not-closed.false) (line_decoded _ _ _ c.if-p.false _ w _ _ (front_decoded c.args.text.now _ _ _ w c.decode_text-written.ensures.buffer (omega arith)) c.judge_frame.ensures); kept = c.decode_text-written.ensures.buffer }

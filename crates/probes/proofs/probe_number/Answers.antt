@@ -1,7 +1,10 @@
 -- `probes::probe_number` gives what the reading says of it. Assumes nothing.
-use mathlib.Core.Path.{ap}
-use Rattle.casefile.specs.declared.Judgement.{Judgement}
+use mathlib.Core.Path.{◌∙◌, ap}
+use Rattle.casefile.specs.Judged.{Judgement}
 use Rattle.probes.proofs.probe_number.Goals as goal
 
-pub returns : goal.returns
-returns c = ap (λ (j : Judgement). j.number) c.judged.ensures
+pub returns-in-Ok : goal.returns-in-Ok
+returns-in-Ok c = ap (λ (j : Judgement). j.number) c.in-Ok.ensures
+
+pub returns-in-Err : goal.returns-in-Err
+returns-in-Err c = c.from.ensures ∙ ap (λ (j : Judgement). j.number) c.in-Err.ensures

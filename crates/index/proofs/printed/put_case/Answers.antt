@@ -8,17 +8,17 @@ use Rattle.index.proofs.Reported.{lines_then_figures}
 use Rattle.index.proofs.printed.put_case.Goals as goal
 
 pub fill_table-requires : goal.fill_table-requires
-fill_table-requires c = (hull_is c.args.kept.now c.args.h c.args.rows c.requires.0, refl)
+fill_table-requires c = (hull_is c.args.kept.now c.args.file.hull c.args.file.rows c.requires.0, refl)
 
 pub print-partials-requires : goal.print-partials-requires
 print-partials-requires c =
-    rows_asked c.args.kept.now c.args.h c.args.rows c.requires.0 c.fill_table.ensures c.requires.1 c.requires.2
+    rows_asked c.args.kept.now c.args.file.hull c.args.file.rows c.requires.0 c.fill_table.ensures c.requires.1 c.requires.2
 
-pub conclude-a-requires : goal.conclude-a-requires
-conclude-a-requires c =
-    (sized c.args.kept.now c.args.h c.args.rows c.requires.0, within_wider {k = 2 ^ 60} (omega arith) c.print-partials.ensures.1)
+pub conclude-figures-requires : goal.conclude-figures-requires
+conclude-figures-requires c =
+    (sized c.args.kept.now c.args.file.hull c.args.file.rows c.requires.0, within_wider {k = 2 ^ 60} (omega arith) c.print-partials.ensures.1)
 
 pub returns : goal.returns
 returns c =
-    lines_then_figures c.args.kept.now c.args.h c.args.rows c.args.out.now
-    (answer_is c.args.kept.now c.args.h c.args.rows c.requires.0 c.print-partials.ensures.0 c.conclude-a.ensures) c.print-partials.ensures.2 c.put_figures.ensures
+    lines_then_figures c.args.kept.now c.args.file.hull c.args.file.rows c.args.out.now
+    (answer_is c.args.kept.now c.args.file.hull c.args.file.rows c.requires.0 c.print-partials.ensures.0 c.conclude-figures.ensures) c.print-partials.ensures.2 (rw c.laid_out.ensures at c.put_figures.ensures)

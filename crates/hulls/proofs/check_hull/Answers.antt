@@ -1,7 +1,7 @@
--- `hull_number` meets its contract. Assumes nothing.
+-- `check_hull` meets its contract. Assumes nothing.
 use mathlib.Core.Path.{sym, ◌∙◌}
 use Rattle.hulls.proofs.CodeOpening.{sizes_wrong, persons_wrong, zones_wrong, length_wrong, hull_right, few_zones}
-use Rattle.hulls.proofs.hull_number.Goals as goal
+use Rattle.hulls.proofs.check_hull.Goals as goal
 
 pub returns-then-not-sizes_fit : goal.returns-then-not-sizes_fit
 returns-then-not-sizes_fit c = sizes_wrong _ _ (sym c.sizes_fit.ensures ∙ c.if-not-sizes_fit.true)

@@ -1,8 +1,8 @@
--- `end_number` meets its contract. Assumes nothing.
+-- `check_end` meets its contract. Assumes nothing.
 use mathlib.Core.Path.{sym, ◌∙◌}
 use Rattle.judging.proofs.CodeJudging.{end_miscounts, end_by_closure}
 use native.Mathlib.Omega.{arith}
-use Rattle.judging.proofs.ends.end_number.Goals as goal
+use Rattle.judging.proofs.ends.check_end.Goals as goal
 
 pub returns-then-count-p : goal.returns-then-count-p
 returns-then-count-p c = end_miscounts _ _ _ c.if-count-p.true

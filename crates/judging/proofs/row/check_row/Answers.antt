@@ -1,7 +1,7 @@
--- `row_number` meets its contract. Assumes nothing.
+-- `check_row` meets its contract. Assumes nothing.
 use mathlib.Core.Path.{sym, ◌∙◌}
 use Rattle.judging.proofs.CodeJudging.{both_fit, row_too_many, row_outside, row_disordered, row_by_closure}
-use Rattle.judging.proofs.row.row_number.Goals as goal
+use Rattle.judging.proofs.row.check_row.Goals as goal
 
 pub returns-then-p-ge500 : goal.returns-then-p-ge500
 returns-then-p-ge500 c = row_too_many _ _ _ _ c.if-p-ge500.true

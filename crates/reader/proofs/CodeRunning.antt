@@ -1,5 +1,5 @@
 -- What the loop over the lines keeps: the reading of the whole is that of the rest in the present state, after the rows that are kept. Assumes nothing.
-use Prim.Native.Nat.{ℕ, ◌+◌, ◌-◌, ◌*◌, ◌≤◌, ◌<◌}
+use Prim.Native.Nat.{ℕ, ◌+◌, ◌-◌, ◌*◌, ◌^◌, ◌≤◌, ◌<◌}
 use mathlib.Core.Path.{◌≡◌, refl, sym, ◌∙◌, ap}
 use mathlib.Core.Bool.{true, false}
 use mathlib.Core.List.{List, [], ◌∷◌, ◌++◌}
@@ -68,21 +68,22 @@ module _ (h : Hull) (p : Progress) (l : Line) (n : ℕ) (ls : List Line) (few : 
   taken : (f : Frame) (s : Step) → f ≡ judged h p l → stepped f p n ≡ s → Taken s
   taken f s e g = rw (← g) (by_frame f (sym e))
 
--- ---- the lines from a place on
+-- ---- the lines in turn
 
--- the lines between `from` and `at` have passed and left p, and their rows are kept; the next line is line n, the first was line m
-pub record Running (input : List ℕ) (h : Hull) (from m size : ℕ) (kept : List ℕ) (p : Progress) (at n : ℕ) : Type 0 where
+-- some lines have passed and left p, and their rows are kept; of all of them those are left whose first is line n, and the first of all was line m
+pub record Running (h : Hull) (all : List Line) (m size : ℕ) (kept : List ℕ) (p : Progress) (left : List Line) (n : ℕ) : Type 0 where
   pub few : p.rows ≤ most_rows
   pub long : length kept ≡ size
   pub room : place_width * most_rows + place_width ≤ size
-  pub lines_passed : n ≤ m + at
-  pub same : read_from (inside h start) m (lines (drop from input)) ≡ after (kept_rows p.rows kept 0) (read_from (inside h p) n (lines (drop at input)))
+  pub lines_passed : n + length left ≤ m + length all
+  pub same : read_from (inside h start) m all ≡ after (kept_rows p.rows kept 0) (read_from (inside h p) n left)
 
-pub none_run : (input : List ℕ) (h : Hull) (from m : ℕ) (kept : List ℕ) (p : Progress) → place_width * most_rows + place_width ≤ length kept → p ≡ start → Running input h from m (length kept) kept p from m
+pub none_run : (h : Hull) (all left : List Line) (m : ℕ) (kept : List ℕ) (p : Progress) → place_width * most_rows + place_width ≤ length kept → p ≡ start → left ≡ all →
+    Running h all m (length kept) kept p left m
 unfolding kept_rows
-none_run input h from m kept p r e = rw e (record { few = omega arith; long = refl; room = r; lines_passed = omega arith; same = after_none (read_from (inside h start) m (lines (drop from input))) })
+none_run h all left m kept p r e i = rw (e, i) (record { few = omega arith; long = refl; room = r; lines_passed = omega arith; same = after_none (read_from (inside h start) m all) })
 
-module _ (input : List ℕ) (h : Hull) (from m size : ℕ) (was : List ℕ) (p : Progress) (at n : ℕ) (i : Running input h from m size was p at n) where
+module _ (h : Hull) (all : List Line) (m size : ℕ) (was : List ℕ) (p : Progress) (left : List Line) (n : ℕ) (i : Running h all m size was p left n) where
   wide : place_width * most_rows + place_width ≤ length was
   wide = omega (arith, i.long, i.room)
 
@@ -91,37 +92,38 @@ module _ (input : List ℕ) (h : Hull) (from m size : ℕ) (was : List ℕ) (p :
       Placed (put_mid (p.rows * place_width) (p.rows * place_width + place_width - p.rows * place_width) was part) was p.rows text
   place_written text part w = placed was p.rows text part (p.rows * place_width) (p.rows * place_width + place_width - p.rows * place_width) (omega arith) (omega arith) (omega (arith, i.few, wide)) w
 
-  module _ (end : ℕ) (e : end ≡ at + line_length (drop at input)) (b : at < length input) where
-    abbrev line : Line
-    line = record { text = take (end - at) (drop at input); closed = ltb end (length input) }
+  -- a line, and those after it
+  module _ (line : Line) (others : List Line) (e : left ≡ line ∷ others) where
+    pub line_fits : length all < 2 ^ 63 → m ≤ 4294967296 → n + 1 < 2 ^ 64
+    line_fits few low = omega (arith, i.lines_passed, ap length e, few, low)
 
-    cut : read_from (inside h start) m (lines (drop from input)) ≡ after (kept_rows p.rows was 0) (read_from (inside h p) n (line ∷ lines (drop (end + 1) input)))
-    cut = i.same ∙ rw (lines_next input at end e b) refl
+    cut : read_from (inside h start) m all ≡ after (kept_rows p.rows was 0) (read_from (inside h p) n (line ∷ others))
+    cut = i.same ∙ ap (λ ls. after (kept_rows p.rows was 0) (read_from (inside h p) n ls)) e
 
     -- the line's frame, what it steps to, and the buffer after it
     module _ (f : Frame) (s : Step) (g : f ≡ judged h p line) (k : s ≡ stepped f p n) (kept : List ℕ) (w : Placed kept was p.rows line.text) where
-      pub one_run : (q : Progress) → s ≡ Step.Next q → Running input h from m size kept q (end + 1) (n + 1)
+      pub one_run : (q : Progress) → s ≡ Step.Next q → Running h all m size kept q others (n + 1)
       one_run q d =
-          let (few, same) = taken h p line n (lines (drop (end + 1) input)) i.few kept was wide w f (Step.Next q) g (sym k ∙ d) in
-          record { few = few; long = w.long ∙ i.long; room = i.room; lines_passed = omega (arith, i.lines_passed); same = cut ∙ same }
+          let (few, same) = taken h p line n others i.few kept was wide w f (Step.Next q) g (sym k ∙ d) in
+          record { few = few; long = w.long ∙ i.long; room = i.room; lines_passed = omega (arith, i.lines_passed, ap length e); same = cut ∙ same }
 
-      stops : (x y : ℕ) → s ≡ Step.Refused x y → read_from (inside h start) m (lines (drop from input)) ≡ refused x y
-      stops x y d = cut ∙ rw (taken h p line n (lines (drop (end + 1) input)) i.few kept was wide w f (Step.Refused x y) g (sym k ∙ d)) refl
+      stops : (x y : ℕ) → s ≡ Step.Refused x y → read_from (inside h start) m all ≡ refused x y
+      stops x y d = cut ∙ rw (taken h p line n others i.few kept was wide w f (Step.Refused x y) g (sym k ∙ d)) refl
 
-      pub run_stops : (x y : ℕ) → s ≡ Step.Refused x y → Said (read_from (inside h start) m (lines (drop from input))) h s kept
+      pub run_stops : (x y : ℕ) → s ≡ Step.Refused x y → Said (read_from (inside h start) m all) h s kept
       run_stops x y d = rw (d, stops x y d) (refl, tt)
 
   -- no line is left
-  module _ (b : length input ≤ at) where
-    last : read_from (inside h start) m (lines (drop from input)) ≡ after (kept_rows p.rows was 0) (read_from (inside h p) n [])
-    last = i.same ∙ rw (lines_end input at b) refl
+  module _ (b : left ≡ []) where
+    last : read_from (inside h start) m all ≡ after (kept_rows p.rows was 0) (read_from (inside h p) n [])
+    last = i.same ∙ ap (λ ls. after (kept_rows p.rows was 0) (read_from (inside h p) n ls)) b
 
-    pub run_ends : p.ended ≡ true → Said (read_from (inside h start) m (lines (drop from input))) h (Step.Next p) was
+    pub run_ends : p.ended ≡ true → Said (read_from (inside h start) m all) h (Step.Next p) was
     run_ends e =
         let long : length (kept_rows p.rows was 0) ≡ p.rows = length_kept p.rows was 0 in
         rw (last ∙ after_end (kept_rows p.rows was 0) h p n e, long) (refl, refl)
 
-    pub run_has_no_end : p.ended ≡ false → Said (read_from (inside h start) m (lines (drop from input))) h (Step.Refused 10 n) was
+    pub run_has_no_end : p.ended ≡ false → Said (read_from (inside h start) m all) h (Step.Refused 10 n) was
     run_has_no_end e = rw (last ∙ ap (after (kept_rows p.rows was 0)) (no_end h p n e)) (refl, tt)
 
 -- ---- the whole input

@@ -11,6 +11,7 @@ ghost use Rattle.casefile.specs.Kept.{place_width, Keeps};
 ghost use Rattle.casefile.specs.Told.{frame_told, step_told, judgement_told};
 
 use casefile::{Accepted, Fault, Frame, LONGEST_INPUT, PLACE_WIDTH, Progress, Refused};
+use lines::iter::Lines;
 use records::{Hull, RowHead};
 
 // What a line's frame adds to what is known, or the refusal with the line's number.
@@ -51,6 +52,16 @@ fn at_start() -> Progress
     }
 }
 
+// The lines from a place on: none where that is past the end.
+fn lines_from(input: &[u8], from: usize) -> Lines
+    ensures { lines result.rest.now ≡ lines (drop from input.now) }
+{
+    match input.get(from..) {
+        Some(rest) => Lines { rest },
+        None => Lines { rest: &[] },
+    }
+}
+
 // The lines from a place on, the first of which has the number that is given: the last step, or the first refusal. Each row is kept.
 fn run(input: &[u8], h: Hull, from: usize, first: u64, kept: &mut [u8]) -> Result<Progress, Refused>
     requires { (first ≤ 4294967296) × (place_width * most_rows + place_width ≤ length kept.old) }
@@ -58,29 +69,24 @@ fn run(input: &[u8], h: Hull, from: usize, first: u64, kept: &mut [u8]) -> Resul
     ensures rows { Keeps (read_from (inside h start) first (lines (drop from input.now))) kept.new }
 {
     let mut p = at_start();
-    let mut at = from;
-    let mut line = first;
-    while at < input.len() {
-        let end = lines::line_end(input, at);
-        let closed = end < input.len();
+    let mut number = first;
+    for line in lines_from(input, from) {
         let place = p.rows as usize * PLACE_WIDTH;
         let after = place + PLACE_WIDTH;
-        let frame = judging::judge_line(&input[at..end], closed, h, p, &mut kept[place..after]);
-        // `let .. else`, where `?` would do: document 01's list of forms by place wants it here
-        let stepped = step(frame, p, line);
+        let frame = judging::judge_line(line.text, line.closed, h, p, &mut kept[place..after]);
+        let stepped = step(frame, p, number);
         let Ok(next) = stepped else {
             return stepped;
         };
         p = next;
-        at = end + 1;
-        line = line + 1;
+        number += 1;
     }
     if p.ended {
         return Ok(p);
     }
     Err(Refused {
         fault: Fault::NoEnd,
-        line,
+        line: number,
     })
 }
 

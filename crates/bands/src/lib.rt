@@ -28,6 +28,7 @@ pub struct Ratio {
     pub cm: u64,
 }
 
+#[tactic(auto, unfolding(crate::specs::Bands::band_of))]
 fn band(l: u64, x: u64) -> usize
     requires { (l ≤ 19800) × (x ≤ 19800) }
     ensures { result ≡ band_of l x }
@@ -45,51 +46,57 @@ fn band(l: u64, x: u64) -> usize
 fn over(k: i64) -> u64
     ensures { result ≡ above k }
 {
-    if k < 0 { 0 } else { k as u64 }
+    k.max(0).unsigned_abs()
 }
 
 // How far it is below 0.
 fn under(k: i64) -> u64
-    requires { mag k ≤ 40000 }
     ensures { result ≡ beneath k }
 {
-    if k < 0 { (0 - k) as u64 } else { 0 }
+    k.min(0).unsigned_abs()
 }
 
-// A coefficient times w goes to the side of its sign.
-fn count(s: Sides, k: i64, w: u64) -> Sides
-    requires { (mag k ≤ 40000) × (w ≤ 10 ^ 13) × (s.up ≤ 10 ^ 19) × (s.down ≤ 10 ^ 19) }
-    ensures { result ≡ counted s k w }
-{
-    let up = s.up + over(k) * w;
-    let down = s.down + under(k) * w;
-    Sides { up, down }
+impl Sides {
+    // A coefficient times w goes to the side of its sign.
+    #[tactic(auto, using(crate::proofs::Coefficient::above_term, crate::proofs::Coefficient::beneath_term), unfolding(crate::specs::Bands::counted))]
+    fn count(self, k: i64, w: u64) -> Sides
+        requires { (mag k ≤ 40000) × (w ≤ 10 ^ 13) × (self.up ≤ 10 ^ 19) × (self.down ≤ 10 ^ 19) }
+        ensures { result ≡ counted self k w }
+    {
+        Sides {
+            up: self.up + over(k) * w,
+            down: self.down + under(k) * w,
+        }
+    }
 }
 
 // A row's four coefficients at four numbers.
+#[tactic(auto, using(crate::proofs::Coefficient::none_counted))]
 fn value(row: [i64; 5], w: [u64; 4]) -> Sides
     requires { Small row × Within w }
     ensures { result ≡ valued row w 4 }
 {
+    // By the index: over `row.iter().zip(&w)` it stayed open that the pair of a turn is the row's and w's next.
     let mut s = Sides { up: 0, down: 0 };
-    let mut i: usize = 0;
-    while i < 4 {
-        s = count(s, row[i], w[i]);
-        i = i + 1;
+    for i in 0..4 {
+        s = s.count(row[i], w[i]);
     }
     s
 }
 
 // A row's value over its divisor, where the numbers w are a scale times as large as 1/L, x/L, ..
+#[tactic(auto, using(crate::proofs::Coefficient::read_back), unfolding(crate::specs::Bands::quotient_of))]
 fn quotient(row: [i64; 5], w: [u64; 4], scale: u64, l: u64) -> Ratio
     requires { Ready row w scale l }
     ensures { result ≡ quotient_of row w scale l }
 {
     let s = value(row, w);
     let cm = over(row[4]) * scale;
-    let den = cm * l;
-    let num = s.up - s.down;
-    Ratio { num, den, cm }
+    Ratio {
+        num: s.up - s.down,
+        den: cm * l,
+        cm,
+    }
 }
 
 // The last band's row has the factor L² in each term: left out, the divisor is narrow.

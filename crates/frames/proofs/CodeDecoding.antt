@@ -1,14 +1,14 @@
 -- What the loop over a line's pairs of digits keeps, and what a caller has of the answer and of the buffer. Assumes nothing.
 use Prim.Native.Nat.{ℕ, zero, suc, ◌+◌, ◌-◌, ◌*◌, ◌/◌, ◌%◌, ◌≤◌, ◌<◌}
 use mathlib.Core.Path.{◌≡◌, refl, sym, ◌∙◌, ap}
-use mathlib.Core.Bool.{Bool, true, false, cond, not, ◌&&◌, ◌||◌, or-false, or_assoc}
+use mathlib.Core.Bool.{Bool, true, false, cond, not, ◌&&◌, ◌||◌}
 use mathlib.Core.List.{List, [], ◌∷◌, ◌++◌}
 use native.Mathlib.Nat.{zero-add}
 use native.Mathlib.Numerals.{add-one}
 use native.Mathlib.Omega.{arith}
 use lib.Dec.{eqb}
-use lib.ListN.{length, get_or, take, drop, set, replicate, length-drop, get_or-replicate, drop_of_length-le}
-use lib.Seq.{sets, sets-eq, length-sets, take_at, take-suc, take-add, take-take, take-append-le, drop-append-add, drop-drop, length-take-le, drop-cons}
+use lib.ListN.{length, get_or, take, drop, set, replicate, length-drop, get_or-replicate}
+use lib.Seq.{sets, sets-eq, length-sets, take_at, take-suc, take-add, take-take, take-append-le, drop-append-add, drop-drop, length-take-le}
 use Rattle.laws.proofs.Lists.{sets_append}
 use Rattle.hexadecimal.specs.Hex.{digit_of, refusal_of, mark_of, pairs, byte_of, bytes_of, digits_only, proper}
 use Rattle.hexadecimal.proofs.Marks.{mark_tells, mark_counts}
@@ -52,18 +52,6 @@ written_over was xs a b k l m h r =
 -- a digit more that may be none
 pub other_taken : (s : List ℕ) (k m : ℕ) → k < length s → m ≡ mark_of (digit_of (get_or s k 0)) → (not (digits_only (take k s)) || eqb m 16) ≡ not (digits_only (take (suc k) s))
 other_taken s k m h e = rw (mark_tells (get_or s k 0) m e, digits_taken s k h) (not_both (digits_only (take k s)) (eqb (refusal_of (digit_of (get_or s k 0))) 0))
-
--- the digits from a place on, where `bad` tells of those before it
-module _ (bad : Bool) (s : List ℕ) (k : ℕ) where
-  pub other_next : (m : ℕ) → k < length s → m ≡ mark_of (digit_of (get_or s k 0)) → (bad || eqb m 16 || not (digits_only (drop (k + 1) s))) ≡ (bad || not (digits_only (drop k s)))
-  unfolding digits_only
-  other_next m h e =
-      or_assoc bad (eqb m 16) (not (digits_only (drop (k + 1) s)))
-      ∙ ap (bad ||◌) (rw (mark_tells (get_or s k 0) m e, add-one, drop-cons s k 0 h) (not_both (eqb (refusal_of (digit_of (get_or s k 0))) 0) (digits_only (drop (suc k) s))))
-
-  pub other_ended : length s ≤ k → (bad || not (digits_only (drop k s))) ≡ bad
-  unfolding digits_only
-  other_ended h = rw (drop_of_length-le s h) (or-false bad)
 
 -- a run of stores changes no length, and goes on by a byte
 pub run_long : (was : List ℕ) (i : ℕ) (vs : List ℕ) {out : List ℕ} → out ≡ sets was i vs → length out ≡ length was

@@ -15,10 +15,8 @@ fn values(text: &[u8], at: usize) -> [u8; 32]
     ensures { result ≡ tabulate (λ k. mark_at text.now (at + k)) 32 }
 {
     let mut v = [0u8; 32];
-    let mut k: usize = 0;
-    while k < 32 {
+    for k in 0..32 {
         v[k] = value_of(text[at + k]);
-        k = k + 1;
     }
     v
 }
@@ -28,10 +26,8 @@ fn some_other(v: [u8; 32]) -> bool
     ensures { result ≡ other_below v 32 }
 {
     let mut bad = false;
-    let mut k: usize = 0;
-    while k < 32 {
-        bad = bad | (v[k] == 16);
-        k = k + 1;
+    for value in v {
+        bad |= value == 16;
     }
     bad
 }
@@ -43,20 +39,12 @@ fn decode_sixteen(text: &[u8], out: &mut [u8], i: usize) -> bool
     ensures buffer { out.new ≡ sets out.old i (take 16 (drop i (bytes_of text.now))) }
 {
     let v = values(text, i * 2);
-    let mut k: usize = 0;
-    while k < 16 {
+    for k in 0..16 {
         let h = v[2 * k];
         let l = v[2 * k + 1];
         out[i + k] = h % 16 * 16 + l % 16;
-        k = k + 1;
     }
     some_other(v)
-}
-
-fn lesser(a: usize, b: usize) -> usize
-    ensures { result ≡ min a b }
-{
-    if a <= b { a } else { b }
 }
 
 // Writes the bytes of the first m pairs to the front of the buffer, one by one, and says whether one of their digits is none.
@@ -66,13 +54,12 @@ fn decode_few(text: &[u8], out: &mut [u8], m: usize) -> bool
     ensures buffer { out.new ≡ sets out.old 0 (take m (bytes_of text.now)) }
 {
     let mut bad = false;
-    let mut i: usize = 0;
-    while i < m {
+    for i in 0..m {
         let h = value_of(text[i * 2]);
         let l = value_of(text[i * 2 + 1]);
-        bad = bad | (h == 16) | (l == 16);
+        bad |= h == 16;
+        bad |= l == 16;
         out[i] = h % 16 * 16 + l % 16;
-        i = i + 1;
     }
     bad
 }
@@ -90,22 +77,20 @@ fn decode_pairs(text: &[u8], out: &mut [u8], m: usize) -> bool
     let mut bad = false;
     let mut i: usize = 0;
     while i < m {
-        let at = lesser(i, m - 16);
-        bad = bad | decode_sixteen(text, out, at);
+        let at = i.min(m - 16);
+        bad |= decode_sixteen(text, out, at);
         i = at + 16;
     }
     bad
 }
 
-// Whether a byte from a place on is no digit.
-fn other_from(text: &[u8], at: usize) -> bool
-    ensures { result ≡ not (digits_only (drop at text.now)) }
+// Whether one of a text's bytes is no digit.
+fn has_other(text: &[u8]) -> bool
+    ensures { result ≡ not (digits_only text.now) }
 {
     let mut bad = false;
-    let mut i = at;
-    while i < text.len() {
-        bad = bad | (value_of(text[i]) == 16);
-        i = i + 1;
+    for &byte in text {
+        bad |= value_of(byte) == 16;
     }
     bad
 }
@@ -116,9 +101,9 @@ pub fn decode_text(text: &[u8], out: &mut [u8]) -> Option<usize>
     ensures buffer { out.new ≡ sets out.old 0 (bytes_of text.now) }
 {
     let n = text.len() / 2;
-    let m = lesser(n, out.len());
+    let m = n.min(out.len());
     let front = decode_pairs(text, out, m);
-    let rest = other_from(text, m * 2);
+    let rest = has_other(&text[m * 2..]);
     if front | rest | (text.len() % 2 == 1) | (n == 0) {
         return None;
     }

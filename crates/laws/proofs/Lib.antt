@@ -6,6 +6,7 @@ pub mod Choice
 pub mod Sums
 pub mod Listed
 pub mod Lists
+pub mod Arrays
 pub mod Made
 pub mod Pieces
 pub mod Every

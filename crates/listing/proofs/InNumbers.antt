@@ -1,9 +1,9 @@
 -- The rows as numbers, row by row: twenty each. Assumes nothing.
 use Prim.Native.Nat.{ℕ, suc, ◌+◌, ◌-◌, ◌*◌, ◌≤◌, ◌<◌}
 use mathlib.Core.Path.{◌≡◌, refl, sym, ◌∙◌, ap, subst}
-use mathlib.Core.List.{List, [], ◌∷◌, ◌++◌}
+use mathlib.Core.List.{List, [], ◌∷◌, ◌++◌, append_assoc}
 use native.Mathlib.Omega.{arith}
-use lib.ListN.{length, set, drop, length-append}
+use lib.ListN.{length, take, drop, length-append}
 use lib.Seq.{sets, sets-eq, drop-drop}
 use borrow.Rule.Slice.PartMut.{put_mid}
 use Rattle.laws.proofs.Lists.{sets_append}
@@ -54,11 +54,11 @@ pub six_told : (v : ℕ) (s : Survival) (adds : Ends) {n : ℕ} {e : Ends} → e
 unfolding six_numbers
 six_told v s adds p q = rw (p, q) refl
 
-pub six_copied : (at : ℕ) (xs : List ℕ) (v : ℕ) (s : Survival) (adds : Ends) {six : List ℕ} → at + 6 ≤ length xs → six ≡ six_numbers v s adds → put_mid at (at + 6 - at) xs six ≡ sets xs at (six_numbers v s adds)
-unfolding six_numbers
-six_copied at xs v s adds h e =
-    let k : at + 6 - at ≡ 6 = omega arith in
-    rw (k, e, drop-drop 6 at xs) (sym (sets-eq (six_numbers v s adds) xs at h))
+-- k numbers, copied to their place
+pub copied : (at k : ℕ) (xs ys : List ℕ) {new : List ℕ} → length ys ≡ k → at + k ≤ length xs → new ≡ ys → put_mid at (at + k - at) xs new ≡ sets xs at ys
+copied at k xs ys l h e =
+    let n : at + k - at ≡ length ys = omega (arith, l) in
+    rw (n, e, drop-drop (length ys) at xs, ← append_assoc (take at xs) ys (drop (at + length ys) xs)) (sym (sets-eq ys xs at (omega (arith, l))))
 
 -- two, and six after six
 pub row_put : (share : Ends) (vs : List ℕ) (ss : List Survival) (at : ℕ) (xs : List ℕ) {ws bs cs ds : List ℕ} → ws ≡ sets xs at (share.lower ∷ share.upper ∷ []) →

@@ -5,6 +5,8 @@ use native.Mathlib.Nat.{le_trans, lt_of_lt_of_le, lt_of_le_of_lt, mul-le-mul, mu
 use native.Mathlib.Omega.{arith}
 use Rattle.laws.proofs.Choice.{split}
 use Rattle.laws.proofs.Rounding.{floor_upper}
+use Rattle.records.specs.declared.Rounded.{Rounded}
+use Rattle.moments.specs.declared.FinalStage.{FinalStage}
 use Rattle.moments.specs.Held.{Rooted, Held, Beside}
 use Rattle.moments.proofs.Rooted.{rooted_exactly, rooted_between, ends_ordered, ends_near, strictly_within, strictly_reaches}
 use Rattle.moments.proofs.Against.{power_positive, not_above, not_below, below_by_number, below_by_root, above_by_number, above_by_root}
@@ -21,7 +23,25 @@ rest_beyond f t n low whole rest h e = let d : f + (t - f) ≡ t = omega arith i
     plainly d k = omega (arith, e, ap (λ x. x * n) k)
 
 -- ---- the ends f and t of s-final, each times s-mom
-module _ {f t e c n m : ℕ} (h : Held f t e c n m) where
+module _ {ends : Rounded} {stage : FinalStage} (h : Held ends stage) where
+  abbrev f : ℕ
+  f = ends.bottom
+
+  abbrev t : ℕ
+  t = ends.top
+
+  abbrev e : ℕ
+  e = stage.fourth
+
+  abbrev c : ℕ
+  c = stage.caps
+
+  abbrev n : ℕ
+  n = stage.righting
+
+  abbrev m : ℕ
+  m = stage.heeling
+
   -- the lower one rounded down, and how far the upper one lies above that, in parts of which 1000·m are one
   abbrev low : ℕ
   low = f * n / (1000 * m)
@@ -89,7 +109,7 @@ module _ {f t e c n m : ℕ} (h : Held f t e c n m) where
       (λ k. let apart = lt_of_lt_of_le next k in above_by_root (low + 1) t e c n m (some apart) reached (strictly_reaches h.caps_positive h.rooted (ends_apart apart)))
       (λ k. above_by_number (low + 1) t e c n m h.caps_positive k h.rooted.reaches))
 
-  pub held_beside : 1000 * m < more → Beside low e c n m
+  pub held_beside : 1000 * m < more → Beside low stage
   held_beside k =
       let apart : f * n < t * n = omega (arith, upper_end, next, k) in
       let near : t * n ≤ (f + 1) * n = mul-le-mul_right n (ends_near h.caps_positive h.rooted) in
@@ -106,12 +126,18 @@ module _ {f t e c n m : ℕ} (h : Held f t e c n m) where
       }
 
 -- ---- a survival between `low` and the next number but one, against the number between them
-module _ {low e c n m : ℕ} (h : Beside low e c n m) where
-  pub below_middle : e * n ^ 4 < (low + 1) ^ 4 * (c * m ^ 4) → Rooted (e * n ^ 4) (c * m ^ 4) low (low + 1)
+module _ {low : ℕ} {stage : FinalStage} (h : Beside low stage) where
+  abbrev survival : ℕ
+  survival = stage.fourth * stage.righting ^ 4
+
+  abbrev below_line : ℕ
+  below_line = stage.caps * stage.heeling ^ 4
+
+  pub below_middle : survival < (low + 1) ^ 4 * below_line → Rooted survival below_line low (low + 1)
   below_middle k = rooted_between low h.above k
 
-  pub at_middle : (low + 1) ^ 4 * (c * m ^ 4) ≤ e * n ^ 4 → e * n ^ 4 ≤ (low + 1) ^ 4 * (c * m ^ 4) → Rooted (e * n ^ 4) (c * m ^ 4) (low + 1) (low + 1)
+  pub at_middle : (low + 1) ^ 4 * below_line ≤ survival → survival ≤ (low + 1) ^ 4 * below_line → Rooted survival below_line (low + 1) (low + 1)
   at_middle k l = rooted_exactly (low + 1) (mul-pos h.caps_positive (power_positive h.heeling_positive)) k l
 
-  pub above_middle : (low + 1) ^ 4 * (c * m ^ 4) < e * n ^ 4 → Rooted (e * n ^ 4) (c * m ^ 4) (low + 1) (low + 1 + 1)
+  pub above_middle : (low + 1) ^ 4 * below_line < survival → Rooted survival below_line (low + 1) (low + 1 + 1)
   above_middle k = let next : low + 2 ≡ low + 1 + 1 = omega arith in rooted_between (low + 1) k (rw next at h.below)

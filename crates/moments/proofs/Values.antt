@@ -7,7 +7,8 @@ use Rattle.moments.specs.Held.{Rooted, Held}
 use Rattle.moments.proofs.Rooted.{rooted_exactly, rooted_between}
 
 -- at 8,000 t and a heeling moment of 500 tm s-mom is 4/5: four fifths of 0.9306 and of 0.9307 have 0.7445 between them, and the survival is 0.74448
-pub ferry : Held 9306 9307 (90 * 1600 * 640000) 12288000 (50 * 8000) 500 × Rooted (90 * 1600 * 640000 * (50 * 8000) ^ 4) (12288000 * 500 ^ 4) 7444 7445
+pub ferry : Held (record { bottom = 9306; top = 9307 }) (record { fourth = 90 * 1600 * 640000; caps = 12288000; righting = 50 * 8000; heeling = 500 }) ×
+    Rooted (90 * 1600 * 640000 * (50 * 8000) ^ 4) (12288000 * 500 ^ 4) 7444 7445
 ferry = (
   record {
     rooted = rooted_between 9306 (lit< tt) (lit< tt);

@@ -11,6 +11,7 @@ use Rattle.laws.proofs.FractionRing.{⊛_comm}
 use Rattle.laws.proofs.Tests.{picked}
 use Rattle.records.specs.declared.Finding.{Finding}
 use Rattle.records.specs.declared.Flooding.{Flooding}
+use Rattle.records.specs.declared.Rounded.{Rounded}
 use Rattle.solas.specs.Passengers.{lever_cap, range_cap, final⁴, intermediate⁴}
 use Rattle.solas.proofs.Survival.{capped_at_most}
 use Rattle.solas.proofs.Passengers.{is_final⁴, is_intermediate⁴, is_s_mom, is_fourth, s_mom_one}
@@ -23,8 +24,7 @@ use Rattle.results.specs.Parts.{InParts, parts}
 use Rattle.results.proofs.Parts.{nothing_parts, parts_below, lesser_parts, rounded_parts, ratio_crossed}
 use Rattle.survival.specs.Survival.{root, ends, fourth_power, scaled_of, rounded_of}
 use Rattle.survival.specs.Passengers.{int_of, final_of, mom_of}
-use Rattle.survival.specs.declared.Roots.{Roots}
-use Rattle.survival.proofs.Factors.{same_roots}
+use Rattle.survival.proofs.Factors.{same_rounded}
 use Rattle.survival.proofs.Bounds.{proper}
 use Rattle.survival.specs.Worse.{LesserEnds}
 use Rattle.survival.proofs.Worse.{lesser_has_lesser_ends, bottom_rises, top_rises}
@@ -103,7 +103,7 @@ module _ (f : Finding) (w : Flooding) {c : Caps} (h : Suits w.roro c) (some : 1 
 
   -- not borne in full: s-final is rounded, and held down
   module _ (l : righting < 1000 * w.moment) where
-    pub held_asked : w.moment ≤ 2000000 → {r : Roots} → r ≡ rounded_of (parts (fourth * c.parts)) → Held r.bottom r.top fourth c.below righting w.moment
+    pub held_asked : w.moment ≤ 2000000 → {r : Rounded} → r ≡ rounded_of (parts (fourth * c.parts)) → Held r (record { fourth = fourth; caps = c.below; righting = righting; heeling = w.moment })
     unfolding rounded_of scaled_of
     held_asked m e =
         let p = last_parts.at_most_one in
@@ -122,12 +122,12 @@ module _ (f : Finding) (w : Flooding) {c : Caps} (h : Suits w.roro c) (some : 1 
         let n : min righting (1000 * w.moment) ≡ righting = omega arith in
         is_written (is_⊛ (final_is h f.lever f.range f.heel) (is_fourth (rw n at (is_s_mom f.lever w.displacement some)))) (omega arith) (omega arith) refl
 
-    held_ends : {bottom top : ℕ} → Rooted (fourth * righting ^ 4) (c.below * w.moment ^ 4) bottom top → ◌≡◌ {A = Roots} (record { bottom = bottom; top = top }) (ends (root held))
+    held_ends : {bottom top : ℕ} → Rooted (fourth * righting ^ 4) (c.below * w.moment ^ 4) bottom top → ◌≡◌ {A = Rounded} (record { bottom = bottom; top = top }) (ends (root held))
     unfolding rounded_of scaled_of
     held_ends r =
         let s = held_sensible f w some in
         let e = held_rounded fourth h.some (ratio_positive held) (proper s) righting some (ratio_crossed s.0 held_is) r in
-        same_roots e.0 e.1
+        same_rounded e.0 e.1
 
     -- not borne at all
     pub none_rooted : righting ≡ 0 → Rooted (fourth * righting ^ 4) (c.below * w.moment ^ 4) 0 0
@@ -144,19 +144,19 @@ module _ (f : Finding) (w : Flooding) {c : Caps} (h : Suits w.roro c) (some : 1 
       high = ap (λ r. r.top) (held_ends r)
 
       -- the intermediate stage is no worse than the final one, and so than that held down
-      pub final_counts : {n : ℕ} → InParts (int_of w) n → fourth * c.parts ≤ n → ◌≡◌ {A = Roots} (record { bottom = bottom; top = top }) (ends (root (lesser (int_of w) held)))
+      pub final_counts : {n : ℕ} → InParts (int_of w) n → fourth * c.parts ≤ n → ◌≡◌ {A = Rounded} (record { bottom = bottom; top = top }) (ends (root (lesser (int_of w) held)))
       final_counts k m =
           let below = ≼_trans (product_below_first (final_sensible f w) (fourth_power_sensible (mom_sensible f w some))) (parts_below last_parts k m) in
           let p = held_sensible f w some in
           let q = int_sensible f w in
-          same_roots (omega (arith, low, both.bottom, bottom_rises p q below)) (omega (arith, high, both.top, top_rises p q below))
+          same_rounded (omega (arith, low, both.bottom, bottom_rises p q below)) (omega (arith, high, both.top, top_rises p q below))
 
       -- nothing is the lesser of whatever and nothing
-      pub nothing_counts : bottom ≡ 0 → top ≡ 0 → ◌≡◌ {A = Roots} (record { bottom = 0; top = 0 }) (ends (root (lesser (int_of w) held)))
-      nothing_counts p q = same_roots (omega (arith, low, both.bottom, p)) (omega (arith, high, both.top, q))
+      pub nothing_counts : bottom ≡ 0 → top ≡ 0 → ◌≡◌ {A = Rounded} (record { bottom = 0; top = 0 }) (ends (root (lesser (int_of w) held)))
+      nothing_counts p q = same_rounded (omega (arith, low, both.bottom, p)) (omega (arith, high, both.top, q))
 
-      pub lesser_counts : {n a b : ℕ} {s : Roots} → InParts (int_of w) n → s ≡ rounded_of (parts n) → a ≡ min s.bottom bottom → b ≡ min s.top top →
-          ◌≡◌ {A = Roots} (record { bottom = a; top = b }) (ends (root (lesser (int_of w) held)))
+      pub lesser_counts : {n a b : ℕ} {s : Rounded} → InParts (int_of w) n → s ≡ rounded_of (parts n) → a ≡ min s.bottom bottom → b ≡ min s.top top →
+          ◌≡◌ {A = Rounded} (record { bottom = a; top = b }) (ends (root (lesser (int_of w) held)))
       lesser_counts {s = s} k e p q =
           let there : s ≡ ends (root (int_of w)) = e ∙ rounded_parts k in
-          same_roots (rw (p, there, low) (sym both.bottom)) (rw (q, there, high) (sym both.top))
+          same_rounded (rw (p, there, low) (sym both.bottom)) (rw (q, there, high) (sym both.top))

@@ -3,66 +3,61 @@ ghost use Rattle.std.specs.Prelude.{◌≡◌};
 ghost use Rattle.printing.specs.Marks.{mark_byte};
 ghost use Rattle.probes.specs.Passengers.{loads, survival_told, final_of, flooding_of};
 
-use records::{Finding, Flooding, Marks, Survival};
+use records::{Finding, Flooding, Survival};
 
 // Whether lever, displacement and moment keep the limits of a case file.
-fn are_loads(lever: u64, displacement: u64, moment: u64) -> bool
-    ensures { result ≡ loads lever displacement moment }
+#[tactic(auto, unfolding(crate::specs::Passengers::loads, casefile::specs::Limits::between))]
+fn are_loads(f: Finding, w: Flooding) -> bool
+    ensures { result ≡ loads f.lever w.displacement w.moment }
 {
-    (lever <= 5000)
-        & ((1 <= displacement) & (displacement <= 300000))
-        & ((1 <= moment) & (moment <= 2000000))
+    f.lever <= 5_000
+        && (1..=300_000).contains(&w.displacement)
+        && (1..=2_000_000).contains(&w.moment)
 }
 
+// What is told of a result and its loads: zeros outside the limits.
 fn told(f: Finding, w: Flooding) -> Survival
     ensures { result ≡ survival_told f w }
 {
-    if !are_loads(f.lever, w.displacement, w.moment) {
-        let marks = Marks {
-            lever: false,
-            range: false,
-            heel: false,
-            opening: false,
-        };
-        return Survival {
-            bottom: 0,
-            top: 0,
-            marks,
-        };
+    if are_loads(f, w) {
+        passengers::passenger_survival(f, w)
+    } else {
+        Survival::default()
     }
-    passengers::passenger_survival(f, w)
 }
 
-fn survival(
-    lever: u64,
-    range: u64,
-    heel: u64,
-    opening: i64,
-    displacement: u64,
-    moment: u64,
-    midlever: u64,
-    midrange: u64,
-    midheel: u64,
-    roro: u64,
-) -> Survival
-    ensures { result ≡ survival_told (final_of lever range heel opening) (flooding_of displacement moment midlever midrange midheel roro) }
+// What was found at the final stage.
+fn final_stage(lever: u64, range: u64, heel: u64, opening: i64) -> Finding
+    ensures { result ≡ final_of lever range heel opening }
 {
-    let f = Finding {
+    Finding {
         lever,
         range,
         heel,
         opening,
         given: 0,
-    };
-    let w = Flooding {
+    }
+}
+
+// What a row tells besides.
+fn flooding(
+    displacement: u64,
+    moment: u64,
+    lever: u64,
+    range: u64,
+    heel: u64,
+    roro: u64,
+) -> Flooding
+    ensures { result ≡ flooding_of displacement moment lever range heel roro }
+{
+    Flooding {
         displacement,
         moment,
-        lever: midlever,
-        range: midrange,
-        heel: midheel,
+        lever,
+        range,
+        heel,
         roro,
-    };
-    told(f, w)
+    }
 }
 
 // The bottom, from what was found at the final stage, the loads, and an intermediate stage.
@@ -81,19 +76,9 @@ pub extern "C" fn probe_passenger_bottom(
 ) -> u64
     ensures { result ≡ (survival_told (final_of lever range heel opening) (flooding_of displacement moment midlever midrange midheel roro)).bottom }
 {
-    survival(
-        lever,
-        range,
-        heel,
-        opening,
-        displacement,
-        moment,
-        midlever,
-        midrange,
-        midheel,
-        roro,
-    )
-    .bottom
+    let f = final_stage(lever, range, heel, opening);
+    let w = flooding(displacement, moment, midlever, midrange, midheel, roro);
+    told(f, w).bottom
 }
 
 // The top.
@@ -112,19 +97,9 @@ pub extern "C" fn probe_passenger_top(
 ) -> u64
     ensures { result ≡ (survival_told (final_of lever range heel opening) (flooding_of displacement moment midlever midrange midheel roro)).top }
 {
-    survival(
-        lever,
-        range,
-        heel,
-        opening,
-        displacement,
-        moment,
-        midlever,
-        midrange,
-        midheel,
-        roro,
-    )
-    .top
+    let f = final_stage(lever, range, heel, opening);
+    let w = flooding(displacement, moment, midlever, midrange, midheel, roro);
+    told(f, w).top
 }
 
 // The byte of the marks.
@@ -143,17 +118,7 @@ pub extern "C" fn probe_passenger_marks(
 ) -> u64
     ensures { result ≡ mark_byte (survival_told (final_of lever range heel opening) (flooding_of displacement moment midlever midrange midheel roro)).marks }
 {
-    let s = survival(
-        lever,
-        range,
-        heel,
-        opening,
-        displacement,
-        moment,
-        midlever,
-        midrange,
-        midheel,
-        roro,
-    );
-    printing::mark_byte(s.marks)
+    let f = final_stage(lever, range, heel, opening);
+    let w = flooding(displacement, moment, midlever, midrange, midheel, roro);
+    printing::mark_byte(told(f, w).marks)
 }

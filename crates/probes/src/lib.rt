@@ -11,6 +11,7 @@ ghost use Rattle.printing.specs.Marks.{mark_byte};
 ghost use Rattle.survival.specs.Survival.{survival_of};
 
 use casefile::{Accepted, KEPT, Refused};
+use records::Finding;
 
 pub mod ferry; // a passenger ship's survival
 pub mod shares; // rows' shares by the one span table
@@ -27,7 +28,14 @@ pub extern "C" fn probe_bottom(
 ) -> u64
     ensures { result ≡ (survival_of kind (record { lever = lever; range = range; heel = heel; opening = opening; given = given })).bottom }
 {
-    results::survival(kind, lever, range, heel, opening, given).bottom
+    let f = Finding {
+        lever,
+        range,
+        heel,
+        opening,
+        given,
+    };
+    results::survival(kind, f).bottom
 }
 
 // Its top.
@@ -42,7 +50,14 @@ pub extern "C" fn probe_top(
 ) -> u64
     ensures { result ≡ (survival_of kind (record { lever = lever; range = range; heel = heel; opening = opening; given = given })).top }
 {
-    results::survival(kind, lever, range, heel, opening, given).top
+    let f = Finding {
+        lever,
+        range,
+        heel,
+        opening,
+        given,
+    };
+    results::survival(kind, f).top
 }
 
 // The byte of its marks.
@@ -57,8 +72,14 @@ pub extern "C" fn probe_marks(
 ) -> u64
     ensures { result ≡ mark_byte (survival_of kind (record { lever = lever; range = range; heel = heel; opening = opening; given = given })).marks }
 {
-    let s = results::survival(kind, lever, range, heel, opening, given);
-    printing::mark_byte(s.marks)
+    let f = Finding {
+        lever,
+        range,
+        heel,
+        opening,
+        given,
+    };
+    printing::mark_byte(results::survival(kind, f).marks)
 }
 
 // A row's v at a draught, over the row below it.

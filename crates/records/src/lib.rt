@@ -22,7 +22,7 @@ pub struct Hull {
 // A row's result at one draught, at the final stage of flooding. Kinds 2, 5 and 7: what the customer's program found, the righting lever in millimetres, its
 // range and the heel in hundredths of a degree, the height of the critical opening above the final waterline in millimetres
 // (below 0 it is immersed), and given is 0. Kind 3: a given survival in ten-thousandths, the others 0.
-#[derive(Clone, Copy)]
+#[derive(Clone, Copy, Default)]
 pub struct Finding {
     pub lever: u64,
     pub range: u64,
@@ -69,9 +69,16 @@ pub struct Ratio {
     pub den: u64,
 }
 
+// A survival in ten-thousandths, rounded down and up: the exact one is not below the bottom and not above the top.
+#[derive(Clone, Copy, Default)]
+pub struct Rounded {
+    pub bottom: u64,
+    pub top: u64,
+}
+
 // What holds a survival down, yes or no: the lever is below its cap, the range below its cap, the heel above that from which survival
 // falls (of a cargo ship 120, 1,600 and 2,500), the critical opening is immersed.
-#[derive(Clone, Copy)]
+#[derive(Clone, Copy, Default)]
 pub struct Marks {
     pub lever: bool,
     pub range: bool,
@@ -80,7 +87,7 @@ pub struct Marks {
 }
 
 // A survival factor in ten-thousandths: the exact one is not below the bottom and not above the top. And its marks: a given one has none.
-#[derive(Clone, Copy)]
+#[derive(Clone, Copy, Default)]
 pub struct Survival {
     pub bottom: u64,
     pub top: u64,

@@ -2,17 +2,16 @@
 // where an opening is immersed. Of two results at a draught the worse counts, by that number.
 #![tactic(auto)]
 
-ghost use Rattle.std.specs.Prelude.{◌≡◌, ◌++◌, ◌*◌, ◌/◌, ◌^◌, ◌≤◌, min};
-ghost use Rattle.solas.specs.Survival.{k, s⁴, immersed, unless_immersed};
+ghost use Rattle.std.specs.Prelude.{◌≡◌, ◌++◌, ◌*◌, ◌/◌, ◌^◌, ◌≤◌};
+ghost use Rattle.solas.specs.Survival.{k, immersed};
 ghost use Rattle.records.specs.Results.{found};
 ghost use Rattle.results.specs.Parts.{Parts, InParts, parts};
 ghost use Rattle.survival.specs.Marks.{found_marks};
-ghost use Rattle.survival.specs.Survival.{scaled_of, rounded_of, survival_of, worse_of, survivals_of};
+ghost use Rattle.survival.specs.Survival.{fourth_of, rounded_of, survival_of, worse_of, survivals_of};
 
-use numbers::ceiling;
-use records::{Finding, Marks, Survival};
+use records::{Finding, Marks, Rounded, Survival};
 use roots::{root_down, root_up};
-use survival::{Multiple, Roots};
+use std::array;
 
 // The caps of lever (mm) and range (hundredths of a degree), and the heels between which survival falls to nothing.
 const LEVER: u64 = 120;
@@ -31,25 +30,18 @@ const FALL: u64 = (LOST - UPRIGHT) * (LOST - UPRIGHT);
 // 168·10¹⁶, the 168ths of 10⁻¹⁶ that make one: whatever s⁴ is divided by, of either ship type, goes into it without a rest.
 pub const PARTS: u64 = 1_680_000_000_000_000_000;
 
-// The lesser of two numbers.
-pub fn lesser(a: u64, b: u64) -> u64
-    ensures { result ≡ min a b }
-{
-    if a <= b { a } else { b }
-}
-
 // k of a heel in hundredths of a degree, in parts so small that lever times range times k comes to 168ths of 10⁻¹⁶.
 fn heel_factor(heel: u64) -> u64
     ensures { Parts (168 * 10 ^ 16 / (120 * 1600)) (k heel) result }
 {
-    if heel <= UPRIGHT {
-        return PARTS / CAPS;
+    match heel {
+        ..=UPRIGHT => PARTS / CAPS,
+        LOST.. => 0,
+        _ => {
+            let left = LOST - heel;
+            left * left * (PARTS / (CAPS * FALL))
+        }
     }
-    if heel >= LOST {
-        return 0;
-    }
-    let left = LOST - heel;
-    left * left * (PARTS / (CAPS * FALL))
 }
 
 // Whether an opening at a height above the final waterline in millimetres is immersed: at 0 it is not yet.
@@ -60,84 +52,64 @@ pub fn is_immersed(opening: i64) -> bool
 }
 
 // s⁴ of what was found, exactly, in 168ths of 10⁻¹⁶: nothing where the opening is immersed.
-fn fourth(lever: u64, range: u64, heel: u64, opening: i64) -> u64
-    ensures { InParts (unless_immersed opening (s⁴ lever range heel)) result }
+fn fourth(f: Finding) -> u64
+    ensures { InParts (fourth_of f) result }
 {
-    if is_immersed(opening) {
+    if is_immersed(f.opening) {
         return 0;
     }
-    let g = lesser(lever, LEVER);
-    let t = lesser(range, RANGE);
-    let k = heel_factor(heel);
-    g * t * k
-}
-
-// 10¹⁶ times so many 168ths of 10⁻¹⁶.
-fn scaled(n: u64) -> Multiple
-    ensures { result ≡ scaled_of (parts n) }
-{
-    Multiple {
-        down: n / 168,
-        up: ceiling(n, 168),
-    }
+    f.lever.min(LEVER) * f.range.min(RANGE) * heel_factor(f.heel)
 }
 
 // The fourth root of so many 168ths of 10⁻¹⁶ in ten-thousandths: the greatest not above it, the least not below. Nothing and one, which it often is, need
 // no root.
-pub fn rounded(n: u64) -> Roots
+pub fn rounded(n: u64) -> Rounded
     requires { n ≤ 168 * 10 ^ 16 }
     ensures { result ≡ rounded_of (parts n) }
 {
-    if n == 0 {
-        return Roots { bottom: 0, top: 0 };
-    }
-    if n == PARTS {
-        return Roots {
+    match n {
+        0 => Rounded::default(),
+        PARTS => Rounded {
             bottom: 10_000,
             top: 10_000,
-        };
+        },
+        _ => {
+            let bottom = root_down(n / 168);
+            let top = root_up(bottom, n.div_ceil(168));
+            Rounded { bottom, top }
+        }
     }
-    let s = scaled(n);
-    let bottom = root_down(s.down);
-    let top = root_up(bottom, s.up);
-    Roots { bottom, top }
 }
 
 // What holds the survival of what was found down: lever and range below their caps, the heel above that from which k falls, an immersed opening.
-fn marks(lever: u64, range: u64, heel: u64, opening: i64) -> Marks
-    ensures { result ≡ found_marks lever range heel opening }
+fn marks(f: Finding) -> Marks
+    ensures { result ≡ found_marks f.lever f.range f.heel f.opening }
 {
     Marks {
-        lever: lever < LEVER,
-        range: range < RANGE,
-        heel: UPRIGHT < heel,
-        opening: is_immersed(opening),
+        lever: f.lever < LEVER,
+        range: f.range < RANGE,
+        heel: UPRIGHT < f.heel,
+        opening: is_immersed(f.opening),
     }
 }
 
-// The survival of a result by its numbers: of a row of kind 3 as it is given, with no mark; of another from what was found.
-pub fn survival(kind: u64, lever: u64, range: u64, heel: u64, opening: i64, given: u64) -> Survival
-    ensures { result ≡ survival_of kind (record { lever = lever; range = range; heel = heel; opening = opening; given = given }) }
+// The survival of a result: of a row of kind 3 as it is given, with no mark; of another from what was found.
+// A kind stays a number, here and below: `survival_of` tells of any number, and a type of the four kinds would ask more of a caller.
+pub fn survival(kind: u64, f: Finding) -> Survival
+    ensures { result ≡ survival_of kind f }
 {
     if kind == 3 {
-        let marks = Marks {
-            lever: false,
-            range: false,
-            heel: false,
-            opening: false,
-        };
         return Survival {
-            bottom: given,
-            top: given,
-            marks,
+            bottom: f.given,
+            top: f.given,
+            marks: Marks::default(),
         };
     }
-    let s = rounded(fourth(lever, range, heel, opening));
-    let marks = marks(lever, range, heel, opening);
+    let Rounded { bottom, top } = rounded(fourth(f));
     Survival {
-        bottom: s.bottom,
-        top: s.top,
-        marks,
+        bottom,
+        top,
+        marks: marks(f),
     }
 }
 
@@ -146,69 +118,23 @@ pub fn survivals(kind: u64, fs: [Finding; 3]) -> [Survival; 3]
     requires { (kind ≡ 5 → ⊥) × (kind ≡ 7 → ⊥) }
     ensures { result ≡ survivals_of kind (found fs) }
 {
-    let deepest = fs[0];
-    let partial = fs[1];
-    let light = fs[2];
-    [
-        survival(
-            kind,
-            deepest.lever,
-            deepest.range,
-            deepest.heel,
-            deepest.opening,
-            deepest.given,
-        ),
-        survival(
-            kind,
-            partial.lever,
-            partial.range,
-            partial.heel,
-            partial.opening,
-            partial.given,
-        ),
-        survival(
-            kind,
-            light.lever,
-            light.range,
-            light.heel,
-            light.opening,
-            light.given,
-        ),
-    ]
+    fs.map(|f| survival(kind, f))
 }
 
 // Of two results at one draught the survival of the worse, by the exact s⁴: the first's marks when they are equal.
 fn worse(f: Finding, g: Finding) -> Survival
     ensures { result ≡ survival_of 5 (worse_of f g) }
 {
-    let a = fourth(f.lever, f.range, f.heel, f.opening);
-    let b = fourth(g.lever, g.range, g.heel, g.opening);
-    let s = rounded(lesser(a, b));
-    let marks = if a <= b {
-        marks(f.lever, f.range, f.heel, f.opening)
-    } else {
-        marks(g.lever, g.range, g.heel, g.opening)
-    };
-    Survival {
-        bottom: s.bottom,
-        top: s.top,
-        marks,
-    }
+    let a = fourth(f);
+    let b = fourth(g);
+    let Rounded { bottom, top } = rounded(a.min(b));
+    let marks = if a <= b { marks(f) } else { marks(g) };
+    Survival { bottom, top, marks }
 }
 
 // The survivals of a row of kind 5, from its two sets of results: at each draught the lower.
 pub fn worse_survivals(first: [Finding; 3], second: [Finding; 3]) -> [Survival; 3]
     ensures { result ≡ survivals_of 5 (found (first ++ second)) }
 {
-    let deepest = first[0];
-    let partial = first[1];
-    let light = first[2];
-    let deepest_again = second[0];
-    let partial_again = second[1];
-    let light_again = second[2];
-    [
-        worse(deepest, deepest_again),
-        worse(partial, partial_again),
-        worse(light, light_again),
-    ]
+    array::from_fn(|j| worse(first[j], second[j]))
 }

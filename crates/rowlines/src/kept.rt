@@ -6,16 +6,23 @@ use super::readers;
 use casefile::PLACE_WIDTH;
 use records::{Finding, Flooding, RowHead};
 
+// The bytes of place i.
+fn place(kept: &[u8], i: usize) -> &[u8]
+    requires { place_width * i + place_width ≤ length kept.now }
+    ensures bytes { result.now ≡ take place_width (drop (place_width * i) kept.now) }
+    ensures width { length result.now ≡ place_width }
+{
+    let at = PLACE_WIDTH * i;
+    &kept[at..at + PLACE_WIDTH]
+}
+
 // The head of the row at place i.
 pub fn head_at(kept: &[u8], i: usize) -> RowHead
     requires { place_width * i + place_width ≤ length kept.now }
     ensures { result ≡ (kept_row kept.now i).head }
 {
-    let place = PLACE_WIDTH * i;
-    let after = place + 1;
-    let next = place + PLACE_WIDTH;
-    let kind = kept[place] as u64;
-    readers::head(kind, &kept[after..next])
+    let row = place(kept, i);
+    readers::head(u64::from(row[0]), &row[1..])
 }
 
 // Its first set of results, of a row of that kind.
@@ -23,10 +30,8 @@ pub fn first_at(kept: &[u8], i: usize, kind: u64) -> [Finding; 3]
     requires { (place_width * i + place_width ≤ length kept.now) × (kind ≡ (kept_row kept.now i).head.kind) }
     ensures { result ≡ take 3 (kept_row kept.now i).results.findings }
 {
-    let place = PLACE_WIDTH * i;
-    let first = place + 7;
-    let next = place + PLACE_WIDTH;
-    readers::set(kind, &kept[first..next])
+    let row = place(kept, i);
+    readers::set(kind, &row[7..])
 }
 
 // The second set of a row of kind 05.
@@ -34,10 +39,8 @@ pub fn second_at(kept: &[u8], i: usize) -> [Finding; 3]
     requires { (place_width * i + place_width ≤ length kept.now) × ((kept_row kept.now i).head.kind ≡ 5) }
     ensures { result ≡ drop 3 (kept_row kept.now i).results.findings }
 {
-    let place = PLACE_WIDTH * i;
-    let second = place + 31;
-    let next = place + PLACE_WIDTH;
-    readers::set(5, &kept[second..next])
+    let row = place(kept, i);
+    readers::set(5, &row[31..])
 }
 
 // What a row of kind 07 tells besides.
@@ -45,8 +48,6 @@ pub fn floodings_at(kept: &[u8], i: usize) -> [Flooding; 3]
     requires { (place_width * i + place_width ≤ length kept.now) × ((kept_row kept.now i).head.kind ≡ 7) }
     ensures { result ≡ (kept_row kept.now i).results.floodings }
 {
-    let place = PLACE_WIDTH * i;
-    let first = place + 31;
-    let next = place + PLACE_WIDTH;
-    readers::floodings(&kept[first..next])
+    let row = place(kept, i);
+    readers::floodings(&row[31..])
 }

@@ -3,6 +3,7 @@ ghost use Rattle.std.specs.Prelude.{◌≡◌, ◌+◌, ◌*◌, ◌≤◌, leng
 ghost use Rattle.casefile.specs.Layout.{frame_length, head_of, result_length, finding_of, set_of, flooding_length, flooding_of, floodings_of};
 
 use records::{Finding, Flooding, RowHead};
+use std::array;
 
 pub fn head(kind: u64, f: &[u8]) -> RowHead
     requires { 6 ≤ length f.now }
@@ -22,21 +23,18 @@ fn finding(kind: u64, f: &[u8]) -> Finding
     requires { result_length kind ≤ length f.now }
     ensures { result ≡ finding_of kind f.now }
 {
-    if kind == 3 {
-        return Finding {
-            lever: 0,
-            range: 0,
-            heel: 0,
-            opening: 0,
+    match kind {
+        3 => Finding {
             given: fields::word_in(f, 0),
-        };
-    }
-    Finding {
-        lever: fields::word_in(f, 0),
-        range: fields::word_in(f, 2),
-        heel: fields::word_in(f, 4),
-        opening: fields::signed_in(f, 6),
-        given: 0,
+            ..Finding::default()
+        },
+        _ => Finding {
+            lever: fields::word_in(f, 0),
+            range: fields::word_in(f, 2),
+            heel: fields::word_in(f, 4),
+            opening: fields::signed_in(f, 6),
+            given: 0,
+        },
     }
 }
 
@@ -44,10 +42,10 @@ fn finding(kind: u64, f: &[u8]) -> Finding
 fn result_length(kind: u64) -> usize
     ensures { result ≡ result_length kind }
 {
-    if kind == 3 {
-        return 2;
+    match kind {
+        3 => 2,
+        _ => 8,
     }
-    8
 }
 
 // A set of results, one at each draught, in the order deepest, partial, light, read from where it starts.
@@ -55,13 +53,8 @@ pub fn set(kind: u64, f: &[u8]) -> [Finding; 3]
     requires { 3 * result_length kind ≤ length f.now }
     ensures { result ≡ set_of kind f.now }
 {
-    let partial = result_length(kind);
-    let light = 2 * partial;
-    [
-        finding(kind, f),
-        finding(kind, &f[partial..]),
-        finding(kind, &f[light..]),
-    ]
+    let length = result_length(kind);
+    array::from_fn(|j| finding(kind, &f[j * length..]))
 }
 
 // What a passenger ship's row tells at one draught besides, read from where it starts.
@@ -84,10 +77,11 @@ pub fn floodings(f: &[u8]) -> [Flooding; 3]
     requires { 3 * flooding_length ≤ length f.now }
     ensures { result ≡ floodings_of f.now }
 {
-    [flooding(f), flooding(&f[15..]), flooding(&f[30..])]
+    array::from_fn(|j| flooding(&f[15 * j..]))
 }
 
 // The bytes of a frame after the hull, by its kind.
+#[tactic(auto, unfolding(casefile::specs::Layout::frame_length))]
 pub fn frame_length(kind: u64) -> usize
     ensures { result ≡ frame_length kind }
 {

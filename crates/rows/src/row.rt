@@ -13,7 +13,7 @@ use super::survivals::survivals_at;
 use super::{Part, Running, Standing};
 use chances::{Sums, row_ends};
 use groups::subdivision::Subdivision;
-use records::{Ends, Marks, RowHead, Survival, Trio};
+use records::{Ends, RowHead, Survival, Trio};
 use rowlines::kept::head_at;
 
 // Where a row stands after one that stood at y.
@@ -100,17 +100,6 @@ pub fn begin() -> Running
     let group = Sums { added, taken };
     let share = Ends { lower: 0, upper: 0 };
     let part = Part { group, share };
-    let marks = Marks {
-        lever: false,
-        range: false,
-        heel: false,
-        opening: false,
-    };
-    let none = Survival {
-        bottom: 0,
-        top: 0,
-        marks,
-    };
     let sums = Trio {
         lower: [0, 0, 0],
         upper: [0, 0, 0],
@@ -118,7 +107,7 @@ pub fn begin() -> Running
     Running {
         standing,
         part,
-        survivals: [none, none, none],
+        survivals: [Survival::default(); 3],
         sums,
     }
 }

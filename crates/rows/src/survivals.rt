@@ -15,13 +15,9 @@ pub fn survivals_at(kept: &[u8], i: usize, kind: u64) -> [Survival; 3]
     ensures { result ≡ survivals_of (kept_row kept.now i).head.kind (kept_row kept.now i).results }
 {
     let first = first_at(kept, i, kind);
-    if kind == 5 {
-        let second = second_at(kept, i);
-        return worse_survivals(first, second);
+    match kind {
+        5 => worse_survivals(first, second_at(kept, i)),
+        7 => passenger_survivals(first, floodings_at(kept, i)),
+        _ => survivals(kind, first),
     }
-    if kind == 7 {
-        let floodings = floodings_at(kept, i);
-        return passenger_survivals(first, floodings);
-    }
-    survivals(kind, first)
 }

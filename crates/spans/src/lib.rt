@@ -25,19 +25,15 @@ pub struct SpanEnds {
 }
 
 // How many ends of the ship the span from aft to fwd touches, by their places.
+#[tactic(auto, unfolding(solas::specs::Span::touch))]
 pub fn ends_touched(l: u64, aft: u64, fwd: u64) -> u64
     ensures { result ≡ touches (touch l aft fwd) }
 {
-    if aft == 0 {
-        if fwd == l { 2 } else { 1 }
-    } else if fwd == l {
-        1
-    } else {
-        0
-    }
+    u64::from(aft == 0) + u64::from(fwd == l)
 }
 
 // P of a span at one end: (p + x/L)/2.
+#[tactic(auto, using(crate::proofs::Span::one_end_proper, crate::proofs::Span::part_at_most, crate::proofs::Span::one_end_ends))]
 fn at_one_end(l: u64, x: u64, r: Ratio) -> Ends
     requires { (1 ≤ l) × (x ≤ l) × Chance (p l x) l r }
     ensures { result ≡ ends_of (PAt one l x) }
@@ -53,23 +49,14 @@ fn span_ends(l: u64, aft: u64, fwd: u64) -> SpanEnds
     let x = fwd - aft;
     let r = inner(l, x);
     let p = billionths(r.num, r.den);
-    let t = ends_touched(l, aft, fwd);
-    if t == 0 {
-        return SpanEnds {
-            inner: p,
-            chance: p,
-        };
-    }
-    if t == 2 {
-        return SpanEnds {
-            inner: p,
-            chance: Ends {
-                lower: 1_000_000_000,
-                upper: 1_000_000_000,
-            },
-        };
-    }
-    let chance = at_one_end(l, x, r);
+    let chance = match ends_touched(l, aft, fwd) {
+        0 => p,
+        2 => Ends {
+            lower: 1_000_000_000,
+            upper: 1_000_000_000,
+        },
+        _ => at_one_end(l, x, r),
+    };
     SpanEnds { inner: p, chance }
 }
 
@@ -78,10 +65,8 @@ fn put_span(s: SpanEnds, t: &mut [u64], k: usize)
     requires { k + 4 ≤ length t.old }
     ensures { t.new ≡ sets t.old k (numbers_of s) }
 {
-    t[k] = s.inner.lower;
-    t[k + 1] = s.inner.upper;
-    t[k + 2] = s.chance.lower;
-    t[k + 3] = s.chance.upper;
+    let numbers = [s.inner.lower, s.inner.upper, s.chance.lower, s.chance.upper];
+    t[k..k + 4].copy_from_slice(&numbers);
 }
 
 // Zeros from a place of the table on.
@@ -89,11 +74,7 @@ fn clear(t: &mut [u64], from: usize)
     requires { (from ≤ 840) × (length t.old ≡ 840) }
     ensures { t.new ≡ sets t.old from (replicate (840 - from) 0) }
 {
-    let mut k = from;
-    while k < TABLE {
-        t[k] = 0;
-        k += 1;
-    }
+    t[from..TABLE].fill(0);
 }
 
 // The ends of p and P of every span of a hull's zones, worked out once: by their last zone, and then by their first. The span from zone i to zone j,
@@ -102,37 +83,32 @@ pub fn fill_table(h: Hull, t: &mut [u64])
     requires { Hulled h × (length t.old ≡ 840) }
     ensures { t.new ≡ table_of h }
 {
-    let mut i: usize = 0;
-    let mut j: usize = 0;
     let mut k: usize = 0;
-    while j < h.zones {
-        let s = span_ends(h.length, h.places[i], h.places[j + 1]);
-        put_span(s, t, k);
-        k += 4;
-        if i < j {
-            i += 1;
-        } else {
-            i = 0;
-            j += 1;
+    for j in 0..h.zones {
+        for i in 0..=j {
+            let s = span_ends(h.length, h.places[i], h.places[j + 1]);
+            put_span(s, t, k);
+            k += 4;
         }
     }
     clear(t, k);
 }
 
 // p and P of the zones from a to e, read from the table.
+#[tactic(auto, using(crate::proofs::Table::place_few), unfolding(crate::specs::Table::span_in))]
 pub fn span_of(t: &[u64], a: usize, e: usize) -> SpanEnds
     requires { (1 ≤ a) × (a ≤ e) × (e ≤ 20) × (length t.now ≡ 840) }
     ensures { result ≡ span_in t.now a e }
 {
     let k = 2 * (e - 1) * e + 4 * (a - 1);
-    let low_p = t[k];
-    let high_p = t[k + 1];
-    let lower = t[k + 2];
-    let upper = t[k + 3];
-    let inner = Ends {
-        lower: low_p,
-        upper: high_p,
-    };
-    let chance = Ends { lower, upper };
-    SpanEnds { inner, chance }
+    SpanEnds {
+        inner: Ends {
+            lower: t[k],
+            upper: t[k + 1],
+        },
+        chance: Ends {
+            lower: t[k + 2],
+            upper: t[k + 3],
+        },
+    }
 }

@@ -17,7 +17,7 @@ use Rattle.roots.proofs.RootValue.{down_root, up_root}
 use Rattle.numbers.specs.Ratio.{ratio_of}
 use Rattle.numbers.proofs.Ratios.{ratio_positive, is_ratio}
 use Rattle.survival.specs.Survival.{fourth_power, Factor, root, given, ends, Sensible, Bottom, Top, BottomAndTop, scaled_of, rounded_of, ten_thousandths, NotAbove, NotBelow}
-use Rattle.survival.proofs.Factors.{same_roots, times_down, times_up}
+use Rattle.survival.proofs.Factors.{same_rounded, times_down, times_up}
 -- checked first, so that a definition that gives another number is refused there
 use Rattle.survival.proofs.Values.{apart, one}
 
@@ -109,7 +109,7 @@ top_same e p =
 pub ends_same : {f g : Fraction} → f ≈ g → Sensible (root f) → ends (root f) ≡ ends (root g)
 ends_same {f} {g} e h =
     let k : Sensible (root g) = (≼_trans h.0 (≼_of_≈ e), ≼_trans (≼_of_≈ (≈_sym e)) h.1) in
-    same_roots (bottom_unique (bottom_same e (bottom_is h)) (bottom_is k)) (top_unique (top_same e (top_is h)) (top_is k))
+    same_rounded (bottom_unique (bottom_same e (bottom_is h)) (bottom_is k)) (top_unique (top_same e (top_is h)) (top_is k))
 
 -- ---- the bottom is one exactly where s⁴ is
 pub bottom_one : {f : Fraction} → Sensible (root f) → ((ends (root f)).bottom ≡ 10 ^ 4) ↔ (f ≈ whole 1)

@@ -1,7 +1,7 @@
 -- Multiples of a fraction that is at most one, and survivals kind by kind, with a dry opening and with an immersed one. Assumes nothing.
 use Prim.Native.Nat.{ℕ, ◌*◌, ◌/◌, ◌^◌, ◌≤◌, ◌<◌}
 use mathlib.Core.Bool.{Bool, true, false, cond}
-use mathlib.Core.Path.{◌≡◌, refl, ap, ◌∙◌}
+use mathlib.Core.Path.{◌≡◌, refl, ap, ap₂, ◌∙◌}
 use native.Mathlib.Nat.{div-le_of_le-mul, mul-le-mul_left}
 use native.Mathlib.Omega.{arith}
 use lib.Dec.{eqb, lit<}
@@ -12,13 +12,14 @@ use Rattle.laws.specs.Rounding.{ceil}
 use Rattle.laws.proofs.Fraction.{is_whole, below}
 use Rattle.laws.proofs.Rounding.{ceil_least}
 use Rattle.records.specs.declared.Finding.{Finding}
+use Rattle.records.specs.declared.Marks.{Marks}
+use Rattle.records.specs.declared.Rounded.{Rounded}
+use Rattle.records.specs.declared.Survival.{Survival}
 use Rattle.solas.specs.Survival.{s⁴, immersed, unless_immersed}
 use Rattle.solas.proofs.Survival.{s⁴_not_negative, s⁴_at_most_one, lost_if_immersed, kept_if_dry, either_way}
 use Rattle.numbers.specs.Ratio.{ratio_of}
 use Rattle.survival.specs.Marks.{found_marks, unmarked, marks_of}
-use Rattle.survival.specs.Survival.{root, given, fourth_of, Sensible, factor_of, rounded_of, marked, survival_of}
-use Rattle.survival.specs.declared.Multiple.{Multiple}
-use Rattle.survival.specs.declared.Roots.{Roots}
+use Rattle.survival.specs.Survival.{Multiple, root, given, fourth_of, no_survival, Sensible, factor_of, rounded_of, marked, survival_of}
 use Rattle.survival.proofs.Values.{none}
 
 -- ---- s times n/d is at most s where n/d is at most one
@@ -32,8 +33,18 @@ module _ (s : ℕ) {n d : ℕ} (hd : 0 < d) (h : n ≤ d) where
 pub same_multiple : {a b c d : ℕ} → a ≡ c → b ≡ d → ◌≡◌ {A = Multiple} (record { down = a; up = b }) (record { down = c; up = d })
 same_multiple p q = cc
 
-pub same_roots : {a b c d : ℕ} → a ≡ c → b ≡ d → ◌≡◌ {A = Roots} (record { bottom = a; top = b }) (record { bottom = c; top = d })
-same_roots p q = cc
+pub same_rounded : {a b c d : ℕ} → a ≡ c → b ≡ d → ◌≡◌ {A = Rounded} (record { bottom = a; top = b }) (record { bottom = c; top = d })
+same_rounded p q = cc
+
+-- ---- the default marks and survival, as the code has them
+none_marked : {a b c d : Bool} → a ≡ false → b ≡ false → c ≡ false → d ≡ false → record { lever = a; range = b; heel = c; opening = d } ≡ unmarked
+none_marked p q r s = cc
+
+pub default_marks : (m : Marks) → (m.lever ≡ false) × ((m.range ≡ false) × ((m.heel ≡ false) × (m.opening ≡ false))) → m ≡ unmarked
+default_marks m h = none_marked h.0 h.1.0 h.1.1.0 h.1.1.1
+
+pub default_survival : (s : Survival) → (s.bottom ≡ 0) × ((s.top ≡ 0) × ((s.marks.lever ≡ false) × ((s.marks.range ≡ false) × ((s.marks.heel ≡ false) × (s.marks.opening ≡ false))))) → s ≡ no_survival
+default_survival s h = ap₂ marked (same_rounded h.0 h.1.0) (default_marks s.marks h.1.1)
 
 -- ---- kind by kind
 pub as_given : (kind : ℕ) (f : Finding) → kind ≡ 3 → survival_of kind f ≡ record { bottom = f.given; top = f.given; marks = unmarked }

@@ -7,14 +7,13 @@ use Rattle.roots.specs.Root.{root_down, root_up}
 use Rattle.records.specs.declared.Finding.{Finding}
 use Rattle.records.specs.declared.Flooding.{Flooding}
 use Rattle.records.specs.declared.Marks.{Marks}
+use Rattle.records.specs.declared.Rounded.{Rounded}
 use Rattle.records.specs.declared.Survival.{Survival}
 use Rattle.records.specs.Results.{Results}
 use Rattle.solas.specs.Survival.{s⁴, unless_immersed}
 use Rattle.solas.specs.Passengers.{final⁴, intermediate⁴, s_mom, together⁴}
 use Rattle.numbers.specs.Ratio.{ratio_of}
 use Rattle.records.specs.declared.Ratio.{Ratio}
-use Rattle.survival.specs.declared.Multiple.{Multiple}
-use Rattle.survival.specs.declared.Roots.{Roots}
 use Rattle.survival.specs.Marks.{unmarked, marks_of, passenger_marks}
 
 -- the fourth root of a fraction, or so many ten-thousandths
@@ -30,19 +29,24 @@ fourth_of f = unless_immersed f.opening (s⁴ f.lever f.range f.heel)
 unfoldable pub factor_of : ℕ → Finding → Factor
 factor_of kind f = cond (eqb kind 3) (given f.given) (root (fourth_of f))
 
+-- 10¹⁶ times a fraction, rounded down and up
+pub record Multiple : Type 0 where
+  pub down : ℕ
+  pub up : ℕ
+
 unfoldable pub scaled_of : Ratio → Multiple
 scaled_of f = record { down = 10 ^ 16 * f.num / f.den; up = ceil (10 ^ 16 * f.num) f.den }
 
-unfoldable pub rounded_of : Ratio → Roots
+unfoldable pub rounded_of : Ratio → Rounded
 rounded_of f = record { bottom = root_down (scaled_of f).down; top = root_up (scaled_of f).up }
 
 -- "A row with given survival has bottom = top"
-abbrev pub ends : Factor → Roots
+abbrev pub ends : Factor → Rounded
 ends (root f) = rounded_of (ratio_of f)
 ends (given n) = record { bottom = n; top = n }
 
 -- a result's survival: its ends, and its marks
-abbrev pub marked : Roots → Marks → Survival
+abbrev pub marked : Rounded → Marks → Survival
 marked r m = record { bottom = r.bottom; top = r.top; marks = m }
 
 unfoldable pub survival_of : ℕ → Finding → Survival

@@ -1,16 +1,2 @@
-// Theorems only: survival, its marks and which of two results counts are in specs/, what is proved of them in proofs/. What a survival is rounded by stands here.
+// Theorems only: survival, its marks and which of two results counts are in specs/, what is proved of them in proofs/.
 #![tactic(auto)]
-
-// 10¹⁶ times a fraction, rounded down and up.
-#[derive(Clone, Copy)]
-pub struct Multiple {
-    pub down: u64,
-    pub up: u64,
-}
-
-// A fourth root in ten-thousandths, rounded down and up.
-#[derive(Clone, Copy)]
-pub struct Roots {
-    pub bottom: u64,
-    pub top: u64,
-}

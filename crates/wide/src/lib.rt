@@ -4,10 +4,12 @@
 ghost use Rattle.std.specs.Prelude.{◌≡◌, ◌+◌, ◌*◌, ◌^◌, ◌<◌, leb};
 ghost use Rattle.wide.specs.Limbs.{value, limit, Limbs, Writes, Placed, Carried};
 
-// One more than the largest limb.
-const BASE: u64 = 4_294_967_296;
+use std::array;
 
-const LARGEST_LIMB: u64 = 4_294_967_295;
+// One more than the largest limb.
+const BASE: u64 = 1 << 32;
+
+const LARGEST_LIMB: u64 = BASE - 1;
 
 // A limb of a sum, and what is carried to the next.
 #[derive(Clone, Copy)]
@@ -84,14 +86,7 @@ fn complement(w: [u64; 6]) -> [u64; 6]
     requires { Limbs w }
     ensures { Limbs result × (value result + value w + 1 ≡ limit) }
 {
-    [
-        LARGEST_LIMB - w[0],
-        LARGEST_LIMB - w[1],
-        LARGEST_LIMB - w[2],
-        LARGEST_LIMB - w[3],
-        LARGEST_LIMB - w[4],
-        LARGEST_LIMB - w[5],
-    ]
+    array::from_fn(|i| LARGEST_LIMB - w[i])
 }
 
 // Whether a is not above b. Where it is above, a and what b is short of the largest wide number come to more than that number, and something is carried out.

@@ -16,7 +16,7 @@ decode_sixteen-bad-requires c = (omega arith, omega (arith, as_long _ _ _ _ _ c.
 pub loop-i-preserved : goal.loop-i-preserved
 loop-i-preserved c =
     let e = c.decode_sixteen-bad.ensures in
-    (omega arith, pairs_read _ _ _ _ _ c.loop-i.invariant.1 c.lesser-at.result 16 (omega arith) (omega arith) (omega arith) (omega arith) e.result e.buffer)
+    (omega arith, pairs_read _ _ _ _ _ c.loop-i.invariant.1 c.min-at.result 16 (omega arith) (omega arith) (omega arith) (omega arith) e.result e.buffer)
 
 pub shape_of-out : goal.shape_of-out
 shape_of-out c = as_long _ _ _ _ _ c.loop-i.invariant.1

@@ -4,13 +4,13 @@ use native.Mathlib.Omega.{arith}
 use Rattle.frames.proofs.CodeTurns.{other_none, other_more}
 use Rattle.frames.proofs.some_other.Goals as goal
 
-pub loop-k-init : goal.loop-k-init
-loop-k-init c = (omega arith, other_none _)
+pub loop-value-init : goal.loop-value-init
+loop-value-init c = other_none _
 
-pub loop-k-preserved : goal.loop-k-preserved
-loop-k-preserved c = (omega arith, other_more _ _ c.loop-k.invariant.1)
+pub loop-value-preserved : goal.loop-value-preserved
+loop-value-preserved c = other_more _ _ c.loop-value.invariant
 
 pub returns : goal.returns
 returns c =
-    let e : c.loop-k.k ≡ 32 = omega arith in
-    rw (← e) c.loop-k.invariant.1
+    let e : c.loop-value.value-index ≡ 32 = omega arith in
+    rw (← e) c.loop-value.invariant

@@ -1,4 +1,4 @@
--- `sixteen` meets its contract: the places passed are filled. Assumes nothing.
+-- `values` meets its contract: the places passed are filled. Assumes nothing.
 use mathlib.Core.Path.{refl}
 use Rattle.laws.proofs.Lists.{none_filled, one_filled, all_filled}
 use native.Mathlib.Omega.{arith}

@@ -1,17 +1,9 @@
--- `spans::put_span` meets its contract: four stores. Assumes nothing.
+-- `spans::put_span` meets its contract: what is copied is the four numbers. Assumes nothing.
 use native.Mathlib.Omega.{arith}
-use lib.ListN.{length-set}
-use Rattle.spans.proofs.Filling.{four_stores}
+use Prim.Native.Nat.{◌+◌}
+use Rattle.spans.specs.Table.{numbers_of}
+use Rattle.spans.proofs.Filling.{part_set}
 use Rattle.spans.proofs.put_span.Goals as goal
 
-pub bounds-t-k-2 : goal.bounds-t-k-2
-bounds-t-k-2 c = simp length-set (omega (arith, c.requires))
-
-pub bounds-t-k-3 : goal.bounds-t-k-3
-bounds-t-k-3 c = simp length-set (omega (arith, c.requires))
-
-pub bounds-t-k-4 : goal.bounds-t-k-4
-bounds-t-k-4 c = simp length-set (omega (arith, c.requires))
-
 pub returns : goal.returns
-returns c = four_stores c.args.s c.args.t.now c.args.k
+returns c = part_set c.args.t.now (numbers_of c.args.s) c.args.k (c.args.k + 4) (omega arith) c.requires (omega arith) c.copy_from_slice.ensures.after

@@ -1,25 +1,11 @@
 -- `wide::complement` meets its contract, limb by limb. Assumes nothing.
-use native.Mathlib.Omega.{arith}
-use Rattle.wide.proofs.Limbs.{complement_limbs}
+use Rattle.std.proofs.Common.{arith, ◌≡◌, ◌-◌, ◌^◌, get_or}
+use Rattle.std.proofs.lemmas.Grind.{common_steps}
+use Rattle.wide.proofs.Limbs.{six, complement_limbs}
 use Rattle.wide.proofs.complement.Goals as goal
 
-pub overflow_sub-result : goal.overflow_sub-result
-overflow_sub-result c = omega (arith, c.requires.small 0)
-
-pub overflow_sub-result-2 : goal.overflow_sub-result-2
-overflow_sub-result-2 c = omega (arith, c.requires.small 1)
-
-pub overflow_sub-result-3 : goal.overflow_sub-result-3
-overflow_sub-result-3 c = omega (arith, c.requires.small 2)
-
-pub overflow_sub-result-4 : goal.overflow_sub-result-4
-overflow_sub-result-4 c = omega (arith, c.requires.small 3)
-
-pub overflow_sub-result-5 : goal.overflow_sub-result-5
-overflow_sub-result-5 c = omega (arith, c.requires.small 4)
-
-pub overflow_sub-result-6 : goal.overflow_sub-result-6
-overflow_sub-result-6 c = omega (arith, c.requires.small 5)
-
 pub returns : goal.returns
-returns c = complement_limbs c.requires
+returns c =
+    let w = c.args.w in
+    let e : c.from_fn.result ≡ six (2 ^ 32 - 1 - get_or w 0 0) (2 ^ 32 - 1 - get_or w 1 0) (2 ^ 32 - 1 - get_or w 2 0) (2 ^ 32 - 1 - get_or w 3 0) (2 ^ 32 - 1 - get_or w 4 0) (2 ^ 32 - 1 - get_or w 5 0) = grind (arith, common_steps) in
+    rw e (complement_limbs c.requires)

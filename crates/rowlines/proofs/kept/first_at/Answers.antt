@@ -7,4 +7,4 @@ pub set-requires : goal.set-requires
 set-requires c = omega (arith, longest_set c.args.kind)
 
 pub returns : goal.returns
-returns c = first_kept c.args.kept.now c.args.i c.args.kind _ c.requires.1 c.set.ensures
+returns c = first_kept c.args.kept.now c.args.i _ c.place-row.ensures.bytes c.args.kind _ c.requires.1 c.set.ensures

@@ -1,8 +1,8 @@
--- `passengers::caps_of` meets its contract. Assumes nothing.
+-- `passengers::Caps::of` meets its contract. Assumes nothing.
 use mathlib.Core.Path.{refl}
 use borrow.Author.Tests.{eq-eqb, ne_eqb}
 use Rattle.passengers.specs.Numbers.{caps_of}
-use Rattle.passengers.proofs.caps_of.Goals as goal
+use Rattle.passengers.proofs.Caps.of.Goals as goal
 
 pub returns-then-roro-eq1 : goal.returns-then-roro-eq1
 unfolding caps_of

@@ -1,9 +1,9 @@
--- `moments::compared` meets its contract: below the number between, at it, or above. Assumes nothing.
+-- `moments::FinalStage::compared` meets its contract: below the number between, at it, or above. Assumes nothing.
 use borrow.Author.Tests.{leb-true, leb-false}
 use mathlib.Core.Path.{sym, ◌∙◌}
 use Rattle.wide.specs.Limbs.{value}
 use Rattle.moments.proofs.Held.{below_middle, at_middle, above_middle}
-use Rattle.moments.proofs.compared.Goals as goal
+use Rattle.moments.proofs.FinalStage.compared.Goals as goal
 
 pub returns-then-not-at_most : goal.returns-then-not-at_most
 returns-then-not-at_most c =

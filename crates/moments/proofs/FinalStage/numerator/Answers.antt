@@ -1,17 +1,17 @@
--- `moments::numerator` meets its contract: 64 bits hold the square. Assumes nothing.
+-- `moments::FinalStage::numerator` meets its contract: 64 bits hold the square. Assumes nothing.
 use mathlib.Core.List.{[]}
 use mathlib.Core.Path.{◌∙◌}
 use native.Mathlib.Omega.{arith}
 use Rattle.laws.proofs.Polynomial.{◌:*◌, ◌:^◌, ◌:=◌, ◌⊢◌, poly2}
 use Rattle.moments.proofs.Against.{square_fits}
-use Rattle.moments.proofs.numerator.Goals as goal
+use Rattle.moments.proofs.FinalStage.numerator.Goals as goal
 
 pub overflow_mul-square : goal.overflow_mul-square
-overflow_mul-square c = omega (arith, square_fits c.args.righting c.requires)
+overflow_mul-square c = omega (arith, square_fits c.args.self.righting c.requires)
 
 pub returns : goal.returns
 returns c =
-    let a = c.args in
+    let a = c.args.self in
     record {
       limbs = c.product.ensures.limbs;
       number = c.product.ensures.number ∙ poly2 (λ e n. [] ⊢ e :* (n :* n) :* (n :* n) := e :* n :^ 4) tt a.fourth a.righting;

@@ -3,7 +3,7 @@ use Rattle.std.specs.Prelude.{ℕ, ◌*◌, cond, List, [], ◌∷◌, ◌++◌,
 use Rattle.records.specs.declared.Answer.{Answer}
 use Rattle.records.specs.declared.Ends.{Ends}
 use Rattle.records.specs.declared.Hull.{Hull}
-use Rattle.records.specs.declared.Trio.{Trio}
+use Rattle.records.specs.Ends.{no_ends}
 use Rattle.numbers.specs.Ratio.{ratio_of}
 use Rattle.indices.specs.Index.{partials, attained_of}
 use Rattle.verdicts.specs.Required.{required_of, mark_of}
@@ -16,11 +16,11 @@ use Rattle.rows.specs.Work.{shares_from, adds_from, numbers}
 -- ---- a case
 
 -- As, Ap, Al
-unfoldable pub partials_of : Case → Trio
+unfoldable pub partials_of : Case → List Ends
 partials_of c = partials (adds_from c.hull nowhere c.rows)
 
 -- A, the verdict, and the partial indices that they come from, for a hull and so many rows
-unfoldable pub figures : Hull → ℕ → Trio → Answer
+unfoldable pub figures : Hull → ℕ → List Ends → Answer
 figures h rows ps =
     record {
       number = 0;
@@ -39,11 +39,8 @@ shares c = numbers (shares_from c.hull nowhere c.rows)
 
 -- ---- any input, and a sheet of so many numbers
 
-abbrev pub no_ends : Ends
-no_ends = record { lower = 0; upper = 0 }
-
-abbrev pub zeros : Trio
-zeros = record { lower = 0 ∷ 0 ∷ 0 ∷ []; upper = 0 ∷ 0 ∷ 0 ∷ [] }
+abbrev pub zeros : List Ends
+zeros = no_ends ∷ no_ends ∷ no_ends ∷ []
 
 -- "A refusal returns number and line, zeros otherwise"
 abbrev pub refusal : ℕ → ℕ → Answer

@@ -11,10 +11,12 @@ use mir.Syntax.{w64}
 use Rattle.std.specs.Int.{bytes_high_first, to_be_bytes}
 use Rattle.laws.specs.Bytes.{bytes}
 use Rattle.laws.proofs.Bytes.{length_bytes}
-use Rattle.records.specs.declared.Trio.{Trio}
+use Rattle.records.specs.declared.Ends.{Ends}
+use Rattle.records.specs.Ends.{no_ends}
 use Rattle.hexadecimal.specs.Hex.{digit, hex}
 use Rattle.digits.specs.Splice.{splice}
 use Rattle.digits.specs.Fields.{ends_field, partial_field, partials_field}
+use Rattle.digits.proofs.Splice.{splice_none}
 use Rattle.digits.proofs.Text.{two_digits, digits_then}
 
 -- ---- how long each is
@@ -23,11 +25,11 @@ pub length_ends : (lower upper : ℕ) → length (ends_field lower upper) ≡ 8
 unfolding ends_field
 length_ends lower upper = rw (length-append, length_bytes 4 lower, length_bytes 4 upper) refl
 
-pub length_partial : (t : Trio) (j : ℕ) → length (partial_field t j) ≡ 8
+pub length_partial : (t : List Ends) (j : ℕ) → length (partial_field t j) ≡ 8
 unfolding partial_field
 length_partial t j = length_ends _ _
 
-pub length_partials : (t : Trio) → length (partials_field t) ≡ 24
+pub length_partials : (t : List Ends) → length (partials_field t) ≡ 24
 unfolding partials_field
 length_partials t = simp (length-append, length_partial) refl
 
@@ -80,13 +82,28 @@ module _ (at : ℕ) (xs : List ℕ) {ys zs : List ℕ} where
   unfolding ends_field
   ends_written lower upper p q = digits_then at (at + 8) (bytes 4 lower) (bytes 4 upper) xs (omega (arith, length_bytes 4 lower)) p q
 
-module _ (at : ℕ) (t : Trio) (xs : List ℕ) {ys zs us : List ℕ} where
-  pub partials_written : ys ≡ splice at (hex (partial_field t 0)) xs →
-      zs ≡ splice (at + 16) (hex (partial_field t 1)) ys → us ≡ splice (at + 32) (hex (partial_field t 2)) zs →
-      us ≡ splice at (hex (partials_field t)) xs
-  unfolding partials_field
-  partials_written p q r =
-      digits_then at (at + 32) (partial_field t 0 ++ partial_field t 1) (partial_field t 2) xs
-      (simp (length-append, length_partial) (omega arith))
-      (digits_then at (at + 16) (partial_field t 0) (partial_field t 1) xs (omega (arith, length_partial t 0)) p q)
-      r
+-- ---- draught by draught
+
+-- the ends of the partial indices at the first j draughts
+pub fields_below : List Ends → ℕ → List ℕ
+fields_below t zero = []
+fields_below t (suc j) = fields_below t j ++ partial_field t j
+
+length_below : (t : List Ends) (j : ℕ) → length (fields_below t j) ≡ 8 * j
+unfolding fields_below
+length_below t zero = refl
+length_below t (suc j) = rw length-append (omega (arith, length_below t j, length_partial t j))
+
+module _ (at : ℕ) (t : List Ends) (xs : List ℕ) where
+  pub none_written : xs ≡ splice at (hex (fields_below t 0)) xs
+  unfolding fields_below hex
+  none_written = sym (splice_none at xs)
+
+  pub one_more_written : (j : ℕ) {e : Ends} {ys zs : List ℕ} → e ≡ get_or t j no_ends → ys ≡ splice at (hex (fields_below t j)) xs →
+      zs ≡ splice (at + 16 * j) (hex (ends_field e.lower e.upper)) ys → zs ≡ splice at (hex (fields_below t (j + 1))) xs
+  unfolding partial_field fields_below
+  one_more_written j e p q = rw (add-one j) (digits_then at (at + 16 * j) (fields_below t j) (partial_field t j) xs (omega (arith, length_below t j)) p (rw e at q))
+
+  pub all_written : {j : ℕ} {ys : List ℕ} → j ≡ 3 → ys ≡ splice at (hex (fields_below t j)) xs → ys ≡ splice at (hex (partials_field t)) xs
+  unfolding partials_field fields_below
+  all_written e p = rw e at p

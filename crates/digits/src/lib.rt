@@ -5,9 +5,9 @@ ghost use Rattle.std.specs.Prelude.{◌≡◌, [], ◌∷◌, ◌+◌, ◌*◌, 
 ghost use Rattle.laws.specs.Bytes.{bytes};
 ghost use Rattle.hexadecimal.specs.Hex.{digit, hex};
 ghost use Rattle.digits.specs.Splice.{splice};
-ghost use Rattle.digits.specs.Fields.{ends_field, partial_field, partials_field};
+ghost use Rattle.digits.specs.Fields.{ends_field, partials_field};
 
-use records::Trio;
+use records::Ends;
 
 // The digit of a number below 16: from ten on they stand 39 further. Numbers all along, so that a digit takes no jump.
 fn digit_of(n: u8) -> u8
@@ -46,24 +46,14 @@ pub fn put_ends(lower: u64, upper: u64, out: &mut [u8], at: usize)
     put_bytes::<4>(upper, out, at + 8);
 }
 
-// The ends of the partial index at draught j.
-fn put_partial(t: Trio, j: usize, out: &mut [u8], at: usize)
-    requires { (j < 3) × (at + 16 ≤ length out.old) }
-    ensures { out.new ≡ splice at (hex (partial_field t j)) out.old }
-{
-    let lower = t.lower;
-    let upper = t.upper;
-    put_ends(lower[j], upper[j], out, at);
-}
-
 // The ends of the partial indices.
-pub fn put_partials(t: Trio, out: &mut [u8], at: usize)
+pub fn put_partials(t: [Ends; 3], out: &mut [u8], at: usize)
     requires { at + 48 ≤ length out.old }
     ensures { out.new ≡ splice at (hex (partials_field t)) out.old }
 {
-    put_partial(t, 0, out, at);
-    put_partial(t, 1, out, at + 16);
-    put_partial(t, 2, out, at + 32);
+    for (j, e) in t.iter().enumerate() {
+        put_ends(e.lower, e.upper, out, at + 16 * j);
+    }
 }
 
 // A line feed.

@@ -2,6 +2,7 @@
 use mathlib.Core.Path.{◌≡◌, refl}
 use mathlib.Core.List.{[], ◌∷◌}
 use Rattle.records.specs.declared.Answer.{Answer}
+use Rattle.records.specs.Ends.{no_ends}
 use Rattle.printing.specs.ReadBack.{ends_of}
 use Rattle.figures.specs.Figures.{figures_of, figures_in}
 
@@ -12,8 +13,8 @@ refused = record {
   line = 500;
   verdict = 0;
   rows = 0;
-  attained = record { lower = 0; upper = 0 };
-  partials = record { lower = 0 ∷ 0 ∷ 0 ∷ []; upper = 0 ∷ 0 ∷ 0 ∷ [] };
+  attained = no_ends;
+  partials = no_ends ∷ no_ends ∷ no_ends ∷ [];
 }
 
 pub rest_stays : figures_in refused (1 ∷ 1 ∷ 1 ∷ 1 ∷ 1 ∷ 1 ∷ 1 ∷ 1 ∷ 1 ∷ 1 ∷ 1 ∷ 1 ∷ 7 ∷ 8 ∷ []) ≡ 9 ∷ 500 ∷ 0 ∷ 0 ∷ 0 ∷ 0 ∷ 0 ∷ 0 ∷ 0 ∷ 0 ∷ 0 ∷ 0 ∷ 7 ∷ 8 ∷ []

@@ -11,9 +11,7 @@ pub fn write_figures(a: Answer, figures: &mut [u64])
     requires { 12 ≤ length figures.old }
     ensures { figures.new ≡ figures_in a figures.old }
 {
-    let partials = a.partials;
-    let lower = partials.lower;
-    let upper = partials.upper;
+    let [deepest, partial, light] = a.partials;
     figures[..12].copy_from_slice(&[
         a.number,
         a.line,
@@ -21,11 +19,11 @@ pub fn write_figures(a: Answer, figures: &mut [u64])
         a.rows,
         a.attained.lower,
         a.attained.upper,
-        lower[0],
-        upper[0],
-        lower[1],
-        upper[1],
-        lower[2],
-        upper[2],
+        deepest.lower,
+        deepest.upper,
+        partial.lower,
+        partial.upper,
+        light.lower,
+        light.upper,
     ]);
 }

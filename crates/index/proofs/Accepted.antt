@@ -11,7 +11,6 @@ use Rattle.laws.proofs.Tests.{holds}
 use Rattle.records.specs.declared.Answer.{Answer}
 use Rattle.records.specs.declared.Ends.{Ends}
 use Rattle.records.specs.declared.Hull.{Hull}
-use Rattle.records.specs.declared.Trio.{Trio}
 use Rattle.spans.specs.Hull.{Hulled}
 use Rattle.spans.specs.Table.{table_of}
 use Rattle.records.specs.declared.Ratio.{Ratio}
@@ -45,7 +44,7 @@ ready k e = record { hull = k; table = e; shares = share_small k }
 
 -- ---- the figures of partial indices
 
-pub concluded : (h : Hull) (rows : ℕ) (ps : Trio) {a : Ends} {required mark : Ratio} {v : ℕ} → a ≡ attained_of ps → required ≡ ratio_of (required_of h) → mark ≡ ratio_of (mark_of h) →
+pub concluded : (h : Hull) (rows : ℕ) (ps : List Ends) {a : Ends} {required mark : Ratio} {v : ℕ} → a ≡ attained_of ps → required ≡ ratio_of (required_of h) → mark ≡ ratio_of (mark_of h) →
     v ≡ verdict_of a ps required mark → record { number = 0; line = 0; verdict = v; rows = rows; attained = a; partials = ps } ≡ figures h rows ps
 unfolding figures
 concluded h rows ps e f g k = rw (k, e, f, g) refl
@@ -74,7 +73,7 @@ module _ (kept : List ℕ) (h : Hull) (rows : ℕ) (valid : Valid (kept_case kep
       let few : rows ≤ 500 = omega (arith, valid.few, length_kept rows kept 0) in
       (ready hull_is t, (omega (arith, sizes.shallow), omega (arith, sizes.shallow, sizes.lighter)), few, k, l, rows_follow (kept_case kept h rows) valid)
 
-  pub answer_is : {ps : Trio} {r : Answer} → ps ≡ partials (adds_from h nowhere (kept_rows rows kept 0)) → r ≡ figures h rows ps → r ≡ answer (kept_case kept h rows)
+  pub answer_is : {ps : List Ends} {r : Answer} → ps ≡ partials (adds_from h nowhere (kept_rows rows kept 0)) → r ≡ figures h rows ps → r ≡ answer (kept_case kept h rows)
   unfolding answer partials_of
   answer_is p q = q ∙ rw (p, length_kept rows kept 0) refl
 

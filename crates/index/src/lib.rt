@@ -12,7 +12,7 @@ ghost use Rattle.index.specs.Kept.{kept_case};
 ghost use Rattle.index.specs.Told.{answer_with, answer_told};
 
 use casefile::{Accepted, Fault, KEPT, Refused};
-use records::{Answer, Ends, Hull, Trio};
+use records::{Answer, Ends, Hull};
 use rows::sheet::fill;
 use spans::TABLE;
 use verdicts::Compliance;
@@ -25,7 +25,7 @@ pub struct Figures {
     pub verdict: Compliance,
     pub rows: u64,
     pub attained: Ends,
-    pub partials: Trio,
+    pub partials: [Ends; 3],
 }
 
 // An answer as one flat record, for a host: of a refusal its number and line, and zeros.
@@ -46,17 +46,14 @@ pub fn laid_out(answer: Result<Figures, Refused>) -> Answer
             line: r.line,
             verdict: 0,
             rows: 0,
-            attained: Ends { lower: 0, upper: 0 },
-            partials: Trio {
-                lower: [0; 3],
-                upper: [0; 3],
-            },
+            attained: Ends::default(),
+            partials: [Ends::default(); 3],
         },
     }
 }
 
 // A and the verdict from the partial indices.
-fn conclude(h: Hull, rows: u64, partials: Trio) -> Figures
+fn conclude(h: Hull, rows: u64, partials: [Ends; 3]) -> Figures
     requires { Sized h × Within (2 ^ 60) partials }
     ensures { answer_with result ≡ figures h rows partials }
 {

@@ -1,3 +1,4 @@
+pub mod Draughts
 pub mod Rows
 pub mod Enclosure
 pub mod Width

@@ -6,7 +6,6 @@ use native.Mathlib.Nat.{le_trans}
 use native.Mathlib.Omega.{arith}
 use lib.ListN.{get_or}
 use Rattle.records.specs.declared.Ends.{Ends}
-use Rattle.records.specs.declared.Trio.{Trio}
 use Rattle.records.specs.Results.{Results}
 use Rattle.solas.proofs.Height.{row_at_most}
 use Rattle.heights.specs.Height.{row_vs}
@@ -15,10 +14,7 @@ use Rattle.indices.specs.Index.{Weights, RowWeights, Given, trio}
 use Rattle.survival.proofs.Bounds.{ends_ordered, ends_at_most}
 use Rattle.survival.proofs.Rows.{row_rounds, row_sensible}
 
--- ---- trios with the same ends are the same
-pub both : {a b c d : List ℕ} → a ≡ c → b ≡ d → ◌≡◌ {A = Trio} (record { lower = a; upper = b }) (record { lower = c; upper = d })
-both p q = cc
-
+-- ---- the same ends at each draught are the same
 pub three : {a b c a' b' c' : Ends} → a ≡ a' → b ≡ b' → c ≡ c' → trio a b c ≡ trio a' b' c'
 three p q r = rw (p, q, r) refl
 

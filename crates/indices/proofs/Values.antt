@@ -12,7 +12,6 @@ use Rattle.records.specs.declared.Finding.{Finding}
 use Rattle.records.specs.declared.Flooding.{Flooding}
 use Rattle.records.specs.declared.Survival.{Survival}
 use Rattle.records.specs.Results as results
-use Rattle.records.specs.declared.Trio.{Trio}
 use Rattle.solas.specs.Height.{v, v_at, row_v}
 use Rattle.solas.specs.Index.{dp, draughts}
 use Rattle.solas.specs.Survival.{k, s⁴, unless_immersed}
@@ -43,7 +42,7 @@ ends lower upper = record { lower = lower; upper = upper }
 abbrev vs : List ℕ
 vs = row_vs 0 18500 (draughts 6000 4000)
 
-abbrev file : Trio
+abbrev file : List Ends
 file =
     partials
     (row_adds (ends 0x072648b6 0x072648b7) vs (survivals_of 2 (results.found (found 30 400 0 (pos 0) ∷ found 30 400 0 (pos 0) ∷ found 30 400 0 (pos 0) ∷ [])))

@@ -9,9 +9,9 @@ use Rattle.laws.specs.Lists.{Every}
 use Rattle.laws.specs.Sums.{sum_of}
 use Rattle.laws.proofs.Rounding.{floor_upper, ceil_upper, ends_apart}
 use Rattle.records.specs.declared.Ends.{Ends}
-use Rattle.records.specs.declared.Trio.{Trio}
+use Rattle.records.specs.Ends.{at}
 use Rattle.survival.specs.Survival.{ends}
-use Rattle.indices.specs.Index.{scale, at, adds_of, attained_of}
+use Rattle.indices.specs.Index.{scale, adds_of, attained_of}
 use Rattle.indices.specs.Exact.{RowAt, Close, row_ends, partial_ends, partials_of}
 use Rattle.indices.specs.Promises.{AtMostOne, PartialWidth, PartialAtMost, AttainedWidth}
 use Rattle.survival.proofs.Bounds.{ends_near, ends_ordered, ends_at_most}
@@ -65,7 +65,7 @@ partial_at_most w rs h k =
     (low, omega (arith, partial_width w rs h k))
 
 -- ---- A: at most one further apart than the partial indices are
-pub weighed_width : (k : ℕ) (t : Trio) → ((i : ℕ) → (at t i).upper ≤ (at t i).lower + k) → (attained_of t).upper ≤ (attained_of t).lower + (k + 1)
+pub weighed_width : (k : ℕ) (t : List Ends) → ((i : ℕ) → (at t i).upper ≤ (at t i).lower + k) → (attained_of t).upper ≤ (attained_of t).lower + (k + 1)
 unfolding attained_of
 weighed_width k t h = ends_apart _ _ k 5 (lit< tt) (omega (arith, h 0, h 1, h 2))
 

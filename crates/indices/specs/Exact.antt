@@ -4,7 +4,6 @@ use Rattle.laws.specs.Fraction.{Fraction, ◌over◌, whole, ◌≼◌, ◌⊹�
 use Rattle.laws.specs.Sums.{sum_of}
 use Rattle.numbers.specs.Figures.{Between}
 use Rattle.records.specs.declared.Ends.{Ends}
-use Rattle.records.specs.declared.Trio.{Trio}
 use Rattle.solas.specs.Index.{attained}
 use Rattle.survival.specs.Survival.{Factor, given, ends, Sensible, NotAbove, NotBelow}
 use Rattle.indices.specs.Index.{adds_of, trio}
@@ -68,7 +67,7 @@ AtAll P a = P a.deepest × P a.partial × P a.light
 abbrev pub AtEach : {A B : Type 0} → (A → B → Type 0) → Thrice A → Thrice B → Type 0
 AtEach P a b = P a.deepest b.deepest × P a.partial b.partial × P a.light b.light
 
-abbrev pub partials_of : Thrice (List RowAt) → Trio
+abbrev pub partials_of : Thrice (List RowAt) → List Ends
 partials_of rs = trio (partial_ends rs.deepest) (partial_ends rs.partial) (partial_ends rs.light)
 
 -- A "with its own weights"
@@ -88,5 +87,5 @@ row_at i r = record { share = r.share; share_ends = r.share_ends; v = get_or r.v
 abbrev pub rows_at : List Row → Thrice (List RowAt)
 rows_at rs = record { deepest = map (row_at 0) rs; partial = map (row_at 1) rs; light = map (row_at 2) rs }
 
-abbrev pub row_trio : Row → Trio
+abbrev pub row_trio : Row → List Ends
 row_trio r = trio (row_ends (row_at 0 r)) (row_ends (row_at 1 r)) (row_ends (row_at 2 r))

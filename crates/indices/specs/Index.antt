@@ -4,7 +4,7 @@ use Rattle.laws.specs.Rounding.{ceil}
 use Rattle.laws.specs.Sums.{sum_of}
 use Rattle.records.specs.declared.Ends.{Ends}
 use Rattle.records.specs.declared.Survival.{Survival}
-use Rattle.records.specs.declared.Trio.{Trio}
+use Rattle.records.specs.Ends.{at}
 use Rattle.records.specs.Results.{Results}
 use Rattle.survival.specs.Survival.{nothing, no_survival, still, Loaded}
 
@@ -17,39 +17,35 @@ unfoldable pub adds_of : Ends → ℕ → ℕ → ℕ → Ends
 adds_of share v bottom top = record { lower = share.lower * v * bottom / scale; upper = ceil (share.upper * v * top) scale }
 
 -- ---- three draughts: deepest, partial, light
-abbrev pub trio : Ends → Ends → Ends → Trio
-trio s p l = record { lower = s.lower ∷ p.lower ∷ l.lower ∷ []; upper = s.upper ∷ p.upper ∷ l.upper ∷ [] }
-
--- the ends at one of the draughts, counted from 0
-abbrev pub at : Trio → ℕ → Ends
-at t i = record { lower = get_or t.lower i 0; upper = get_or t.upper i 0 }
+abbrev pub trio : Ends → Ends → Ends → List Ends
+trio s p l = s ∷ p ∷ l ∷ []
 
 abbrev pub adds_at : Ends → List ℕ → List Survival → ℕ → Ends
 adds_at share vs ss i = adds_of share (get_or vs i 0) (get_or ss i no_survival).bottom (get_or ss i no_survival).top
 
-unfoldable pub row_adds : Ends → List ℕ → List Survival → Trio
+unfoldable pub row_adds : Ends → List ℕ → List Survival → List Ends
 row_adds share vs ss = trio (adds_at share vs ss 0) (adds_at share vs ss 1) (adds_at share vs ss 2)
 
 -- ---- "Partial indices are sums"
-unfoldable pub sums : List ℕ → List ℕ → List ℕ
-sums a b = (get_or a 0 0 + get_or b 0 0) ∷ (get_or a 1 0 + get_or b 1 0) ∷ (get_or a 2 0 + get_or b 2 0) ∷ []
+abbrev pub ends_plus : Ends → Ends → Ends
+ends_plus a b = record { lower = a.lower + b.lower; upper = a.upper + b.upper }
 
-unfoldable pub plus : Trio → Trio → Trio
-plus t u = record { lower = sums t.lower u.lower; upper = sums t.upper u.upper }
+unfoldable pub plus : List Ends → List Ends → List Ends
+plus t u = trio (ends_plus (at t 0) (at u 0)) (ends_plus (at t 1) (at u 1)) (ends_plus (at t 2) (at u 2))
 
 -- the partial indices of rows that add these
-abbrev pub sum_at : List Trio → ℕ → Ends
+abbrev pub sum_at : List (List Ends) → ℕ → Ends
 sum_at ts i = record { lower = sum_of (λ t. (at t i).lower) ts; upper = sum_of (λ t. (at t i).upper) ts }
 
-unfoldable pub partials : List Trio → Trio
+unfoldable pub partials : List (List Ends) → List Ends
 partials ts = trio (sum_at ts 0) (sum_at ts 1) (sum_at ts 2)
 
 -- ---- "A = (2As + 2Ap + Al)/5, rounded likewise"
-abbrev pub weighed : List ℕ → ℕ
-weighed a = 2 * get_or a 0 0 + 2 * get_or a 1 0 + get_or a 2 0
+abbrev pub weighed : (Ends → ℕ) → List Ends → ℕ
+weighed end t = 2 * end (at t 0) + 2 * end (at t 1) + end (at t 2)
 
-unfoldable pub attained_of : Trio → Ends
-attained_of t = record { lower = weighed t.lower / 5; upper = ceil (weighed t.upper) 5 }
+unfoldable pub attained_of : List Ends → Ends
+attained_of t = record { lower = weighed (λ e. e.lower) t / 5; upper = ceil (weighed (λ e. e.upper) t) 5 }
 
 -- ---- what 64 bits need
 -- a share is at most one
@@ -71,9 +67,9 @@ pub record Given (rs : Results) : Type 0 where
   pub each : (i : ℕ) → (get_or rs.findings i nothing).given ≤ 10 ^ 4
   pub loads : (i : ℕ) → Loaded (get_or rs.findings i nothing) (get_or rs.floodings i still)
 
-pub record Small (k : ℕ) (a : List ℕ) : Type 0 where
-  pub each : (i : ℕ) → get_or a i 0 ≤ k
+pub record Small (k : ℕ) (e : Ends) : Type 0 where
+  pub low : e.lower ≤ k
+  pub high : e.upper ≤ k
 
-pub record Within (k : ℕ) (t : Trio) : Type 0 where
-  pub low : Small k t.lower
-  pub high : Small k t.upper
+pub record Within (k : ℕ) (t : List Ends) : Type 0 where
+  pub each : (i : ℕ) → Small k (at t i)

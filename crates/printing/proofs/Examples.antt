@@ -6,7 +6,9 @@ use mathlib.Core.List.{List, [], ◌∷◌, ◌++◌}
 use lib.ListN.{length}
 use Rattle.laws.specs.Bytes.{bytes}
 use Rattle.records.specs.declared.Answer.{Answer}
+use Rattle.records.specs.declared.Ends.{Ends}
 use Rattle.records.specs.declared.Survival.{Survival}
+use Rattle.records.specs.Ends.{no_ends}
 use Rattle.hexadecimal.specs.Hex.{digit, hex, line_of}
 use Rattle.digits.specs.Fields.{ends_field, partial_field, partials_field}
 use Rattle.printing.specs.Marks.{mark_byte, marks_at, marks_field}
@@ -23,6 +25,9 @@ text a rs = printed a rs
 abbrev marked : Bool → Bool → Bool → Bool → Survival
 marked lever range heel opening = record { bottom = 8400; top = 8401; marks = record { lever = lever; range = range; heel = heel; opening = opening } }
 
+abbrev ends : ℕ → ℕ → Ends
+ends lower upper = record { lower = lower; upper = upper }
+
 abbrev row : ℕ → ℕ → Survival → RowLine
 row lower upper s = record { share = record { lower = lower; upper = upper }; survivals = s ∷ s ∷ s ∷ [] }
 
@@ -35,7 +40,7 @@ figures = record {
   verdict = 1;
   rows = 3;
   attained = record { lower = 874789561; upper = 874789563 };
-  partials = record { lower = 874789561 ∷ 874789561 ∷ 874789561 ∷ []; upper = 874789563 ∷ 874789563 ∷ 874789563 ∷ [] };
+  partials = ends 874789561 874789563 ∷ ends 874789561 874789563 ∷ ends 874789561 874789563 ∷ [];
 }
 
 -- the first row's lever and range are below their caps, and nothing holds the others down
@@ -83,7 +88,7 @@ distinct = record {
   verdict = 3;
   rows = 0;
   attained = record { lower = 1; upper = 2 };
-  partials = record { lower = 3 ∷ 5 ∷ 7 ∷ []; upper = 4 ∷ 6 ∷ 8 ∷ [] };
+  partials = ends 3 4 ∷ ends 5 6 ∷ ends 7 8 ∷ [];
 }
 
 ends_in_order : text distinct [] ≡
@@ -116,7 +121,7 @@ refused = record {
   verdict = 0;
   rows = 0;
   attained = record { lower = 0; upper = 0 };
-  partials = record { lower = 0 ∷ 0 ∷ 0 ∷ []; upper = 0 ∷ 0 ∷ 0 ∷ [] };
+  partials = no_ends ∷ no_ends ∷ no_ends ∷ [];
 }
 
 -- 8f0901f4

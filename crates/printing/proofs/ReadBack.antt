@@ -4,12 +4,13 @@ use mathlib.Core.Path.{◌≡◌, refl, sym, ◌∙◌, ap, ap₂}
 use mathlib.Core.Bool.{Bool, true, false}
 use mathlib.Core.List.{List, [], ◌∷◌, ◌++◌, map, append_assoc, append-nil}
 use lib.Dec.{eqb, lit<}
-use lib.ListN.{get_or, take, drop}
+use lib.ListN.{take, drop}
 use lib.Seq.{take_at, drop_at}
 use Rattle.laws.specs.Bytes.{Octets, number, bytes}
 use Rattle.laws.proofs.Bytes.{octets_cons, octets_append, length_bytes, bytes_octets, number_bytes_all}
 use Rattle.records.specs.declared.Answer.{Answer}
 use Rattle.records.specs.declared.Survival.{Survival}
+use Rattle.records.specs.Ends.{at}
 use Rattle.lines.specs.Lines.{lines}
 use Rattle.hexadecimal.specs.Hex.{line_of}
 use Rattle.hexadecimal.proofs.Pairs.{pairs_hex, line_in_front}
@@ -124,9 +125,9 @@ ends_told a h =
       figures_rest a,
       next_ends 6 a.attained.lower a.attained.upper (partial_field t 0 ++ partial_field t 1 ++ partial_field t 2) (h 0) (h 1),
       append_assoc,
-      next_ends 4 (get_or t.lower 0 0) (get_or t.upper 0 0) (partial_field t 1 ++ partial_field t 2) (h 2) (h 3),
-      next_ends 2 (get_or t.lower 1 0) (get_or t.upper 1 0) (partial_field t 2) (h 4) (h 5),
-      last_ends (get_or t.lower 2 0) (get_or t.upper 2 0) (h 6) (h 7),
+      next_ends 4 (at t 0).lower (at t 0).upper (partial_field t 1 ++ partial_field t 2) (h 2) (h 3),
+      next_ends 2 (at t 1).lower (at t 1).upper (partial_field t 2) (h 4) (h 5),
+      last_ends (at t 2).lower (at t 2).upper (h 6) (h 7),
     ) refl
 
 verdict_told : (a : Answer) → a.verdict < 256 → number (take 1 (drop 1 (figures_frame a))) ≡ a.verdict

@@ -3,6 +3,7 @@ use Rattle.std.specs.Prelude.{ℕ, zero, suc, ◌/◌, ◌%◌, ◌<◌, ◌≡�
 use Rattle.laws.specs.Bytes.{number}
 use Rattle.records.specs.declared.Answer.{Answer}
 use Rattle.records.specs.declared.Marks.{Marks}
+use Rattle.records.specs.Ends.{at}
 use Rattle.lines.specs.Lines.{Line, lines}
 use Rattle.hexadecimal.specs.Hex.{pairs}
 use Rattle.printing.specs.Marks.{marks_at}
@@ -19,9 +20,9 @@ pub data Told : Type 0 where
 unfoldable pub ends_of : Answer → List ℕ
 ends_of a =
     a.attained.lower ∷ a.attained.upper
-    ∷ get_or a.partials.lower 0 0 ∷ get_or a.partials.upper 0 0
-    ∷ get_or a.partials.lower 1 0 ∷ get_or a.partials.upper 1 0
-    ∷ get_or a.partials.lower 2 0 ∷ get_or a.partials.upper 2 0 ∷ []
+    ∷ (at a.partials 0).lower ∷ (at a.partials 0).upper
+    ∷ (at a.partials 1).lower ∷ (at a.partials 1).upper
+    ∷ (at a.partials 2).lower ∷ (at a.partials 2).upper ∷ []
 
 -- the ends of the rows' shares
 unfoldable pub shares_of : List RowLine → List ℕ

@@ -14,11 +14,12 @@ use Rattle.laws.specs.Fraction.{whole, ◌≼◌}
 use Rattle.laws.proofs.Table.{member_passes}
 use Rattle.records.specs.declared.Ends.{Ends}
 use Rattle.records.specs.declared.Hull.{Hull}
+use Rattle.records.specs.Ends.{no_ends, at}
 use Rattle.laws.proofs.Choice.{split}
 use Rattle.lines.specs.Lines.{Line, lines}
 use Rattle.lines.proofs.Lines.{lines_fewer}
 use Rattle.hexadecimal.proofs.Pairs.{length_pairs}
-use Rattle.indices.specs.Index.{at, attained_of, weighed, Share}
+use Rattle.indices.specs.Index.{attained_of, weighed, Share}
 use Rattle.indices.specs.Exact as exact
 use Rattle.indices.specs.Exact.{RowAt, Close, partial_ends}
 use Rattle.indices.proofs.Width.{partial_at_most}
@@ -41,7 +42,6 @@ use Rattle.rows.specs.Work as work
 use Rattle.rows.specs.Work.{share_at, shares_from, lines_from}
 use Rattle.rows.specs.Running.{Stood, Follow}
 use Rattle.answers.specs.Answer.{partials_of, figures, answer, answered}
-use Rattle.answers.specs.Answer as answers
 use Rattle.answers.specs.Report.{lines_in, report}
 use Rattle.answers.proofs.ValidCase.{hulled, rows_follow}
 use Rattle.answers.proofs.Shares.{share_small}
@@ -118,7 +118,7 @@ module _ (f : List ℕ) (c : Case) (e : reading f ≡ accepted c) where
 
   low_attained : (attained_of (partials_of c)).lower ≤ 10 ^ 9
   unfolding attained_of
-  low_attained = omega (arith, div-mul-le_self (weighed (partials_of c).lower) 5, lows.0, lows.1, lows.2)
+  low_attained = omega (arith, div-mul-le_self (weighed (λ e. e.lower) (partials_of c)) 5, lows.0, lows.1, lows.2)
 
   small : (e : Ends) → e.lower ≤ 10 ^ 9 → e.upper ≤ e.lower + (100000 + 40 * length c.rows) → Small e
   small e l n = record { low = omega (arith, l); high = omega (arith, l, n, v.few) }
@@ -150,11 +150,11 @@ fits_by f (refused k l) e = record {
   number_fits = number_fits k (of_the_table f k l e);
   line_fits = line_fits f k l (is_refusal f k l e);
   verdict_fits = omega arith;
-  ends_fit = ends_short (answers.no_ends ∷ answers.no_ends ∷ answers.no_ends ∷ answers.no_ends ∷ []) (none, (none, (none, (none, tt))));
+  ends_fit = ends_short (no_ends ∷ no_ends ∷ no_ends ∷ no_ends ∷ []) (none, (none, (none, (none, tt))));
   shares_fit = ends_short [] tt;
 }
   where
-    none : Small answers.no_ends
+    none : Small no_ends
     none = record { low = omega arith; high = omega arith }
 fits_by f (accepted c) e =
     let few = (sound f c e).1.few in

@@ -7,13 +7,13 @@ use lib.ListN.{length, get_or}
 use Rattle.laws.specs.Sums.{sum_of}
 use Rattle.records.specs.declared.Ends.{Ends}
 use Rattle.records.specs.declared.Hull.{Hull}
-use Rattle.records.specs.declared.Trio.{Trio}
+use Rattle.records.specs.Ends.{at}
 use Rattle.records.specs.Results.{Results}
 use Rattle.spans.specs.Hull.{Hulled}
 use Rattle.survival.proofs.Bounds.{not_above_top, not_below_bottom}
 use Rattle.survival.proofs.Rows.{row_rounds}
 use Rattle.indices.specs.Index as index
-use Rattle.indices.specs.Index.{at, row_adds, sum_at, partials}
+use Rattle.indices.specs.Index.{row_adds, sum_at, partials}
 use Rattle.indices.specs.Exact as exact
 use Rattle.indices.specs.Exact.{row_at, row_ends}
 use Rattle.indices.proofs.Enclosure.{row_upper, row_lower}
@@ -43,7 +43,7 @@ column_behind h z rs rest (suc n) at =
     let far : at + 20 ≡ 20 + at = omega arith in
     ap₂ ◌+◌ (rw far (behind h z rs rest at)) (column_behind h z rs rest n (at + 20))
 
-column : (h : Hull) (k : ℕ) → k < 20 → (g : Trio → ℕ) → ((z : Standing) (rs : Results) → get_or (numbers_at h z rs) k 0 ≡ g (adds_at h z rs)) → (y : Standing) (rs : List Row) →
+column : (h : Hull) (k : ℕ) → k < 20 → (g : List Ends → ℕ) → ((z : Standing) (rs : Results) → get_or (numbers_at h z rs) k 0 ≡ g (adds_at h z rs)) → (y : Standing) (rs : List Row) →
     column_total (length rs) (numbers_from h y rs) k ≡ sum_of g (adds_from h y rs)
 unfolding column_total numbers_from adds_from
 column h k b g same y [] = refl
@@ -58,7 +58,7 @@ adds_at_lem h z rs (suc zero) l = refl
 adds_at_lem h z rs (suc (suc zero)) l = refl
 adds_at_lem h z rs (suc (suc (suc j))) l = absurd (omega arith)
 
-sum_at_lem : (ts : List Trio) (j : ℕ) → j < 3 → at (partials ts) j ≡ sum_at ts j
+sum_at_lem : (ts : List (List Ends)) (j : ℕ) → j < 3 → at (partials ts) j ≡ sum_at ts j
 unfolding partials
 sum_at_lem ts zero l = refl
 sum_at_lem ts (suc zero) l = refl

@@ -12,7 +12,6 @@ use Rattle.laws.specs.Fraction.{Fraction}
 use Rattle.laws.specs.Rounding.{ceil}
 use Rattle.records.specs.declared.Answer.{Answer}
 use Rattle.records.specs.declared.Ends.{Ends}
-use Rattle.records.specs.declared.Trio.{Trio}
 use Rattle.verdicts.specs.Required.{required_of, mark_of}
 use Rattle.records.specs.declared.Ratio.{Ratio}
 use Rattle.numbers.specs.Ratio.{ratio_of}
@@ -99,9 +98,9 @@ module _ (c : Case) (v : Valid c) where
   abbrev mark : Fraction
   mark = mark_of c.hull
 
-  one_of_three : (a : Ends) (t : Trio) (q m : Ratio) → (verdict_of a t q m ≡ 1) ⊎ ((verdict_of a t q m ≡ 2) ⊎ (verdict_of a t q m ≡ 3))
+  one_of_three : (a : Ends) (t : List Ends) (q m : Ratio) → (verdict_of a t q m ≡ 1) ⊎ ((verdict_of a t q m ≡ 2) ⊎ (verdict_of a t q m ≡ 3))
   unfolding verdict_of
-  one_of_three a t q m = by (all_reach a.lower t.lower q m) (not (all_reach a.upper t.upper q m))
+  one_of_three a t q m = by (all_reach (λ e. e.lower) a t q m) (not (all_reach (λ e. e.upper) a t q m))
     where
       by : (x y : Bool) → let n : ℕ = cond x 1 (cond y 2 3) in (n ≡ 1) ⊎ ((n ≡ 2) ⊎ (n ≡ 3))
       by true y = inl refl

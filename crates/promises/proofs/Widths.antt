@@ -43,8 +43,8 @@ rows_ordered (r ∷ rs) h = omega (arith, row_ordered r h.0, rows_ordered rs h.1
 pub attained_ordered : (rs : Thrice (List RowAt)) → AtAll (Every Sound) rs → (attained_of (partials_of rs)).lower ≤ (attained_of (partials_of rs)).upper
 unfolding attained_of
 attained_ordered rs h =
-    let low = weighed (partials_of rs).lower in
-    let high = weighed (partials_of rs).upper in
+    let low = weighed (λ e. e.lower) (partials_of rs) in
+    let high = weighed (λ e. e.upper) (partials_of rs) in
     omega (arith, div-mul-le_self low 5, ceil_lower high 5 (lit< tt), rows_ordered rs.deepest h.0, rows_ordered rs.partial h.1, rows_ordered rs.light h.2)
 
 -- ---- the lower ends come to at most one

@@ -70,7 +70,7 @@ figured verdict rows a s p l =
       verdict = verdict;
       rows = rows;
       attained = a;
-      partials = record { lower = s.lower ∷ p.lower ∷ l.lower ∷ []; upper = s.upper ∷ p.upper ∷ l.upper ∷ [] };
+      partials = s ∷ p ∷ l ∷ [];
     }
 
 abbrev ends : ℕ → ℕ → Ends

@@ -1,12 +1,12 @@
 -- What is said of the numbers that a host gets, of four rows on the printed file's hull, worked out. Assumes nothing.
 use Prim.Native.Nat.{ℕ}
 use mathlib.Core.Path.{refl}
-use mathlib.Core.List.{[], ◌∷◌}
+use mathlib.Core.List.{List, [], ◌∷◌}
 use lib.Dec.{lit<}
 use Rattle.laws.specs.Fraction.{Fraction, ◌over◌, whole, ◌less◌over◌, ◌≼◌, ◌⊹◌, ◌⊝◌, ◌⊛◌, ◌≼?◌}
 use Rattle.laws.specs.Rounding.{ceil}
 use Rattle.roots.specs.Root.{with_digits, root_down, root_up}
-use Rattle.records.specs.declared.Trio.{Trio}
+use Rattle.records.specs.declared.Ends.{Ends}
 use Rattle.solas.specs.Span.{touch, p, P}
 use Rattle.solas.specs.Penetration.{C, G1, G3, G, Q}
 use Rattle.solas.specs.Share.{within, share, row_share}
@@ -51,8 +51,8 @@ module _ (said : RowTold case told 1 flooded) where
   told_so = (refl, refl, refl, refl, refl)
 
 -- the partial indices, as the independent program has them
-abbrev partials : Trio
-partials = record { lower = 133676119 ∷ 742209213 ∷ 760030029 ∷ []; upper = 133683503 ∷ 742302697 ∷ 760111515 ∷ [] }
+abbrev partials : List Ends
+partials = record { lower = 133676119; upper = 133683503 } ∷ record { lower = 742209213; upper = 742302697 } ∷ record { lower = 760030029; upper = 760111515 } ∷ []
 
 module _ (said : (j : ℕ) → AddsUp 4 told partials j) where
   pub adds_up : (Said (said 0).lower × Said (said 0).upper) × (Said (said 1).lower × Said (said 1).upper) × (Said (said 2).lower × Said (said 2).upper)

@@ -4,11 +4,11 @@ use Rattle.std.specs.Prelude.{ℕ, zero, suc, ◌+◌, ◌*◌, ◌<◌, ◌≡�
 use Rattle.laws.specs.Fraction.{Fraction, whole, ◌≼◌, ◌⊛◌}
 use Rattle.numbers.specs.Figures.{billionths}
 use Rattle.records.specs.declared.Ends.{Ends}
-use Rattle.records.specs.declared.Trio.{Trio}
+use Rattle.records.specs.Ends.{at}
 use Rattle.solas.specs.Height.{row_v}
 use Rattle.solas.specs.Index.{draughts}
 use Rattle.survival.specs.Survival.{survival_at, NotAbove, NotBelow}
-use Rattle.indices.specs.Index.{at, adds_of}
+use Rattle.indices.specs.Index.{adds_of}
 use Rattle.indices.specs.Exact as exact
 use Rattle.indices.specs.Exact.{weight, row_at}
 use Rattle.printing.specs.Marks.{mark_byte}
@@ -62,7 +62,7 @@ column_total zero numbers at = 0
 column_total (suc n) numbers at = get_or numbers at 0 + column_total n numbers (at + 20)
 
 -- the ends of what the rows add at draught j, together
-pub record AddsUp (rows : ℕ) (numbers : List ℕ) (partials : Trio) (j : ℕ) : Type 0 where
+pub record AddsUp (rows : ℕ) (numbers : List ℕ) (partials : List Ends) (j : ℕ) : Type 0 where
   pub lower : column_total rows numbers (6 + 6 * j) ≡ (at partials j).lower
   pub upper : column_total rows numbers (7 + 6 * j) ≡ (at partials j).upper
 

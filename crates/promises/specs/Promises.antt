@@ -4,7 +4,7 @@ use Rattle.laws.specs.Fraction.{Fraction, whole, ◌≈◌, ◌≼◌}
 use Rattle.numbers.specs.Figures.{billionths}
 use Rattle.records.specs.declared.Answer.{Answer}
 use Rattle.records.specs.declared.Ends.{Ends}
-use Rattle.indices.specs.Index.{at}
+use Rattle.records.specs.Ends.{at}
 use Rattle.indices.specs.Exact.{RowAt, NoneAbove, NoneBelow, weighted_sum, Thrice, AtEach, exact_A}
 use Rattle.verdicts.specs.Required.{required_of, mark_of}
 use Rattle.verdicts.specs.Promises.{ByEnds, ReachAll, OneShort}

@@ -56,7 +56,7 @@ pub struct RowHead {
 }
 
 // A figure in billionths: the exact one is not below the lower end and not above the upper.
-#[derive(Clone, Copy)]
+#[derive(Clone, Copy, Default)]
 pub struct Ends {
     pub lower: u64,
     pub upper: u64,
@@ -94,14 +94,7 @@ pub struct Survival {
     pub marks: Marks,
 }
 
-// The ends of a figure at each of the three draughts, in the order deepest, partial, light.
-#[derive(Clone, Copy)]
-pub struct Trio {
-    pub lower: [u64; 3],
-    pub upper: [u64; 3],
-}
-
-// What the service answers. At a refusal its number and line, and zeros; else number and line are 0.
+// What the service answers, the partial indices in the order deepest, partial, light. At a refusal its number and line, and zeros; else number and line are 0.
 #[derive(Clone, Copy)]
 pub struct Answer {
     pub number: u64,
@@ -109,5 +102,5 @@ pub struct Answer {
     pub verdict: u64,
     pub rows: u64,
     pub attained: Ends,
-    pub partials: Trio,
+    pub partials: [Ends; 3],
 }

@@ -7,7 +7,6 @@ use Rattle.records.specs.declared.Ends.{Ends}
 use Rattle.records.specs.Results.{Results}
 use Rattle.records.specs.declared.RowHead.{RowHead}
 use Rattle.records.specs.declared.Survival.{Survival}
-use Rattle.records.specs.declared.Trio.{Trio}
 use Rattle.solas.specs.Index.{draughts}
 use Rattle.chances.specs.Share.{Few}
 use Rattle.heights.specs.Height.{row_vs}
@@ -36,14 +35,14 @@ module _ (y : Standing) (kept : RowHead) {head : RowHead} {h : Hull} {z : Standi
   pub share_small : {part : Part} → part ≡ part_at h z → Share part.share
   share_small e = rw e (fit z stood_there)
 
-pub adds_small : {share : Ends} {vs : List ℕ} {ss : List Survival} {adds : Trio} → Share share → RowWeights vs ss → adds ≡ row_adds share vs ss → Within (10 ^ 9) adds
+pub adds_small : {share : Ends} {vs : List ℕ} {ss : List Survival} {adds : List Ends} → Share share → RowWeights vs ss → adds ≡ row_adds share vs ss → Within (10 ^ 9) adds
 adds_small s w e = rw e (row_within s w)
 
 -- what the sums ask: v and survival are at most one
 pub weights : (below height kind : ℕ) (at : List ℕ) {rs : Results} {ss : List Survival} → Given rs → ss ≡ survivals_of kind rs → RowWeights (row_vs below height at) ss
 weights below height kind at g e = rw e (row_weights below height at kind g)
 
-pub row_entered : (h : Hull) (s : Running) (kept : Row) {head : RowHead} {z : Standing} {part : Part} {at : List ℕ} {ss : List Survival} {adds sums : Trio} → head ≡ kept.head →
+pub row_entered : (h : Hull) (s : Running) (kept : Row) {head : RowHead} {z : Standing} {part : Part} {at : List ℕ} {ss : List Survival} {adds sums : List Ends} → head ≡ kept.head →
     z ≡ stands s.standing head → part ≡ part_at h z → at ≡ draughts h.deepest h.light → ss ≡ survivals_of kept.head.kind kept.results →
     adds ≡ row_adds part.share (row_vs z.below head.height at) ss → sums ≡ plus s.sums adds →
     record { standing = z; part = part; survivals = ss; sums = sums } ≡ entered h s kept.head kept.results

@@ -5,7 +5,7 @@ use mathlib.Core.List.{List, [], ◌∷◌, ◌++◌, append_assoc, append-nil}
 use native.Mathlib.Omega.{arith}
 use lib.ListN.{length}
 use Rattle.records.specs.declared.Hull.{Hull}
-use Rattle.records.specs.declared.Trio.{Trio}
+use Rattle.records.specs.declared.Ends.{Ends}
 use Rattle.solas.specs.Count.{added, taken}
 use Rattle.solas.specs.Index.{draughts}
 use Rattle.chances.specs.Share.{within_ends, sums_of, nothing, Few, lowest, highest, row_of, row_ends}
@@ -55,7 +55,7 @@ module _ (h : Hull) (kept : List ℕ) (rows : ℕ) where
     pub part : s.part ≡ part_at h s.standing
     pub few : Few s.part.group
     pub small : Within (i * 10 ^ 9) s.sums
-    pub done : List Trio
+    pub done : List (List Ends)
     pub sums : s.sums ≡ partials done
     pub added : done ++ adds_from h s.standing (left kept rows i) ≡ adds_from h nowhere (all kept rows)
 
@@ -98,7 +98,7 @@ module _ (h : Hull) (kept : List ℕ) (rows : ℕ) where
     may_enter few = (more, may_stand.0, may_stand.1, g.part, g.few, within_wider (omega arith) g.small)
 
     module _ (fit : SharesFit h) {t : Running} (after : t ≡ entered h s row.head row.results) (still : Few t.part.group) where
-      abbrev adds : Trio
+      abbrev adds : List Ends
       adds = adds_at h there row.results
 
       pub stands_there : t.standing ≡ there

@@ -3,7 +3,6 @@ use Rattle.std.specs.Prelude.{ℕ, List, [], ◌∷◌}
 use Rattle.records.specs.declared.Hull.{Hull}
 use Rattle.records.specs.declared.Ends.{Ends}
 use Rattle.records.specs.Results.{Results}
-use Rattle.records.specs.declared.Trio.{Trio}
 use Rattle.solas.specs.Index.{draughts}
 use Rattle.spans.specs.Hull.{ship_of}
 use Rattle.chances.specs.declared.Sums.{Sums}
@@ -29,7 +28,7 @@ abbrev pub part_at : Hull → Standing → Part
 part_at h y = record { group = sums_at h y; share = share_at h y }
 
 -- what the row there adds, with its results
-unfoldable pub adds_at : Hull → Standing → Results → Trio
+unfoldable pub adds_at : Hull → Standing → Results → List Ends
 adds_at h y rs = row_adds (share_at h y) (row_vs y.below y.head.height (draughts h.deepest h.light)) (survivals_of y.head.kind rs)
 
 -- what its line is printed from
@@ -41,7 +40,7 @@ unfoldable pub shares_from : Hull → Standing → List Row → List Ends
 shares_from h y [] = []
 shares_from h y (r ∷ rs) = let z = stands y r.head in share_at h z ∷ shares_from h z rs
 
-unfoldable pub adds_from : Hull → Standing → List Row → List Trio
+unfoldable pub adds_from : Hull → Standing → List Row → List (List Ends)
 adds_from h y [] = []
 adds_from h y (r ∷ rs) = let z = stands y r.head in adds_at h z r.results ∷ adds_from h z rs
 

@@ -2,7 +2,7 @@
 #![tactic(auto)]
 
 use chances::Sums;
-use records::{Ends, RowHead, Survival, Trio};
+use records::{Ends, RowHead, Survival};
 
 pub mod kept_rows; // the rows as they are kept
 pub mod report_lines; // the rows in turn: their lines in a report
@@ -32,5 +32,5 @@ pub struct Running {
     pub standing: Standing,
     pub part: Part,
     pub survivals: [Survival; 3],
-    pub sums: Trio,
+    pub sums: [Ends; 3],
 }

@@ -10,10 +10,10 @@ ghost use Rattle.rows.specs.Work.{adds_from, lines_from};
 use super::kept_rows::KeptRows;
 use super::row::begin;
 use printing::put_row;
-use records::Trio;
+use records::Ends;
 
 // A line of 25 bytes a row, from a place on.
-pub fn print(rows: &KeptRows, out: &mut [u8], from: usize) -> Trio
+pub fn print(rows: &KeptRows, out: &mut [u8], from: usize) -> [Ends; 3]
     requires { from + 25 * rows.now.count ≤ length out.old }
     ensures { (result ≡ partials (adds_from rows.now.ship.hull nowhere (kept_rows rows.now.count rows.now.kept.now 0))) × Within (500 * 10 ^ 9) result × (out.new ≡ splice from (row_lines (lines_from rows.now.ship.hull nowhere (kept_rows rows.now.count rows.now.kept.now 0))) out.old) }
 {

@@ -13,7 +13,7 @@ use super::survivals::survivals_at;
 use super::{Part, Running, Standing};
 use chances::{Sums, row_ends};
 use groups::subdivision::Subdivision;
-use records::{Ends, RowHead, Survival, Trio};
+use records::{Ends, RowHead, Survival};
 use rowlines::kept::head_at;
 
 // Where a row stands after one that stood at y.
@@ -51,9 +51,11 @@ fn next_part(ship: &Subdivision, y: Standing, group: Sums, z: Standing) -> Part
     let row = z.head;
     let now = ship.sums_at(row.first as usize, row.count as usize, row.depth);
     if z.before == 0 {
-        let added = Ends { lower: 0, upper: 0 };
-        let taken = Ends { lower: 0, upper: 0 };
-        let none = Sums { added, taken };
+        let zero = Ends::default();
+        let none = Sums {
+            added: zero,
+            taken: zero,
+        };
         return Part {
             group: now,
             share: row_ends(none, now),
@@ -95,20 +97,18 @@ pub fn begin() -> Running
         before: 0,
         below: 0,
     };
-    let added = Ends { lower: 0, upper: 0 };
-    let taken = Ends { lower: 0, upper: 0 };
-    let group = Sums { added, taken };
-    let share = Ends { lower: 0, upper: 0 };
-    let part = Part { group, share };
-    let sums = Trio {
-        lower: [0, 0, 0],
-        upper: [0, 0, 0],
+    let zero = Ends::default();
+    let group = Sums {
+        added: zero,
+        taken: zero,
+    };
+    let part = Part { group, share: zero };
     };
     Running {
         standing,
         part,
         survivals: [Survival::default(); 3],
-        sums,
+        sums: [zero; 3],
     }
 }
 

@@ -7,10 +7,10 @@ ghost use Rattle.rows.specs.Work.{shares_from, adds_from, numbers};
 
 use super::kept_rows::KeptRows;
 use super::row::begin;
-use records::Trio;
+use records::Ends;
 
 // Two numbers a row on the sheet.
-pub fn fill(rows: &KeptRows, sheet: &mut [u64]) -> Trio
+pub fn fill(rows: &KeptRows, sheet: &mut [u64]) -> [Ends; 3]
     requires { 2 * rows.now.count ≤ length sheet.old }
     ensures { (result ≡ partials (adds_from rows.now.ship.hull nowhere (kept_rows rows.now.count rows.now.kept.now 0))) × Within (500 * 10 ^ 9) result × (sheet.new ≡ numbers (shares_from rows.now.ship.hull nowhere (kept_rows rows.now.count rows.now.kept.now 0)) ++ drop (2 * rows.now.count) sheet.old) }
 {

@@ -1,13 +1,14 @@
 // The indices in code: what a row adds at the three draughts, the partial indices as sums of that, and the attained index.
 #![tactic(auto)]
 
-ghost use Rattle.std.specs.Prelude.{◌≡◌, ◌*◌, ◌^◌, ◌≤◌};
+ghost use Rattle.std.specs.Prelude.{◌≡◌, ◌+◌, ◌*◌, ◌^◌, ◌≤◌};
 ghost use Rattle.heights.specs.Height.{row_vs};
-ghost use Rattle.indices.specs.Index.{Share, Weights, RowWeights, Small, Within, adds_of, row_adds, sums, plus, weighed, attained_of};
+ghost use Rattle.indices.specs.Index.{Share, Weights, RowWeights, Small, Within, adds_of, row_adds, ends_plus, plus, weighed, attained_of};
 
 use heights::row_factors;
 use numbers::ceiling;
-use records::{Ends, Survival, Trio};
+use records::{Ends, Survival};
+use std::array;
 
 // 916,500ths times ten-thousandths.
 const SCALE: u64 = 916_500 * 10_000;
@@ -31,24 +32,15 @@ pub fn adds(share: Ends, v: u64, s: Survival) -> Ends
 }
 
 // What a row adds at the three draughts, by its share, its v and its survival at each.
-fn row_adds(share: Ends, vs: [u64; 3], ss: [Survival; 3]) -> Trio
+fn row_adds(share: Ends, vs: [u64; 3], ss: [Survival; 3]) -> [Ends; 3]
     requires { Share share × RowWeights vs ss }
     ensures { result ≡ row_adds share vs ss }
 {
-    let s = ss[0];
-    let p = ss[1];
-    let l = ss[2];
-    let deepest = adds(share, vs[0], s);
-    let partial = adds(share, vs[1], p);
-    let light = adds(share, vs[2], l);
-    Trio {
-        lower: [deepest.lower, partial.lower, light.lower],
-        upper: [deepest.upper, partial.upper, light.upper],
-    }
+    array::from_fn(|j| adds(share, vs[j], ss[j]))
 }
 
 // The same from the row's height and the row below it in its layer.
-pub fn row(share: Ends, below: u64, height: u64, draughts: [u64; 3], ss: [Survival; 3]) -> Trio
+pub fn row(share: Ends, below: u64, height: u64, draughts: [u64; 3], ss: [Survival; 3]) -> [Ends; 3]
     requires { Share share × RowWeights (row_vs below height draughts) ss }
     ensures { result ≡ row_adds share (row_vs below height draughts) ss }
 {
@@ -56,43 +48,40 @@ pub fn row(share: Ends, below: u64, height: u64, draughts: [u64; 3], ss: [Surviv
     row_adds(share, vs, ss)
 }
 
-fn three_sums(a: [u64; 3], b: [u64; 3]) -> [u64; 3]
+// The ends of a sum, from those of what is added.
+fn plus(a: Ends, b: Ends) -> Ends
     requires { Small (2 ^ 62) a × Small (2 ^ 62) b }
-    ensures { result ≡ sums a b }
+    ensures { result ≡ ends_plus a b }
 {
-    [a[0] + b[0], a[1] + b[1], a[2] + b[2]]
+    Ends {
+        lower: a.lower + b.lower,
+        upper: a.upper + b.upper,
+    }
 }
 
 // Partial indices are sums: what was added so far, and one row more.
-pub fn sum(a: Trio, b: Trio) -> Trio
+pub fn sum(a: [Ends; 3], b: [Ends; 3]) -> [Ends; 3]
     requires { Within (2 ^ 62) a × Within (2 ^ 62) b }
     ensures { result ≡ plus a b }
 {
-    let so_far = a.lower;
-    let more = b.lower;
-    let lower = three_sums(so_far, more);
-    let so_far = a.upper;
-    let more = b.upper;
-    let upper = three_sums(so_far, more);
-    Trio { lower, upper }
+    array::from_fn(|j| plus(a[j], b[j]))
 }
 
 // Five times the weighted mean: two fifths go to the deepest and to the middle draught, one to the light one.
-fn weighted(a: [u64; 3]) -> u64
-    requires { Small (2 ^ 60) a }
-    ensures { result ≡ weighed a }
+fn weighted(deepest: u64, partial: u64, light: u64) -> u64
+    requires { (deepest ≤ 2 ^ 60) × (partial ≤ 2 ^ 60) × (light ≤ 2 ^ 60) }
+    ensures { result ≡ 2 * deepest + 2 * partial + light }
 {
-    2 * a[0] + 2 * a[1] + a[2]
+    2 * deepest + 2 * partial + light
 }
 
 // A from the partial indices.
-pub fn attained(partials: Trio) -> Ends
+pub fn attained(partials: [Ends; 3]) -> Ends
     requires { Within (2 ^ 60) partials }
     ensures { result ≡ attained_of partials }
 {
-    let lowest = partials.lower;
-    let highest = partials.upper;
-    let lower = weighted(lowest) / 5;
-    let upper = ceiling(weighted(highest), 5);
+    let [deepest, partial, light] = partials;
+    let lower = weighted(deepest.lower, partial.lower, light.lower) / 5;
+    let upper = ceiling(weighted(deepest.upper, partial.upper, light.upper), 5);
     Ends { lower, upper }
 }

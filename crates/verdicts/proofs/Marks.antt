@@ -1,6 +1,8 @@
 -- The required index of either ship type, by either rule, and the partial mark, by numerator and denominator; and what an end that reaches a mark tells. Assumes nothing.
-use Prim.Native.Nat.{ℕ, ◌+◌, ◌*◌, ◌^◌, ◌≤◌, ◌<◌}
-use mathlib.Core.Bool.{true}
+use Prim.Native.Nat.{ℕ, zero, suc, ◌+◌, ◌*◌, ◌^◌, ◌≤◌, ◌<◌}
+use mathlib.Core.Bool.{Bool, true, ◌&&◌}
+use mathlib.Core.List.{List, [], ◌∷◌}
+use mathlib.Core.Logic.{◌↔◌}
 use mathlib.Core.Path.{◌≡◌, refl, ◌∙◌}
 use native.Mathlib.Nat.{mul-le-mul, mul-le-mul_left, mul-le-mul_right, le_trans}
 use native.Mathlib.Omega.{arith}
@@ -9,10 +11,14 @@ use borrow.Author.Tests.{lt-ltb, le-ltb, le-leb, lt-leb}
 use Rattle.laws.specs.Fraction.{Fraction, ◌over◌}
 use Rattle.solas.specs.Index.{R, partial_mark, passenger_R, R2020, passenger_mark}
 use Rattle.laws.proofs.Choice.{split}
-use Rattle.laws.proofs.Tests.{picked}
+use Rattle.laws.proofs.Tests.{both, same_test, picked}
 use Rattle.numbers.specs.Ratio.{ratio_of, Proper}
-use Rattle.verdicts.specs.Verdict.{reaches}
+use Rattle.verdicts.specs.Verdict.{reaches, all_reach}
+use Rattle.records.specs.declared.Ends.{Ends}
 use Rattle.records.specs.declared.Ratio.{Ratio}
+use Rattle.records.specs.Ends.{at}
+use Rattle.std.specs.Bool.{IsTrue}
+use Rattle.std.specs.List.{All}
 use Rattle.numbers.proofs.Ratios.{same_ratio, ratio_over, ratio_product, over_plain, product_plain}
 
 abbrev Plain : Fraction → Type 0
@@ -109,3 +115,22 @@ whole_reaches {end} {mark} p h =
 
 pub below_whole_fits : {end : ℕ} {mark : Ratio} → Proper (10 ^ 9) mark → end < 10 ^ 9 → end * mark.den < 2 ^ 64
 below_whole_fits {end} {mark} p h = omega (arith, mul-le-mul_right mark.den h, p.narrow)
+
+-- ---- A's end and those of the three partial indices reach their marks
+four_hold : (a b c d : Bool) → (a && b && c && d) ≡ true → (a ≡ true) × (b ≡ true) × (c ≡ true) × (d ≡ true)
+four_hold a b c d t = let r = both (a && b && c) d t in let q = both (a && b) c r.0 in let p = both a b q.0 in (p.0, p.1, q.1, r.1)
+
+each_reaches : (mark : Ratio) (a b c : ℕ) → reaches a mark ≡ true → reaches b mark ≡ true → reaches c mark ≡ true → All (λ e. IsTrue (reaches e mark)) (a ∷ b ∷ c ∷ [])
+each_reaches mark a b c p q r zero d l = p
+each_reaches mark a b c p q r (suc zero) d l = q
+each_reaches mark a b c p q r (suc (suc zero)) d l = r
+each_reaches mark a b c p q r (suc (suc (suc k))) d l = absurd (omega arith)
+
+pub all_reached : {reached : Bool} (end : Ends → ℕ) (index : Ends) (partials : List Ends) (required mark : Ratio) {ends : List ℕ} →
+    ends ≡ end (at partials 0) ∷ end (at partials 1) ∷ end (at partials 2) ∷ [] →
+    (IsTrue reached ↔ (IsTrue (reaches (end index) required) × All (λ e. IsTrue (reaches e mark)) ends)) → reached ≡ all_reach end index partials required mark
+unfolding all_reach
+all_reached {reached} end index partials required mark {ends} e h =
+    same_test reached (all_reach end index partials required mark)
+    (λ t. let (a, each) = rw e at (h.0 t) in rw (a, each 0 0 (lit< tt), each 1 0 (lit< tt), each 2 0 (lit< tt)) refl)
+    (λ t. let (a, p, q, r) = four_hold _ _ _ _ t in h.1 (a, rw e (each_reaches mark _ _ _ p q r)))

@@ -5,7 +5,6 @@ use mathlib.Core.List.{List, []}
 use mathlib.Core.Path.{◌≡◌, refl}
 use native.Mathlib.Omega.{arith}
 use lib.Dec.{leb, lit<}
-use lib.ListN.{get_or}
 use borrow.Author.Tests.{leb-true, leb-false}
 use Rattle.laws.specs.Fraction.{Fraction, whole, Is, ◌≼◌, ◌≺◌}
 use Rattle.laws.specs.Rounding.{ceil}
@@ -14,7 +13,7 @@ use Rattle.laws.proofs.FractionCompare.{≼_of_≺, across_below, across_strictl
 use Rattle.numbers.specs.Figures.{billionths}
 use Rattle.records.specs.declared.Ends.{Ends}
 use Rattle.records.specs.declared.Hull.{Hull}
-use Rattle.records.specs.declared.Trio.{Trio}
+use Rattle.records.specs.Ends.{at}
 use Rattle.numbers.specs.Ratio.{ratio_of}
 use Rattle.numbers.proofs.Ratios.{ratio_positive, is_ratio}
 use Rattle.indices.specs.Index.{partials, attained_of}
@@ -66,7 +65,7 @@ reach_tells end {f} h = by_test (leb (10 ^ 9 * (ratio_of f).num) (end * (ratio_o
         no (λ m. omega (arith, across_below i k m)) (strictly_below_across k i (omega arith))
 
 -- ---- by its ends
-verdict_tells : {a b : Bool} (index : Ends) (partials : Trio) (required mark : Fraction) {P Q : Type 0} →
+verdict_tells : {a b : Bool} (index : Ends) (partials : List Ends) (required mark : Fraction) {P Q : Type 0} →
     Tells (Meets index partials required mark) P a → Tells Q (Fails index partials required mark) b → ByEnds index partials required mark (cond a 1 (cond (not b) 2 3))
 verdict_tells index partials required mark (yes m r) t =
     record {
@@ -89,13 +88,13 @@ verdict_tells index partials required mark (no n q) (yes p r) =
 
 pub verdict_by_ends : VerdictByEnds
 unfolding verdict_of all_reach
-verdict_by_ends index partials required mark p q = verdict_tells index partials required mark (tell index.lower partials.lower) (tell index.upper partials.upper)
+verdict_by_ends index partials required mark p q = verdict_tells index partials required mark (tell (λ e. e.lower)) (tell (λ e. e.upper))
   where
-    tell : (end : ℕ) (ends : List ℕ) → Tells
-        (AllFour (required ≼ billionths end) (mark ≼ billionths (get_or ends 0 0)) (mark ≼ billionths (get_or ends 1 0)) (mark ≼ billionths (get_or ends 2 0)))
-        (OneOfFour (billionths end ≺ required) (billionths (get_or ends 0 0) ≺ mark) (billionths (get_or ends 1 0) ≺ mark) (billionths (get_or ends 2 0) ≺ mark))
-        (all_reach end ends (ratio_of required) (ratio_of mark))
-    tell end ends = four (reach_tells end p) (reach_tells (get_or ends 0 0) q) (reach_tells (get_or ends 1 0) q) (reach_tells (get_or ends 2 0) q)
+    tell : (end : Ends → ℕ) → Tells
+        (AllFour (required ≼ billionths (end index)) (mark ≼ billionths (end (at partials 0))) (mark ≼ billionths (end (at partials 1))) (mark ≼ billionths (end (at partials 2))))
+        (OneOfFour (billionths (end index) ≺ required) (billionths (end (at partials 0)) ≺ mark) (billionths (end (at partials 1)) ≺ mark) (billionths (end (at partials 2)) ≺ mark))
+        (all_reach end index partials (ratio_of required) (ratio_of mark))
+    tell end = four (reach_tells (end index) p) (reach_tells (end (at partials 0)) q) (reach_tells (end (at partials 1)) q) (reach_tells (end (at partials 2)) q)
 
 -- ---- by exact figures
 pub meets_is_right : MeetsIsRight
@@ -118,7 +117,7 @@ fails_is_right rs h required mark p q e = fixed ((verdict_by_ends (attained_of (
     fixed (at_light f) = at_light (λ xs k. below_then_strictly (no_more_than_upper rs.light h.2 xs k) f)
 
 -- ---- of two R and two marks, where neither of the first is above: who meets the second meets the first, and who fails the first fails the second
-module _ (index : Ends) (ps : Trio) {required mark required' mark' : Fraction} (p : whole 0 ≼ required) (q : whole 0 ≼ mark) (up : required ≼ required') (mark_up : mark ≼ mark') where
+module _ (index : Ends) (ps : List Ends) {required mark required' mark' : Fraction} (p : whole 0 ≼ required) (q : whole 0 ≼ mark) (up : required ≼ required') (mark_up : mark ≼ mark') where
   abbrev lower : ByEnds index ps required mark (verdict_of index ps (ratio_of required) (ratio_of mark))
   lower = verdict_by_ends index ps required mark p q
 

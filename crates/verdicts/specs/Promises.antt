@@ -4,9 +4,9 @@ use Rattle.laws.specs.Lists.{Every}
 use Rattle.laws.specs.Fraction.{Fraction, whole, ◌≼◌, ◌≺◌}
 use Rattle.numbers.specs.Figures.{billionths}
 use Rattle.records.specs.declared.Ends.{Ends}
-use Rattle.records.specs.declared.Trio.{Trio}
+use Rattle.records.specs.Ends.{at}
 use Rattle.numbers.specs.Ratio.{ratio_of}
-use Rattle.indices.specs.Index.{at, attained_of}
+use Rattle.indices.specs.Index.{attained_of}
 use Rattle.indices.specs.Exact.{RowAt, Sound, NoneAbove, NoneBelow, weighted_sum, Thrice, AtAll, AtEach, partials_of, exact_A}
 use Rattle.verdicts.specs.Verdict.{verdict_of}
 
@@ -24,7 +24,7 @@ pub data OneOfFour (index deepest partial light : Type 0) : Type 0 where
   at_light : light → OneOfFour index deepest partial light
 
 -- ---- the verdict by its ends
-module _ (index : Ends) (partials : Trio) (required mark : Fraction) where
+module _ (index : Ends) (partials : List Ends) (required mark : Fraction) where
   abbrev pub Meets : Type 0
   Meets = AllFour (required ≼ billionths index.lower) (mark ≼ billionths (at partials 0).lower) (mark ≼ billionths (at partials 1).lower) (mark ≼ billionths (at partials 2).lower)
 
@@ -37,7 +37,7 @@ module _ (index : Ends) (partials : Trio) (required mark : Fraction) where
     pub three : (verdict ≡ 3) ↔ ((Meets → ⊥) × (Fails → ⊥))
 
 abbrev pub VerdictByEnds : Type 0
-VerdictByEnds = (index : Ends) (partials : Trio) (required mark : Fraction) → whole 0 ≼ required → whole 0 ≼ mark → ByEnds index partials required mark (verdict_of index partials (ratio_of required) (ratio_of mark))
+VerdictByEnds = (index : Ends) (partials : List Ends) (required mark : Fraction) → whole 0 ≼ required → whole 0 ≼ mark → ByEnds index partials required mark (verdict_of index partials (ratio_of required) (ratio_of mark))
 
 -- ---- the verdict by exact figures
 module _ (rs : Thrice (List RowAt)) (required mark : Fraction) where

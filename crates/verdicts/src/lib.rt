@@ -1,13 +1,13 @@
 // The required index of a cargo ship and of a passenger ship, the mark of each partial index, and the verdict from ends that reach them or do not.
 #![tactic(auto)]
 
-ghost use Rattle.std.specs.Prelude.{◌≡◌, ◌^◌, ◌≤◌};
+ghost use Rattle.std.specs.Prelude.{◌≡◌, ◌↔◌, ◌^◌, ◌≤◌, All, IsTrue};
 ghost use Rattle.solas.specs.Index.{R, passenger_R, NoLogarithm, R2020};
 ghost use Rattle.numbers.specs.Ratio.{Proper, ratio_of};
 ghost use Rattle.verdicts.specs.Required.{Sized, required_of, mark_of};
 ghost use Rattle.verdicts.specs.Verdict.{number_of, reaches, all_reach, verdict_of};
 
-use records::{Ends, Hull, Ratio, Trio};
+use records::{Ends, Hull, Ratio};
 
 // What is said of a ship: all lower ends reach their marks; some upper end does not; or neither is settled.
 #[derive(Clone, Copy, Debug, PartialEq, Eq)]
@@ -131,21 +131,18 @@ fn end_reaches(end: u64, mark: Ratio) -> bool
 // The end of A reaches R, and those of all partial indices reach their mark.
 fn all_reach(index: u64, partials: [u64; 3], required: Ratio, mark: Ratio) -> bool
     requires { Proper (10 ^ 9) required × Proper (10 ^ 9) mark }
-    ensures { result ≡ all_reach index partials required mark }
+    ensures { IsTrue result ↔ (IsTrue (reaches index required) × All (λ end. IsTrue (reaches end mark)) partials) }
 {
-    end_reaches(index, required)
-        & end_reaches(partials[0], mark)
-        & end_reaches(partials[1], mark)
-        & end_reaches(partials[2], mark)
+    end_reaches(index, required) && partials.iter().all(|&end| end_reaches(end, mark))
 }
 
 // Meets where all lower ends reach their marks, fails where some upper end does not, and else is unsettled.
-pub fn verdict(index: Ends, partials: Trio, required: Ratio, mark: Ratio) -> Compliance
+pub fn verdict(index: Ends, partials: [Ends; 3], required: Ratio, mark: Ratio) -> Compliance
     requires { Proper (10 ^ 9) required × Proper (10 ^ 9) mark }
     ensures { number_of result ≡ verdict_of index partials required mark }
 {
-    let lower = partials.lower;
-    let upper = partials.upper;
+    let lower = partials.map(|e| e.lower);
+    let upper = partials.map(|e| e.upper);
     if all_reach(index.lower, lower, required, mark) {
         return Compliance::Meets;
     }

@@ -1,17 +1,9 @@
 -- `sums::row_adds` meets its contract, draught by draught. Assumes nothing.
-use Rattle.indices.specs.Index.{row_adds}
-use Rattle.indices.proofs.Rows.{three}
+use borrow.Author.Rules.{rules}
+use Rattle.indices.specs.Index.{adds_at, row_adds}
+use Rattle.indices.proofs.Draughts.{three_made}
 use Rattle.sums.proofs.row_adds.Goals as goal
-
-pub adds-deepest-requires : goal.adds-deepest-requires
-adds-deepest-requires c = (c.requires.0, c.requires.1.each 0)
-
-pub adds-partial-requires : goal.adds-partial-requires
-adds-partial-requires c = (c.requires.0, c.requires.1.each 1)
-
-pub adds-light-requires : goal.adds-light-requires
-adds-light-requires c = (c.requires.0, c.requires.1.each 2)
 
 pub returns : goal.returns
 unfolding row_adds
-returns c = three c.adds-deepest.ensures c.adds-partial.ensures c.adds-light.ensures
+returns c = three_made _ (adds_at c.args.share c.args.vs c.args.ss) (λ j e g k. search rules) c.from_fn.result c.from_fn.ensures.items

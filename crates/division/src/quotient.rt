@@ -5,7 +5,7 @@ use records::Ends;
 
 // How often a divisor goes into a number, and what is left.
 #[derive(Clone, Copy)]
-pub struct Quotient {
+pub(crate) struct Quotient {
     pub divisor: u64,
     pub whole: u64,
     pub rest: u64,
@@ -17,7 +17,7 @@ impl Quotient {
     ghost use Rattle.division.specs.Division.{Division, Carries, dividend};
 
     // A number divided.
-    pub fn of(n: u64, divisor: u64) -> Quotient
+    pub(crate) fn of(n: u64, divisor: u64) -> Quotient
         requires { 0 < divisor }
         ensures { Division n divisor result }
     {
@@ -29,7 +29,7 @@ impl Quotient {
     }
 
     // A step of long division: the same number, taken `by` times, divided.
-    pub fn times(self, by: u64) -> Quotient
+    pub(crate) fn times(self, by: u64) -> Quotient
         requires { Carries self by }
         ensures { Division (by * dividend self) self.divisor result }
     {
@@ -42,7 +42,7 @@ impl Quotient {
     }
 
     // The same quotient, of so many hundreds by so many hundreds.
-    pub fn hundreds(self) -> Quotient
+    pub(crate) fn hundreds(self) -> Quotient
         requires { 100 * self.divisor < 2 ^ 64 }
         ensures { Division (100 * dividend self) (100 * self.divisor) result }
     {
@@ -55,7 +55,7 @@ impl Quotient {
 
     // Rounded down and up: the next number where something is left.
     #[tactic(auto, using(crate::proofs::Division::down, crate::proofs::Division::up), unfolding(numbers::specs::Figures::both_ways))]
-    pub fn rounded(self) -> Ends
+    pub(crate) fn rounded(self) -> Ends
         requires { self.whole + 1 < 2 ^ 64 }
         ensures { result ≡ both_ways (dividend self) self.divisor }
     {

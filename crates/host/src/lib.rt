@@ -31,7 +31,7 @@ pub extern "C" fn damindex_version() -> u32
 pub extern "C" fn damindex_report(input: &[u8], out: &mut [u8]) -> usize
     ensures { (result ≡ count_in (report (reading input.now)) out.old) × (out.new ≡ written_in (report (reading input.now)) out.old) }
 {
-    index::printed::report(input, out)
+    index::printed::report(input, out).unwrap_or(0)
 }
 
 // The twelve figures of any bytes, in front of those lent, with each row's share on the sheet; or 0, and nothing is written, where fewer than
@@ -55,7 +55,7 @@ pub extern "C" fn damindex_figures(input: &[u8], sheet: &mut [u64], figures: &mu
 pub extern "C" fn damindex_rows(input: &[u8], rows: &mut [u64]) -> usize
     ensures { (result ≡ count_in (rows_in (reading input.now)) rows.old) × (rows.new ≡ written_in (rows_in (reading input.now)) rows.old) }
 {
-    workings::rows(input, rows)
+    workings::rows(input, rows).unwrap_or(0)
 }
 
 // R and the mark of a partial index of any bytes that are accepted, numerator and denominator of each in front of those lent. How many numbers that is: none,
@@ -64,7 +64,7 @@ pub extern "C" fn damindex_rows(input: &[u8], rows: &mut [u64]) -> usize
 pub extern "C" fn damindex_required(input: &[u8], numbers: &mut [u64]) -> usize
     ensures { (result ≡ count_in (required_in (reading input.now)) numbers.old) × (numbers.new ≡ written_in (required_in (reading input.now)) numbers.old) }
 {
-    workings::required(input, numbers)
+    workings::required(input, numbers).unwrap_or(0)
 }
 
 // The share of each group of zones of any bytes that are accepted, down to half the breadth, lower end and upper end in front of those lent. How many numbers
@@ -73,5 +73,5 @@ pub extern "C" fn damindex_required(input: &[u8], numbers: &mut [u64]) -> usize
 pub extern "C" fn damindex_groups(input: &[u8], numbers: &mut [u64]) -> usize
     ensures { (result ≡ count_in (groups_in (reading input.now)) numbers.old) × (numbers.new ≡ written_in (groups_in (reading input.now)) numbers.old) }
 {
-    workings::groups(input, numbers)
+    workings::groups(input, numbers).unwrap_or(0)
 }

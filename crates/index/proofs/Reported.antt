@@ -4,6 +4,7 @@ use mathlib.Core.Path.{◌≡◌, refl, sym, ◌∙◌, ap}
 use mathlib.Core.List.{List}
 use native.Mathlib.Omega.{arith}
 use lib.ListN.{length}
+use Rattle.std.specs.Prelude.{Option, Some, None}
 use Rattle.hexadecimal.specs.Hex.{line_of}
 use Rattle.digits.specs.Splice.{splice}
 use Rattle.records.specs.declared.Answer.{Answer}
@@ -15,7 +16,7 @@ use Rattle.casefile.specs.Answer.{judgement_of}
 use Rattle.casefile.specs.Kept.{kept_rows, Keeps}
 use Rattle.casefile.proofs.Kept.{length_kept}
 use Rattle.printing.specs.Printed.{refusal_frame, figures_frame, row_lines, printed, printed_length}
-use Rattle.printing.specs.Written.{count_in, written_in}
+use Rattle.printing.specs.Written.{length_in, written_in}
 use Rattle.printing.proofs.Whole.{length_printed, rows_then_figures}
 use Rattle.printing.proofs.Written.{too_little, enough}
 use Rattle.rows.specs.Standing.{nowhere}
@@ -40,13 +41,13 @@ lines_then_figures kept h rows out e p q = rows_then_figures (answer (kept_case 
 
 -- ---- a refused file
 
-pub refusal_printed : (r : Reading) (out : List ℕ) {j : Judgement} {n : ℕ} {after : List ℕ} → j ≡ judgement_of r → (j.number ≡ 0 → ⊥) →
-    (n ≡ count_in (line_of (refusal_frame j.number j.line)) out) × (after ≡ written_in (line_of (refusal_frame j.number j.line)) out) →
-    (n ≡ count_in (report r) out) × (after ≡ written_in (report r) out)
+pub refusal_printed : (r : Reading) (out : List ℕ) {j : Judgement} {n : Option ℕ} {after : List ℕ} → j ≡ judgement_of r → (j.number ≡ 0 → ⊥) →
+    (n ≡ length_in (line_of (refusal_frame j.number j.line)) out) × (after ≡ written_in (line_of (refusal_frame j.number j.line)) out) →
+    (n ≡ length_in (report r) out) × (after ≡ written_in (report r) out)
 refusal_printed (refused k l) out {j} e some (p, q) =
     let same : line_of (refusal_frame j.number j.line) ≡ report (refused k l) =
     rw e (sym (report_refused k l (λ z. some (ap (λ (j : Judgement). j.number) e ∙ z)))) in
-    (p ∙ ap (λ t. count_in t out) same, q ∙ ap (λ t. written_in t out) same)
+    (p ∙ ap (λ t. length_in t out) same, q ∙ ap (λ t. written_in t out) same)
 refusal_printed (accepted c) out e some w = absurd (some (ap (λ (j : Judgement). j.number) e))
 
 -- ---- an accepted file, whose rows are kept
@@ -65,9 +66,9 @@ module _ (f : List ℕ) {j : Judgement} (e : j ≡ judgement_of (reading f)) (z 
   unfolding answer figures lines_in printed_length
   length_is = length_printed (answer case) (lines_in (accepted case)) (length_lines case.hull nowhere case.rows) ∙ ap (λ n. 69 + 25 * n) as_many
 
-  pub report_too_long : (out : List ℕ) → length out < 69 + 25 * j.rows → (0 ≡ count_in (report (reading f)) out) × (out ≡ written_in (report (reading f)) out)
+  pub report_too_long : (out : List ℕ) → length out < 69 + 25 * j.rows → (None ≡ length_in (report (reading f)) out) × (out ≡ written_in (report (reading f)) out)
   report_too_long out l = rw text_is (too_little _ out length_is l)
 
   pub report_written : (out : List ℕ) → 69 + 25 * j.rows ≤ length out → {after : List ℕ} → after ≡ splice 0 (printed (answer case) (lines_in (accepted case))) out →
-      (69 + 25 * j.rows ≡ count_in (report (reading f)) out) × (after ≡ written_in (report (reading f)) out)
+      (Some (69 + 25 * j.rows) ≡ length_in (report (reading f)) out) × (after ≡ written_in (report (reading f)) out)
   report_written out l p = rw text_is (enough _ out length_is l p)

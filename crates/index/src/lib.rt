@@ -13,6 +13,9 @@ ghost use Rattle.index.specs.Told.{answer_with, answer_told};
 
 use casefile::{Accepted, Fault, KEPT, Refused};
 use records::{Answer, Ends, Hull};
+use groups::subdivision::Subdivision;
+use rows::kept_rows;
+use rows::kept_rows::KeptRows;
 use rows::sheet::fill;
 use spans::TABLE;
 use verdicts::Compliance;
@@ -69,14 +72,26 @@ fn conclude(h: Hull, rows: u64, partials: [Ends; 3]) -> Figures
     }
 }
 
+// The rows of a valid case, by its file and its rows as they are kept, over a table that is lent for its spans.
+pub fn rows_of<'a>(kept: &'a [u8], file: Accepted, table: &'a mut [u64]) -> KeptRows<'a>
+    requires { Valid (kept_case kept.now file.hull file.rows) × (place_width * file.rows ≤ length kept.now) × (length table.old ≡ 840) }
+    ensures { (result.ship.hull ≡ file.hull) × (result.kept.now ≡ kept.now) × (result.count ≡ file.rows) }
+{
+    spans::fill_table(file.hull, table);
+    let ship = Subdivision {
+        hull: file.hull,
+        table,
+    };
+    kept_rows::of(ship, kept, file.rows as usize)
+}
+
 // A valid case, by its file and its rows as they are kept, with room for its shares.
 fn complete(kept: &[u8], file: Accepted, sheet: &mut [u64]) -> Figures
     requires { Valid (kept_case kept.now file.hull file.rows) × (place_width * file.rows ≤ length kept.now) × (2 * file.rows ≤ length sheet.old) }
     ensures { (answer_with result ≡ answer (kept_case kept.now file.hull file.rows)) × (sheet.new ≡ shares (kept_case kept.now file.hull file.rows) ++ drop (2 * file.rows) sheet.old) }
 {
     let mut t = [0u64; TABLE];
-    spans::fill_table(file.hull, &mut t);
-    let partials = fill(kept, file.rows as usize, file.hull, &t, sheet);
+    let partials = fill(&rows_of(kept, file, &mut t), sheet);
     conclude(file.hull, file.rows, partials)
 }
 

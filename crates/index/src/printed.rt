@@ -2,7 +2,7 @@
 ghost use Rattle.std.specs.Prelude.{◌≡◌, ◌+◌, ◌*◌, ◌≤◌, length};
 ghost use Rattle.digits.specs.Splice.{splice};
 ghost use Rattle.printing.specs.Printed.{printed};
-ghost use Rattle.printing.specs.Written.{count_in, written_in};
+ghost use Rattle.printing.specs.Written.{length_in, written_in};
 ghost use Rattle.casefile.specs.Kept.{place_width};
 ghost use Rattle.casefile.specs.Reading.{accepted, reading};
 ghost use Rattle.casefile.specs.Valid.{Valid};
@@ -10,7 +10,7 @@ ghost use Rattle.answers.specs.Answer.{answer};
 ghost use Rattle.answers.specs.Report.{lines_in, report};
 ghost use Rattle.index.specs.Kept.{kept_case};
 
-use super::{conclude, laid_out};
+use super::{conclude, laid_out, rows_of};
 use casefile::{Accepted, KEPT};
 use spans::TABLE;
 
@@ -21,15 +21,14 @@ fn put_case(kept: &[u8], file: Accepted, out: &mut [u8])
     ensures { out.new ≡ splice 0 (printed (answer (kept_case kept.now file.hull file.rows)) (lines_in (accepted (kept_case kept.now file.hull file.rows)))) out.old }
 {
     let mut t = [0u64; TABLE];
-    spans::fill_table(file.hull, &mut t);
-    let partials = rows::report_lines::print(kept, file.rows as usize, file.hull, &t, out, 69);
+    let partials = rows::report_lines::print(&rows_of(kept, file, &mut t), out, 69);
     let figures = conclude(file.hull, file.rows, partials);
     printing::put_figures(laid_out(Ok(figures)), out);
 }
 
-// The printed answer of any bytes, in front of the buffer, and how many bytes that is: none where there is too little room.
-pub fn report(input: &[u8], out: &mut [u8]) -> usize
-    ensures { (result ≡ count_in (report (reading input.now)) out.old) × (out.new ≡ written_in (report (reading input.now)) out.old) }
+// The printed answer of any bytes, in front of the buffer, and how many bytes that is; or none, and the buffer as it was, where there is too little room.
+pub fn report(input: &[u8], out: &mut [u8]) -> Option<usize>
+    ensures { (result ≡ length_in (report (reading input.now)) out.old) × (out.new ≡ written_in (report (reading input.now)) out.old) }
 {
     let mut kept = [0u8; KEPT];
     match reader::judge(input, &mut kept) {
@@ -37,10 +36,10 @@ pub fn report(input: &[u8], out: &mut [u8]) -> usize
         Ok(file) => {
             let n = 69 + 25 * (file.rows as usize);
             if out.len() < n {
-                return 0;
+                return None;
             }
             put_case(&kept, file, out);
-            n
+            Some(n)
         }
     }
 }

@@ -49,7 +49,13 @@ fn judge_frame(frame: &[u8], h: Hull, p: Progress) -> Result<Frame, Fault>
 }
 
 // A line after the hull h and what the lines before it left. What it writes goes to the front of the place that is lent, as many bytes as go in.
-pub fn judge_line(text: &[u8], closed: bool, h: Hull, p: Progress, place: &mut [u8]) -> Result<Frame, Fault>
+pub fn judge_line(
+    text: &[u8],
+    closed: bool,
+    h: Hull,
+    p: Progress,
+    place: &mut [u8],
+) -> Result<Frame, Fault>
     requires { place_width ≤ length place.old }
     ensures frame { frame_told result ≡ judged h p (record { text = text.now; closed = closed }) }
     ensures kept { place.new ≡ sets place.old 0 (bytes_of text.now) }

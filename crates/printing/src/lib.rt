@@ -6,7 +6,7 @@ ghost use Rattle.hexadecimal.specs.Hex.{hex, line_of};
 ghost use Rattle.digits.specs.Splice.{splice};
 ghost use Rattle.printing.specs.Marks.{mark_byte, marks_field};
 ghost use Rattle.printing.specs.Printed.{refusal_frame, figures_frame, row_frame};
-ghost use Rattle.printing.specs.Written.{count_in, written_in};
+ghost use Rattle.printing.specs.Written.{length_in, written_in};
 
 use digits::{put_bytes, put_ends, put_feed, put_low, put_partials};
 use records::{Answer, Ends, Marks, Survival};
@@ -22,15 +22,15 @@ fn put_refusal(number: u64, line: u64, out: &mut [u8])
     put_feed(out, 8);
 }
 
-// Writes a refusal's line in front and returns its length; or leaves the buffer as it is and returns 0, where it has too little room.
-pub fn write_refusal(number: u64, line: u64, out: &mut [u8]) -> usize
-    ensures { (result ≡ count_in (line_of (refusal_frame number line)) out.old) × (out.new ≡ written_in (line_of (refusal_frame number line)) out.old) }
+// Writes a refusal's line in front and returns its length; or leaves the buffer as it is and returns none, where it has too little room.
+pub fn write_refusal(number: u64, line: u64, out: &mut [u8]) -> Option<usize>
+    ensures { (result ≡ length_in (line_of (refusal_frame number line)) out.old) × (out.new ≡ written_in (line_of (refusal_frame number line)) out.old) }
 {
     if out.len() < 9 {
-        return 0;
+        return None;
     }
     put_refusal(number, line, out);
-    9
+    Some(9)
 }
 
 // The line of the verdict and the indices, in front.

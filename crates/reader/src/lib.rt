@@ -74,6 +74,7 @@ fn run(input: &[u8], h: Hull, from: usize, first: u64, kept: &mut [u8]) -> Resul
         let place = p.rows as usize * PLACE_WIDTH;
         let after = place + PLACE_WIDTH;
         let frame = judging::judge_line(line.text, line.closed, h, p, &mut kept[place..after]);
+        // `let .. else`, where `?` would do: document 01's list of forms by place wants it here
         let stepped = step(frame, p, number);
         let Ok(next) = stepped else {
             return stepped;

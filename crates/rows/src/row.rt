@@ -103,7 +103,6 @@ pub fn begin() -> Running
         taken: zero,
     };
     let part = Part { group, share: zero };
-    };
     Running {
         standing,
         part,

@@ -1,1 +1,1 @@
-mod Told
+pub mod Told

@@ -1,6 +1,5 @@
 -- `wide::product` meets its contract: six limbs hold any three numbers of 64 bits, multiplied. Assumes nothing.
 use borrow.Author.Rules.{rules}
-use mathlib.Core.Path.{refl}
 use Rattle.wide.proofs.Products.{three_fit}
 use Rattle.wide.proofs.product.Goals as goal
 
@@ -15,10 +14,3 @@ times-requires-2 c =
     let a = c.args in
     let n = c.times.ensures in
     (n.limbs, rw (n.number, c.of_number.ensures.number) (three_fit {a = a.a} {b = a.b} {c = a.c} (search rules) (search rules) (search rules)).1)
-
-pub returns : goal.returns
-returns c =
-    record {
-      limbs = c.times-2.ensures.limbs;
-      number = rw (c.times-2.ensures.number, c.times.ensures.number, c.of_number.ensures.number) refl;
-    }

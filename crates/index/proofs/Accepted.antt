@@ -12,7 +12,6 @@ use Rattle.records.specs.declared.Answer.{Answer}
 use Rattle.records.specs.declared.Ends.{Ends}
 use Rattle.records.specs.declared.Hull.{Hull}
 use Rattle.spans.specs.Hull.{Hulled}
-use Rattle.spans.specs.Table.{table_of}
 use Rattle.records.specs.declared.Ratio.{Ratio}
 use Rattle.numbers.specs.Ratio.{ratio_of}
 use Rattle.indices.specs.Index.{partials, attained_of}
@@ -31,16 +30,11 @@ use Rattle.casefile.proofs.Soundness.{sound}
 use Rattle.casefile.proofs.Kept.{length_kept}
 use Rattle.rows.specs.Standing.{nowhere}
 use Rattle.rows.specs.Work.{shares_from, adds_from, numbers}
-use Rattle.rows.specs.Running.{Follow, Ready}
+use Rattle.rows.specs.Running.{Follow, SharesFit}
 use Rattle.answers.specs.Answer.{partials_of, figures, answer, shares, refusal, answered, sheet_after}
 use Rattle.answers.proofs.ValidCase.{hulled, rows_follow}
 use Rattle.answers.proofs.Shares.{share_small}
 use Rattle.index.specs.Kept.{kept_case}
-
--- ---- a hull with its span table
-
-pub ready : {h : Hull} {t : List ℕ} → Hulled h → t ≡ table_of h → Ready h t
-ready k e = record { hull = k; table = e; shares = share_small k }
 
 -- ---- the figures of partial indices
 
@@ -66,12 +60,17 @@ module _ (kept : List ℕ) (h : Hull) (rows : ℕ) (valid : Valid (kept_case kep
     persons = outside_the_band h (holds (persons_fit h) valid.hull.persons);
   }
 
-  -- what is asked before its rows are worked through, whatever room they need
-  pub rows_asked : {Room : Type 0} {t : List ℕ} → t ≡ table_of h → place_width * rows ≤ length kept → Room →
-      Ready h t × ((h.deepest < 2 ^ 32) × (h.light < 2 ^ 32)) × (rows ≤ 500) × (place_width * rows ≤ length kept) × Room × Follow h nowhere (kept_rows rows kept 0)
-  rows_asked t k l =
-      let few : rows ≤ 500 = omega (arith, valid.few, length_kept rows kept 0) in
-      (ready hull_is t, (omega (arith, sizes.shallow), omega (arith, sizes.shallow, sizes.lighter)), few, k, l, rows_follow (kept_case kept h rows) valid)
+  pub rows_few : rows ≤ 500
+  rows_few = omega (arith, valid.few, length_kept rows kept 0)
+
+  pub drawn : (h.deepest < 2 ^ 32) × (h.light < 2 ^ 32)
+  drawn = (omega (arith, sizes.shallow), omega (arith, sizes.shallow, sizes.lighter))
+
+  pub shares_fit : SharesFit h
+  shares_fit = share_small hull_is
+
+  pub follow : Follow h nowhere (kept_rows rows kept 0)
+  follow = rows_follow (kept_case kept h rows) valid
 
   pub answer_is : {ps : List Ends} {r : Answer} → ps ≡ partials (adds_from h nowhere (kept_rows rows kept 0)) → r ≡ figures h rows ps → r ≡ answer (kept_case kept h rows)
   unfolding answer partials_of

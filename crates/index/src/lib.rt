@@ -36,14 +36,17 @@ pub fn laid_out(answer: Result<Figures, Refused>) -> Answer
     ensures { result ≡ answer_told answer }
 {
     match answer {
-        Ok(f) => Answer {
-            number: 0,
-            line: 0,
-            verdict: u64::from(f.verdict),
-            rows: f.rows,
-            attained: f.attained,
-            partials: f.partials,
-        },
+        Ok(f) => {
+            let partials = f.partials;
+            Answer {
+                number: 0,
+                line: 0,
+                verdict: u64::from(f.verdict),
+                rows: f.rows,
+                attained: f.attained,
+                partials,
+            }
+        }
         Err(r) => Answer {
             number: u64::from(r.fault),
             line: r.line,

@@ -7,4 +7,4 @@ use Rattle.rows.proofs.row.begin.Goals as goal
 
 pub returns : goal.returns
 unfolding begun partials
-returns c = rw (default_survival c.default.result c.default.ensures) refl
+returns c = rw (default_survival c.default.result c.default.ensures, c.default-zero.ensures.0, c.default-zero.ensures.1) refl

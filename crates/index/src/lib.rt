@@ -104,7 +104,11 @@ pub fn answer(input: &[u8], sheet: &mut [u64]) -> Result<Figures, Refused>
     ensures { (answer_told result ≡ answered (reading input.now) (length sheet.old)) × (sheet.new ≡ sheet_after (reading input.now) sheet.old) }
 {
     let mut kept = [0u8; KEPT];
-    let file = reader::judge(input, &mut kept)?;
+    // no `?`: with it a call takes 47,615 bytes of stack, where the header has 47,500
+    let file = match reader::judge(input, &mut kept) {
+        Ok(file) => file,
+        Err(refused) => return Err(refused),
+    };
     if ((sheet.len() / 2) as u64) < file.rows {
         return Err(Refused {
             fault: Fault::ShortSheet,

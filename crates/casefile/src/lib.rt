@@ -68,7 +68,7 @@ pub enum Frame {
 }
 
 // What is known after some lines: how many rows they held, the head of the last (kind 0: none yet), and whether the end was read.
-#[derive(Clone, Copy)]
+#[derive(Clone, Copy, Default)]
 pub struct Progress {
     pub rows: u64,
     pub last: RowHead,

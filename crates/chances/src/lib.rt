@@ -7,7 +7,7 @@ ghost use Rattle.chances.specs.Share.{Few, row_of};
 use records::Ends;
 
 // What a group adds and what it takes away, at one b.
-#[derive(Clone, Copy)]
+#[derive(Clone, Copy, Default)]
 pub struct Sums {
     pub added: Ends,
     pub taken: Ends,

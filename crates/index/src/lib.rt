@@ -12,8 +12,8 @@ ghost use Rattle.index.specs.Kept.{kept_case};
 ghost use Rattle.index.specs.Told.{answer_with, answer_told};
 
 use casefile::{Accepted, Fault, KEPT, Refused};
-use records::{Answer, Ends, Hull};
 use groups::subdivision::Subdivision;
+use records::{Answer, Ends, Hull};
 use rows::kept_rows;
 use rows::kept_rows::KeptRows;
 use rows::sheet::fill;
@@ -50,10 +50,7 @@ pub fn laid_out(answer: Result<Figures, Refused>) -> Answer
         Err(r) => Answer {
             number: u64::from(r.fault),
             line: r.line,
-            verdict: 0,
-            rows: 0,
-            attained: Ends::default(),
-            partials: [Ends::default(); 3],
+            ..Answer::default()
         },
     }
 }

@@ -12,7 +12,7 @@ ghost use Rattle.casefile.specs.Told.{frame_told, step_told, judgement_told};
 
 use casefile::{Accepted, Fault, Frame, LONGEST_INPUT, PLACE_WIDTH, Progress, Refused};
 use lines::iter::Lines;
-use records::{Hull, RowHead};
+use records::Hull;
 
 // What a line's frame adds to what is known, or the refusal with the line's number.
 fn step(judged: Result<Frame, Fault>, p: Progress, line: u64) -> Result<Progress, Refused>
@@ -38,18 +38,7 @@ fn step(judged: Result<Frame, Fault>, p: Progress, line: u64) -> Result<Progress
 fn at_start() -> Progress
     ensures { result ≡ start }
 {
-    let none = RowHead {
-        kind: 0,
-        first: 0,
-        count: 0,
-        depth: 0,
-        height: 0,
-    };
-    Progress {
-        rows: 0,
-        last: none,
-        ended: false,
-    }
+    Progress::default()
 }
 
 // The lines from a place on: none where that is past the end.

@@ -46,7 +46,7 @@ pub struct Flooding {
 
 // What a row says before its results: its kind (2, 3 or 5, or a passenger ship's 7), the group's first zone a and zone count n, the penetration b
 // in centimetres and the height H in millimetres.
-#[derive(Clone, Copy)]
+#[derive(Clone, Copy, Default)]
 pub struct RowHead {
     pub kind: u64,
     pub first: u64,
@@ -95,7 +95,7 @@ pub struct Survival {
 }
 
 // What the service answers, the partial indices in the order deepest, partial, light. At a refusal its number and line, and zeros; else number and line are 0.
-#[derive(Clone, Copy)]
+#[derive(Clone, Copy, Default)]
 pub struct Answer {
     pub number: u64,
     pub line: u64,

@@ -1,3 +1,4 @@
+pub mod Defaults
 pub mod Stands
 pub mod Parts
 pub mod OfSets

@@ -23,10 +23,6 @@ pub other_layer : (y z : Standing) → (eqb z.head.first y.head.first && eqb z.h
 unfolding same_layer same_group
 other_layer y z e = e
 
--- before a group's first layer it comes to nothing
-pub from_nothing : {zero share : Ends} (now : Sums) → (zero.lower ≡ 0) × (zero.upper ≡ 0) → share ≡ row_of (record { added = zero; taken = zero }) now → share ≡ row_of nothing now
-from_nothing now z e = rw (z.0, z.1) at e
-
 module _ (h : Hull) (z : Standing) where
   abbrev down_to : ℕ → Sums
   down_to b = sums_of (ship_of h) b z.head.first z.head.count

@@ -12,7 +12,7 @@ pub mod survivals; // the survivals of a row as it is kept
 
 // A row's head, the penetration of the layer before its own (0 in the group's first), and the height of the row below it (0 in
 // the layer's first).
-#[derive(Clone, Copy)]
+#[derive(Clone, Copy, Default)]
 pub struct Standing {
     pub head: RowHead,
     pub before: u64,
@@ -20,14 +20,14 @@ pub struct Standing {
 }
 
 // What a row's group comes to down to its layer, and the row's share.
-#[derive(Clone, Copy)]
+#[derive(Clone, Copy, Default)]
 pub struct Part {
     pub group: Sums,
     pub share: Ends,
 }
 
 // What is known after some rows: where the last of them stood, its part, its survivals, and what they added together at the three draughts.
-#[derive(Clone, Copy)]
+#[derive(Clone, Copy, Default)]
 pub struct Running {
     pub standing: Standing,
     pub part: Part,

@@ -9,19 +9,19 @@ ghost use Rattle.rows.specs.Work.{sums_at, part_at};
 ghost use Rattle.rows.specs.Running.{Stood, begun, entered};
 
 use super::kept_rows::KeptRows;
-use super::survivals::survivals_at;
+use super::survivals::survivals_of;
 use super::{Part, Running, Standing};
 use chances::{Sums, row_ends};
 use groups::subdivision::Subdivision;
-use records::{Ends, RowHead, Survival};
-use rowlines::kept::head_at;
+use records::RowHead;
+use rowlines::kept::row_at;
 
 // Where a row stands after one that stood at y.
 fn next(y: Standing, r: RowHead) -> Standing
     ensures { result ≡ stands y r }
 {
     let last = y.head;
-    if (r.first == last.first) & (r.count == last.count) {
+    if (r.first, r.count) == (last.first, last.count) {
         if r.depth == last.depth {
             return Standing {
                 head: r,
@@ -51,14 +51,9 @@ fn next_part(ship: &Subdivision, y: Standing, group: Sums, z: Standing) -> Part
     let row = z.head;
     let now = ship.sums_at(row.first as usize, row.count as usize, row.depth);
     if z.before == 0 {
-        let zero = Ends::default();
-        let none = Sums {
-            added: zero,
-            taken: zero,
-        };
         return Part {
             group: now,
-            share: row_ends(none, now),
+            share: row_ends(Sums::default(), now),
         };
     }
     Part {
@@ -74,7 +69,7 @@ fn part_after(ship: &Subdivision, y: Standing, part: Part, z: Standing) -> Part
 {
     let last = y.head;
     let row = z.head;
-    if (row.first == last.first) & (row.count == last.count) & (row.depth == last.depth) {
+    if (row.first, row.count, row.depth) == (last.first, last.count, last.depth) {
         return part;
     }
     let group = part.group;
@@ -85,30 +80,7 @@ fn part_after(ship: &Subdivision, y: Standing, part: Part, z: Standing) -> Part
 pub fn begin() -> Running
     ensures { result ≡ begun }
 {
-    let head = RowHead {
-        kind: 0,
-        first: 0,
-        count: 0,
-        depth: 0,
-        height: 0,
-    };
-    let standing = Standing {
-        head,
-        before: 0,
-        below: 0,
-    };
-    let zero = Ends::default();
-    let group = Sums {
-        added: zero,
-        taken: zero,
-    };
-    let part = Part { group, share: zero };
-    Running {
-        standing,
-        part,
-        survivals: [Survival::default(); 3],
-        sums: [zero; 3],
-    }
+    Running::default()
 }
 
 impl<'a> KeptRows<'a> {
@@ -117,11 +89,18 @@ impl<'a> KeptRows<'a> {
         requires { (i < self.now.count) × Stood self.now.ship.hull (stands s.standing (kept_row self.now.kept.now i).head) × Given (kept_row self.now.kept.now i).results × (s.part ≡ part_at self.now.ship.hull s.standing) × Few s.part.group × Within (2 ^ 61) s.sums }
         ensures { (result ≡ entered self.now.ship.hull s (kept_row self.now.kept.now i).head (kept_row self.now.kept.now i).results) × Few result.part.group }
     {
-        let head = head_at(self.kept, i);
+        let row = row_at(self.kept, i);
+        let head = row.head();
         let standing = next(s.standing, head);
         let part = part_after(&self.ship, s.standing, s.part, standing);
-        let survivals = survivals_at(self.kept, i, head.kind);
-        let adds = sums::row(part.share, standing.below, head.height, self.draughts, survivals);
+        let survivals = survivals_of(&row);
+        let adds = sums::row(
+            part.share,
+            standing.below,
+            head.height,
+            self.draughts,
+            survivals,
+        );
         let sums = sums::sum(s.sums, adds);
         Running {
             standing,

@@ -1,10 +1,11 @@
 -- `rows::begin` meets its contract. Assumes nothing.
-use mathlib.Core.Path.{refl}
 use Rattle.survival.proofs.Factors.{default_survival}
-use Rattle.indices.specs.Index.{partials}
-use Rattle.rows.specs.Running.{begun}
+use Rattle.rows.proofs.Defaults.{three_default, default_ends, default_sums, default_standing, at_first}
 use Rattle.rows.proofs.row.begin.Goals as goal
 
 pub returns : goal.returns
-unfolding begun partials
-returns c = rw (default_survival c.default.result c.default.ensures, c.default-zero.ensures.0, c.default-zero.ensures.1) refl
+returns c =
+    let s = c.default.result in
+    let d = c.default.ensures in
+    at_first s (default_standing s.standing d.0) (default_sums s.part.group d.1.0.0) (default_ends s.part.share d.1.0.1)
+    (three_default s.survivals default_survival d.1.1.0) (three_default s.sums default_ends d.1.1.1)

@@ -1,12 +1,13 @@
 -- `rows::next_part` meets its contract: the first layer of a group, or a later one. Assumes nothing.
 use borrow.Author.Rules.{rules}
-use Rattle.rows.proofs.Parts.{from_nothing, first_part, later_part}
+use Rattle.rows.proofs.Defaults.{default_sums}
+use Rattle.rows.proofs.Parts.{first_part, later_part}
 use Rattle.rows.proofs.row.next_part.Goals as goal
 
 pub returns-then-z-eq0 : goal.returns-then-z-eq0
 returns-then-z-eq0 c =
     let now = c.sums_at-now.ensures in
-    (first_part c.args.ship.now.hull c.args.z (search rules) now.0 (from_nothing c.sums_at-now.result c.default-zero.ensures c.row_ends.ensures), now.1)
+    (first_part c.args.ship.now.hull c.args.z (search rules) now.0 (rw (default_sums c.default.result c.default.ensures) at c.row_ends.ensures), now.1)
 
 pub returns : goal.returns
 returns c =

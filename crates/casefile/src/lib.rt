@@ -1,4 +1,4 @@
-// Theorems only: the case file is in specs/, what is proved of it in proofs/. The values that its judging hands on stand here.
+// The case file is in specs/, what is proved of it in proofs/. Here stand the refusals with their numbers, and the values that the judging hands on.
 #![tactic(auto)]
 
 ghost use Rattle.std.specs.Prelude.{◌≡◌};
@@ -67,7 +67,8 @@ pub enum Frame {
     End(u64),
 }
 
-// What is known after some lines: how many rows they held, the head of the last (kind 0: none yet), and whether the end was read.
+// What is known after some lines: how many rows they held, the head of the last (kind 0: none yet), and whether the end was read. No option for the head:
+// `out_of_order`, `leaves_open` and `ends_open` take any head as the one before, and answer on one of kind 0.
 #[derive(Clone, Copy, Default)]
 pub struct Progress {
     pub rows: u64,

@@ -13,6 +13,7 @@ fn read_full<R: Read>(input: &mut R, buffer: &mut [u8]) -> usize
     ensures room { result ≤ length buffer.new }
     ensures bytes { Consumes (R.remaining input.old) (R.remaining input.new) (take result buffer.new) }
 {
+    // No range to go over: how many bytes a reading gives is its own, and the library's whole readings take memory from the heap.
     let mut done = 0;
     while done < buffer.len() {
         match input.read(&mut buffer[done..]) {

@@ -31,7 +31,14 @@ impl<'a> Subdivision<'a> {
         }
         let h = &self.hull;
         let s = span_of(self.table, a, e);
-        let g = g_ends(h.length, h.breadth, h.places[a - 1], h.places[e], s.inner, y);
+        let g = g_ends(
+            h.length,
+            h.breadth,
+            h.places[a - 1],
+            h.places[e],
+            s.inner,
+            y,
+        );
         q_ends(y.c, y.d, s.chance, g)
     }
 
@@ -43,7 +50,10 @@ impl<'a> Subdivision<'a> {
         let e = a + n - 1;
         let all = self.zones_within(a, e, y);
         if n == 1 {
-            return Sums { added: all, taken: NONE };
+            return Sums {
+                added: all,
+                taken: NONE,
+            };
         }
         let without_last = self.zones_within(a, e - 1, y);
         let without_first = self.zones_within(a + 1, e, y);
@@ -62,12 +72,16 @@ impl<'a> Subdivision<'a> {
         ensures { (result ≡ sums_of (ship_of self.now.hull) b a n) × Few result }
     {
         if b == 0 {
-            return Sums { added: NONE, taken: NONE };
+            return Sums {
+                added: NONE,
+                taken: NONE,
+            };
         }
         self.group_sums(a, n, at_depth(self.hull.breadth, b))
     }
 
     // The share of the row of n zones from zone a, in the layer from b1 to b2.
+    #[tactic(auto, unfolding(chances::specs::Share::row_ends))]
     pub fn share_ends(&self, a: usize, n: usize, b1: u64, b2: u64) -> Ends
         requires { Group (ship_of self.now.hull) a n × (2 * b1 ≤ self.now.hull.breadth) × (2 * b2 ≤ self.now.hull.breadth) }
         ensures { result ≡ row_ends (ship_of self.now.hull) a n b1 b2 }

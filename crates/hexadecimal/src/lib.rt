@@ -26,6 +26,7 @@ fn letter_of(b: u8) -> u8
 
 // The value of a digit of either kind, likewise: numbers all along, so that telling a digit takes no jump.
 // One match over both ranges was tried and is slower: 111.6 µs where this takes 110.1 on the file of 500 rows, 132.1 and 130.2 with second sets.
+#[tactic(auto, unfolding(crate::specs::Hex::digit_of))]
 pub fn value_of(b: u8) -> u8
     ensures { result ≡ mark_of (digit_of b) }
 {

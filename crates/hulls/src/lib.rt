@@ -13,6 +13,7 @@ use records::Hull;
 mod readers; // the hull's record from fields
 
 // A hull on its record, with the bytes of its frame: refused by the first check that holds.
+#[tactic(auto, using(crate::proofs::CodeOpening::sizes_wrong, crate::proofs::CodeOpening::persons_wrong, crate::proofs::CodeOpening::zones_wrong, crate::proofs::CodeOpening::length_wrong, crate::proofs::CodeOpening::hull_right, crate::proofs::CodeOpening::few_zones))]
 fn check_hull(h: Hull, n: usize) -> Result<(), Fault>
     ensures { checks_told result ≡ hull_number h n }
 {
@@ -33,6 +34,7 @@ fn check_hull(h: Hull, n: usize) -> Result<(), Fault>
 }
 
 // The hull of a kind from the fields of its frame, which has n bytes.
+#[tactic(auto, using(std::proofs::lemmas::Result::err_from_is_err_and, casefile::proofs::Told::some_number, crate::proofs::CodeOpening::hull_refused, crate::proofs::CodeOpening::hull_given))]
 fn judge_hull(kind: u64, f: &[u8], n: usize) -> Result<Hull, Fault>
     ensures { first_told result ≡ hull_judged (hull_of kind f.now) n }
 {
@@ -42,6 +44,7 @@ fn judge_hull(kind: u64, f: &[u8], n: usize) -> Result<Hull, Fault>
 }
 
 // Line 1: its hull. However long the line is, 55 bytes hold all that a hull record has.
+#[tactic(auto, using(frames::proofs::CodeDecoding::badly_written_lem, frames::proofs::CodeDecoding::stored, crate::proofs::CodeOpening::first_not_closed, crate::proofs::CodeOpening::first_no_digits, crate::proofs::CodeOpening::first_short, crate::proofs::CodeOpening::first_other, crate::proofs::CodeOpening::kind_stored))]
 pub fn judge_first(text: &[u8], closed: bool) -> Result<Hull, Fault>
     ensures { first_told result ≡ first_judged (record { text = text.now; closed = closed }) }
 {

@@ -48,6 +48,7 @@ fn places(f: &[u8], from: usize, m: usize, ls: u64) -> [u64; 21]
 }
 
 // The hull of a kind, whatever its numbers are: limits are judged on the record. A cargo ship has no persons, and no choice of a rule.
+#[tactic(auto, unfolding(casefile::specs::Layout::hull_of))]
 pub fn hull(kind: u64, f: &[u8]) -> Hull
     ensures { result ≡ hull_of kind f.now }
 {

@@ -3,6 +3,7 @@
 
 ghost use Rattle.std.specs.Prelude.{◌≡◌, ◌++◌, ◌*◌, ◌^◌, ◌≤◌, length, drop};
 ghost use Rattle.indices.specs.Index.{Within};
+ghost use Rattle.spans.specs.Table.{table_of};
 ghost use Rattle.verdicts.specs.Required.{Sized};
 ghost use Rattle.casefile.specs.Kept.{place_width};
 ghost use Rattle.casefile.specs.Reading.{reading};
@@ -75,7 +76,7 @@ fn conclude(h: Hull, rows: u64, partials: [Ends; 3]) -> Figures
 // The rows of a valid case, by its file and its rows as they are kept, over a table that is lent for its spans.
 pub fn rows_of<'a>(kept: &'a [u8], file: Accepted, table: &'a mut [u64]) -> KeptRows<'a>
     requires { Valid (kept_case kept.now file.hull file.rows) × (place_width * file.rows ≤ length kept.now) × (length table.old ≡ 840) }
-    ensures { (result.ship.hull ≡ file.hull) × (result.kept.now ≡ kept.now) × (result.count ≡ file.rows) }
+    ensures { (result.kept.ship.hull ≡ file.hull) × (result.kept.bytes.now ≡ kept.now) × (result.count ≡ file.rows) × (table.new ≡ table_of file.hull) }
 {
     spans::fill_table(file.hull, table);
     let ship = Subdivision {
@@ -101,7 +102,7 @@ pub fn answer(input: &[u8], sheet: &mut [u64]) -> Result<Figures, Refused>
     ensures { (answer_told result ≡ answered (reading input.now) (length sheet.old)) × (sheet.new ≡ sheet_after (reading input.now) sheet.old) }
 {
     let mut kept = [0u8; KEPT];
-    // no `?`: with it a call takes 47,615 bytes of stack, where the header has 47,500
+    // No `?`: with it a call takes 47,615 bytes of stack, where the header has 47,500.
     let file = match reader::judge(input, &mut kept) {
         Ok(file) => file,
         Err(refused) => return Err(refused),

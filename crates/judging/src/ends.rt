@@ -9,6 +9,7 @@ use casefile::{Fault, Frame, Progress};
 use records::Hull;
 
 // With the count that it gives: refused by the first check that holds.
+#[tactic(auto, using(crate::proofs::CodeJudging::end_miscounts))]
 fn check_end(h: Hull, p: Progress, count: u64) -> Result<(), Fault>
     ensures { checks_told result ≡ first_holds (end_checks h p count) }
 {
@@ -23,6 +24,7 @@ fn check_end(h: Hull, p: Progress, count: u64) -> Result<(), Fault>
 }
 
 // From the fields of its frame.
+#[tactic(auto, using(std::proofs::lemmas::Result::err_from_is_err_and, casefile::proofs::Told::some_number, crate::proofs::CodeJudging::end_wrong, crate::proofs::CodeJudging::end_right))]
 pub fn judge_end(f: &[u8], h: Hull, p: Progress) -> Result<Frame, Fault>
     ensures { frame_told result ≡ end_judged h p (word_at f.now 0) }
 {

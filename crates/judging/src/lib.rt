@@ -18,6 +18,7 @@ mod ends; // the end
 mod row; // a row
 
 // Whether a frame of a kind is a row that a hull takes: a passenger ship's are of kind 07 alone.
+#[tactic(auto, unfolding(casefile::specs::Layout::takes))]
 fn is_taken(hull: u64, kind: u64) -> bool
     ensures { result ≡ takes hull kind }
 {
@@ -28,6 +29,7 @@ fn is_taken(hull: u64, kind: u64) -> bool
 }
 
 // A frame after the hull: 02, 03, 05 and 07 are rows, refused where the hull does not take them, and 0f is the end.
+#[tactic(auto, using(casefile::proofs::RowKinds::of_taken, rowlines::proofs::CodeFrames::wrong_length, rowlines::proofs::CodeFrames::results_go_in, crate::proofs::CodeJudging::frame_wrong, crate::proofs::CodeJudging::frame_row, crate::proofs::CodeJudging::frame_end, crate::proofs::CodeJudging::frame_not_taken, crate::proofs::CodeJudging::frame_other))]
 fn judge_frame(frame: &[u8], h: Hull, p: Progress) -> Result<Frame, Fault>
     requires { 0 < length frame.now }
     ensures { frame_told result ≡ frame_judged h p frame.now }
@@ -49,6 +51,7 @@ fn judge_frame(frame: &[u8], h: Hull, p: Progress) -> Result<Frame, Fault>
 }
 
 // A line after the hull h and what the lines before it left. What it writes goes to the front of the place that is lent, as many bytes as go in.
+#[tactic(auto, using(frames::proofs::CodeDecoding::badly_written_lem, frames::proofs::CodeDecoding::front_decoded, frames::proofs::CodeDecoding::front_long, frames::proofs::CodeDecoding::some_bytes, crate::proofs::CodeJudging::line_after_end, crate::proofs::CodeJudging::line_not_closed, crate::proofs::CodeJudging::line_no_digits, crate::proofs::CodeJudging::line_decoded))]
 pub fn judge_line(
     text: &[u8],
     closed: bool,

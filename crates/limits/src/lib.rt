@@ -6,6 +6,7 @@ ghost use Rattle.casefile.specs.Limits.{between, shortest_ship, narrowest_ship, 
 
 use records::{Finding, Flooding, Hull, RowHead};
 
+#[tactic(auto, using(crate::proofs::CodeLimits::within))]
 fn is_between(low: u64, high: u64, x: u64) -> bool
     ensures { result ≡ between low high x }
 {
@@ -34,6 +35,7 @@ fn narrowest(kind: u64) -> u64
 }
 
 // Refusal 4 is given where this does not hold.
+#[tactic(auto, unfolding(casefile::specs::Limits::sizes_fit))]
 pub fn sizes_fit(h: Hull) -> bool
     ensures { result ≡ sizes_fit h }
 {
@@ -45,6 +47,7 @@ pub fn sizes_fit(h: Hull) -> bool
 }
 
 // Refusal 13 is given where this does not hold. A sum that would not fit is above the band too.
+#[tactic(auto, using(crate::proofs::CodeLimits::persons_capped), unfolding(casefile::specs::Limits::persons_fit))]
 pub fn persons_fit(h: Hull) -> bool
     ensures { result ≡ persons_fit h }
 {
@@ -59,6 +62,7 @@ fn is_rising(places: [u64; 21], m: usize) -> bool
 }
 
 // Refusal 5 is given where this does not hold.
+#[tactic(auto, using(crate::proofs::CodeLimits::within, crate::proofs::CodeLimits::zones_outside, crate::proofs::CodeLimits::zones_by_places))]
 pub fn zones_fit(h: Hull) -> bool
     ensures { result ≡ zones_fit h }
 {
@@ -84,6 +88,7 @@ fn group_fits(first: u64, count: u64, zones: usize) -> bool
 }
 
 // Refusal 7 is given where this does not hold of a row's head, or `set_fits` not of a set of its results, or `floodings_fit` not of what else it tells.
+#[tactic(auto, unfolding(casefile::specs::Limits::head_fits))]
 pub fn head_fits(h: Hull, r: RowHead) -> bool
     ensures { result ≡ head_fits h r }
 {
@@ -92,12 +97,14 @@ pub fn head_fits(h: Hull, r: RowHead) -> bool
         & is_between(1, 60000, r.height)
 }
 
+#[tactic(auto, using(crate::proofs::CodeLimits::opening_within))]
 fn opening_fits(o: i64) -> bool
     ensures { result ≡ opening_fits o }
 {
     (-30000..=30000).contains(&o)
 }
 
+#[tactic(auto, unfolding(casefile::specs::Limits::finding_fits))]
 fn finding_fits(r: Finding) -> bool
     ensures { result ≡ finding_fits r }
 {
@@ -115,6 +122,7 @@ pub fn set_fits(results: [Finding; 3]) -> bool
     results.iter().all(|&r| finding_fits(r))
 }
 
+#[tactic(auto, unfolding(casefile::specs::Limits::flooding_fits))]
 fn flooding_fits(w: Flooding) -> bool
     ensures { result ≡ flooding_fits w }
 {

@@ -25,6 +25,7 @@ impl<'a> Iterator for Lines<'a> {
 
     ghost remaining = { item_count (λ s. lines s.rest.now) };
 
+    #[tactic(auto, using(crate::proofs::Lines::lines_end, crate::proofs::Lines::length_within, crate::proofs::Lines::cut_open, crate::proofs::Lines::cut_closed, crate::proofs::Lines::one_fewer))]
     fn next(&mut self) -> Option<Line<'a>> {
         if self.rest.is_empty() {
             return None;

@@ -7,6 +7,7 @@ ghost use Rattle.lines.specs.Lines.{line_length, has_feed};
 pub mod iter; // the lines one after the other
 
 // Whether one of these bytes is a line feed: each is looked at whatever the others are, so that no jump is taken among them.
+#[tactic(auto, unfolding(crate::specs::Lines::has_feed))]
 fn has_feed(run: &[u8]) -> bool
     ensures { result ≡ has_feed run.now }
 {

@@ -8,6 +8,7 @@ use groups::subdivision::Subdivision;
 use records::{Ends, Hull};
 
 // R, then the mark of a partial index: numerator and denominator of each.
+#[tactic(auto, using(crate::proofs::HullNumbers::four_told))]
 pub fn put_required(h: Hull, out: &mut [u64])
     requires { Sized h × (4 ≤ length out.old) }
     ensures { out.new ≡ required_numbers h ++ drop 4 out.old }

@@ -19,6 +19,7 @@ use rows::row::begin;
 pub mod hull; // what the hull alone decides
 
 // A row's six numbers at one draught, by its share, its v and its survival there.
+#[tactic(auto, using(crate::proofs::InNumbers::six_told, crate::proofs::InNumbers::copied), unfolding(crate::specs::Rows::six_numbers))]
 fn put_draught(share: Ends, v: u64, s: Survival, out: &mut [u64], at: usize)
     requires { Share share × Weights v s × (at + 6 ≤ length out.old) }
     ensures { out.new ≡ sets out.old at (six_numbers v s (adds_of share v s.bottom s.top)) }
@@ -35,6 +36,7 @@ fn put_draught(share: Ends, v: u64, s: Survival, out: &mut [u64], at: usize)
 }
 
 // Its twenty, by its share, its v and its survival at each draught.
+#[tactic(auto, using(crate::proofs::InNumbers::row_put))]
 fn put_row(share: Ends, vs: [u64; 3], ss: [Survival; 3], out: &mut [u64], at: usize)
     requires { Share share × RowWeights vs ss × (at + 20 ≤ length out.old) }
     ensures { out.new ≡ sets out.old at (row_numbers share vs ss) }
@@ -49,6 +51,7 @@ fn put_row(share: Ends, vs: [u64; 3], ss: [Survival; 3], out: &mut [u64], at: us
 }
 
 // Those of the row that was entered last, at these draughts.
+#[tactic(auto, using(crate::proofs::InNumbers::row_put_with))]
 fn put_entered(s: Running, draughts: [u64; 3], out: &mut [u64], at: usize)
     requires { Share s.part.share × RowWeights (row_vs s.standing.below s.standing.head.height draughts) s.survivals × (at + 20 ≤ length out.old) }
     ensures { out.new ≡ sets out.old at (row_numbers s.part.share (row_vs s.standing.below s.standing.head.height draughts) s.survivals) }
@@ -61,11 +64,11 @@ fn put_entered(s: Running, draughts: [u64; 3], out: &mut [u64], at: usize)
 // Twenty numbers a row.
 pub fn list(rows: &KeptRows, out: &mut [u64])
     requires { 20 * rows.now.count ≤ length out.old }
-    ensures { out.new ≡ numbers_from rows.now.ship.hull nowhere (kept_rows rows.now.count rows.now.kept.now 0) ++ drop (20 * rows.now.count) out.old }
+    ensures { out.new ≡ numbers_from rows.now.kept.ship.hull nowhere (kept_rows rows.now.count rows.now.kept.bytes.now 0) ++ drop (20 * rows.now.count) out.old }
 {
     let mut s = begin();
     for i in 0..rows.count {
-        s = rows.enter(s, i);
-        put_entered(s, rows.draughts, out, 20 * i);
+        s = rows.kept.enter(s, i);
+        put_entered(s, rows.kept.draughts, out, 20 * i);
     }
 }

@@ -2,16 +2,13 @@
 use mathlib.Core.List.{[]}
 use mathlib.Core.Path.{◌≡◌}
 use Prim.Native.Nat.{ℕ, ◌-◌, ◌*◌, ◌^◌, ◌≤◌, ◌<◌}
-use native.Mathlib.Nat.{mul-le-mul, mul-le-mul_right, mul-lt-mul_of_pos_right, pow-le-pow_left}
+use native.Mathlib.Nat.{mul-le-mul_right, mul-lt-mul_of_pos_right, pow-le-pow_left}
 use native.Mathlib.Omega.{arith}
 use Rattle.laws.proofs.Polynomial.{C, ◌:*◌, ◌:^◌, ◌:=◌, ◌⊢◌, poly3}
 use Rattle.laws.proofs.Roots.{powers_strict}
 
 pub power_positive : {x : ℕ} → 0 < x → 0 < x ^ 4
 power_positive {x} h = (powers_strict 3 0 x).1 h
-
-pub square_fits : (n : ℕ) → n < 2 ^ 32 → n * n < 2 ^ 64
-square_fits n h = let k : n ≤ 2 ^ 32 - 1 = omega arith in omega (arith, mul-le-mul k k)
 
 of_product : (x y c : ℕ) → (x * y) ^ 4 * c ≡ x ^ 4 * c * y ^ 4
 of_product = poly3 (λ x y c. [] ⊢ (x :* y) :^ 4 :* c := x :^ 4 :* c :* y :^ 4) tt

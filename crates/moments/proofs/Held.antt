@@ -73,12 +73,6 @@ module _ {ends : Rounded} {stage : FinalStage} (h : Held ends stage) where
   pub lower_small : f * n ≤ 2 * 10 ^ 13
   lower_small = le_trans (mul-le-mul_right n final_ordered) upper_small
 
-  pub more_small : more ≤ 2 * 10 ^ 13
-  more_small = omega (arith, upper_end, upper_small)
-
-  pub low_small : low ≤ 2 * 10 ^ 13
-  low_small = omega (arith, mul-le-mul_left low whole_positive, within, lower_small)
-
   -- where they are apart, so are those of s-final, and its root lies strictly between them
   module _ (apart : f * n < t * n) where
     some : 0 < n

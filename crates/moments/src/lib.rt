@@ -65,6 +65,7 @@ impl FinalStage {
 
 // s-final times s-mom, from the ends of s-final. Both ends times s-mom enclose it: where no whole number lies between them they settle it, and where one
 // does, the survival is compared with that number.
+#[tactic(auto, using(crate::proofs::Held::lower_small, crate::proofs::Held::final_ordered))]
 pub fn held_down(ends: Rounded, stage: FinalStage) -> Rounded
     requires { Held ends stage }
     ensures { Rooted (stage.fourth * stage.righting ^ 4) (stage.caps * stage.heeling ^ 4) result.bottom result.top }

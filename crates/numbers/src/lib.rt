@@ -1,7 +1,7 @@
-// Machine numbers: differences held to be not below 0, quotients rounded up and both ways, portions, and halves.
+// Machine numbers: quotients rounded up and both ways, portions, and halves.
 #![tactic(auto)]
 
-ghost use Rattle.std.specs.Prelude.{◌≡◌, cond, ◌-◌, ◌*◌, ◌^◌, ◌≤◌, ◌<◌, nat_lt, sum, map};
+ghost use Rattle.std.specs.Prelude.{◌≡◌, cond, ◌*◌, ◌^◌, ◌≤◌, ◌<◌, nat_lt, sum, map};
 ghost use Rattle.std.specs.List.{range_with_len};
 ghost use Rattle.laws.specs.Rounding.{ceil};
 ghost use Rattle.numbers.specs.Figures.{both_ways, portion_of, halves_of};
@@ -10,13 +10,6 @@ use records::Ends;
 
 // The largest divisor that 64 bits hold four times.
 const FOUR_TIMES: u64 = u64::MAX / 4;
-
-// How far a lies above b: 0 where it does not.
-pub fn above(a: u64, b: u64) -> u64
-    ensures { result ≡ a - b }
-{
-    a.saturating_sub(b)
-}
 
 // n/d rounded up.
 #[tactic(auto, using(crate::proofs::Quotients::rounded_up))]

@@ -7,6 +7,7 @@ ghost use Rattle.casefile.specs.Order.{at_top, closes_group, same_group, same_la
 use records::{Hull, RowHead};
 
 // At or above ds + 12,500: the top of its layer. No height reaches a sum that does not fit.
+#[tactic(auto, unfolding(casefile::specs::Order::at_top))]
 fn at_top(h: Hull, r: RowHead) -> bool
     ensures { result ≡ at_top h r }
 {
@@ -16,24 +17,28 @@ fn at_top(h: Hull, r: RowHead) -> bool
     top <= r.height
 }
 
+#[tactic(auto, unfolding(casefile::specs::Order::closes_group))]
 fn closes_group(h: Hull, r: RowHead) -> bool
     ensures { result ≡ closes_group h r }
 {
     (r.depth == h.breadth / 2) & at_top(h, r)
 }
 
+#[tactic(auto, unfolding(casefile::specs::Order::same_group))]
 fn same_group(before: RowHead, r: RowHead) -> bool
     ensures { result ≡ same_group before r }
 {
     (r.first, r.count) == (before.first, before.count)
 }
 
+#[tactic(auto, unfolding(casefile::specs::Order::same_layer))]
 fn same_layer(before: RowHead, r: RowHead) -> bool
     ensures { result ≡ same_layer before r }
 {
     same_group(before, r) & (r.depth == before.depth)
 }
 
+#[tactic(auto, unfolding(casefile::specs::Order::earlier_group))]
 fn earlier_group(before: RowHead, r: RowHead) -> bool
     ensures { result ≡ earlier_group before r }
 {
@@ -41,6 +46,7 @@ fn earlier_group(before: RowHead, r: RowHead) -> bool
 }
 
 // Refusal 8 is given where this holds.
+#[tactic(auto, unfolding(casefile::specs::Order::out_of_order))]
 pub fn out_of_order(h: Hull, before: RowHead, r: RowHead) -> bool
     ensures { result ≡ out_of_order h before r }
 {
@@ -51,6 +57,7 @@ pub fn out_of_order(h: Hull, before: RowHead, r: RowHead) -> bool
 }
 
 // Refusal 9 is given at a row where this holds.
+#[tactic(auto, unfolding(casefile::specs::Order::leaves_open))]
 pub fn leaves_open(h: Hull, before: RowHead, r: RowHead) -> bool
     ensures { result ≡ leaves_open h before r }
 {
@@ -60,6 +67,7 @@ pub fn leaves_open(h: Hull, before: RowHead, r: RowHead) -> bool
 }
 
 // Refusal 9 is given at the end where this holds.
+#[tactic(auto, unfolding(casefile::specs::Order::ends_open))]
 pub fn ends_open(h: Hull, before: RowHead) -> bool
     ensures { result ≡ ends_open h before }
 {

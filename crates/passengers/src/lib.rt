@@ -39,6 +39,7 @@ struct Caps {
 
 impl Caps {
     // Those of a case with that mark.
+    #[tactic(auto, unfolding(crate::specs::Numbers::caps_of))]
     fn of(roro: u64) -> Caps
         ensures { result ≡ caps_of roro }
     {
@@ -116,6 +117,7 @@ fn dry(f: Finding, w: Flooding, caps: Caps) -> Rounded
 }
 
 // The survival of a result, from what was found at the final stage and what its row tells besides.
+#[tactic(auto, using(survival::proofs::Factors::same_rounded, survival::proofs::Passengers::as_passenger, survival::proofs::Passengers::passenger_lost, survival::proofs::Passengers::passenger_dry, crate::proofs::Numbers::caps_suit), unfolding(survival::specs::Marks::passenger_marks))]
 pub fn passenger_survival(f: Finding, w: Flooding) -> Survival
     requires { Loaded f w }
     ensures { result ≡ passenger_survival f w }

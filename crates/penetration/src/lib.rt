@@ -23,7 +23,7 @@ fn less(f: Ends, g: Ends) -> Ends
     }
 }
 
-// Two figures together.
+// Two figures together, of at most one: `sums::plus` adds such as are larger, and asks otherwise.
 #[tactic(auto, unfolding(crate::specs::Figures::plus))]
 pub fn with(f: Ends, g: Ends) -> Ends
     requires { Probable f × Probable g }
@@ -44,6 +44,7 @@ fn is_short(l: u64, breadth: u64, x: u64, b: u64) -> bool
 }
 
 // G of the span from aft to fwd, whose p has the ends p, at the layer y: by how many ends of the ship it touches, and whether it is short.
+// Numbers side by side: `Reached` says what holds of them, and the one caller has them from a hull, from its places and from its table.
 pub fn g_ends(l: u64, breadth: u64, aft: u64, fwd: u64, p: Ends, y: Layer) -> Ends
     requires { Reached l breadth aft fwd p y }
     ensures { result ≡ GEnds l breadth aft fwd y.depth }

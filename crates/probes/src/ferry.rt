@@ -16,6 +16,7 @@ fn are_loads(f: Finding, w: Flooding) -> bool
 }
 
 // What is told of a result and its loads: zeros outside the limits.
+#[tactic(auto, using(survival::proofs::Factors::default_survival, crate::proofs::Heeled::nothing_told, crate::proofs::Heeled::survival_told_lem, crate::proofs::Heeled::are_loaded))]
 fn told(f: Finding, w: Flooding) -> Survival
     ensures { result ≡ survival_told f w }
 {

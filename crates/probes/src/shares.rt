@@ -22,6 +22,7 @@ fn places_in(ns: &[u64]) -> [u64; 21]
     array::from_fn(|k| number_at(ns, 6 + k))
 }
 
+#[tactic(auto, unfolding(crate::specs::Shares::hull_in))]
 fn hull_in(ns: &[u64]) -> Hull
     ensures { result ≡ hull_in ns.now }
 {
@@ -60,6 +61,7 @@ fn row_fits(h: Hull, a: u64, n: u64, b1: u64, b2: u64) -> bool
     limits::head_fits(h, head) & (b1 <= b2)
 }
 
+#[tactic(auto, using(crate::proofs::Told::no_row, crate::proofs::Told::has_share, crate::proofs::Told::row_asked))]
 fn share_in(ship: &Subdivision, a: u64, n: u64, b1: u64, b2: u64) -> Ends
     ensures { result ≡ share_in ship.now.hull a n b1 b2 }
 {
@@ -71,6 +73,7 @@ fn share_in(ship: &Subdivision, a: u64, n: u64, b1: u64, b2: u64) -> Ends
 }
 
 // The share of the row whose four numbers stand at a place.
+#[tactic(auto, unfolding(crate::specs::Shares::share_at))]
 fn share_at(ship: &Subdivision, rows: &[u64], at: usize) -> Ends
     requires { at + 4 ≤ length rows.now }
     ensures { result ≡ share_at ship.now.hull rows.now at }
@@ -79,6 +82,7 @@ fn share_at(ship: &Subdivision, rows: &[u64], at: usize) -> Ends
 }
 
 // So many rows in turn, two numbers of each.
+#[tactic(auto, using(crate::proofs::Told::none_told, crate::proofs::Told::all_told))]
 fn put_shares(ship: &Subdivision, rows: &[u64], count: usize, out: &mut [u64])
     requires { (4 * count ≤ length rows.now) × (2 * count ≤ length out.old) }
     ensures { out.new ≡ sets out.old 0 (shares_from ship.now.hull rows.now 0 count) }
@@ -93,6 +97,7 @@ fn put_shares(ship: &Subdivision, rows: &[u64], count: usize, out: &mut [u64])
 
 // The share ends of rows, each by a, n, the penetration before and its own; how many rows that is, none where the hull does not fit.
 #[unsafe(no_mangle)]
+#[tactic(auto, using(crate::proofs::Told::none_asked, crate::proofs::Told::room, crate::proofs::Told::rows_asked))]
 pub extern "C" fn probe_shares(hull: &[u64], rows: &[u64], out: &mut [u64]) -> usize
     ensures count { result ≡ rows_told (hull_in hull.now) rows.now out.old }
     ensures shares { out.new ≡ sets out.old 0 (shares_from (hull_in hull.now) rows.now 0 result) }

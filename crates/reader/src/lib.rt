@@ -63,7 +63,7 @@ fn run(input: &[u8], h: Hull, from: usize, first: u64, kept: &mut [u8]) -> Resul
         let place = p.rows as usize * PLACE_WIDTH;
         let after = place + PLACE_WIDTH;
         let frame = judging::judge_line(line.text, line.closed, h, p, &mut kept[place..after]);
-        // `let .. else`, where `?` would do: document 01's list of forms by place wants it here
+        // `let .. else`, where `?` would do: the scope names this form for this place.
         let stepped = step(frame, p, number);
         let Ok(next) = stepped else {
             return stepped;
@@ -81,6 +81,7 @@ fn run(input: &[u8], h: Hull, from: usize, first: u64, kept: &mut [u8]) -> Resul
 }
 
 // The rows and the end of a file whose hull is known, from a place on.
+#[tactic(auto, using(std::proofs::lemmas::Result::err_from_is_err_and))]
 pub fn judge_rows(
     input: &[u8],
     h: Hull,

@@ -63,6 +63,7 @@ fn fourth(f: Finding) -> u64
 
 // The fourth root of so many 168ths of 10⁻¹⁶ in ten-thousandths: the greatest not above it, the least not below. Nothing and one, which it often is, need
 // no root.
+#[tactic(auto, using(roots::proofs::RootValue::down_value, roots::proofs::RootValue::up_value, survival::proofs::Factors::same_rounded, crate::proofs::Parts::nothing_rounded, crate::proofs::Parts::one_rounded, crate::proofs::Parts::scaled_fits, crate::proofs::Parts::scaled_parts), unfolding(survival::specs::Survival::rounded_of, laws::specs::Rounding::ceil))]
 pub fn rounded(n: u64) -> Rounded
     requires { n ≤ 168 * 10 ^ 16 }
     ensures { result ≡ rounded_of (parts n) }
@@ -82,6 +83,7 @@ pub fn rounded(n: u64) -> Rounded
 }
 
 // What holds the survival of what was found down: lever and range below their caps, the heel above that from which k falls, an immersed opening.
+#[tactic(auto, unfolding(survival::specs::Marks::found_marks))]
 fn marks(f: Finding) -> Marks
     ensures { result ≡ found_marks f.lever f.range f.heel f.opening }
 {
@@ -95,6 +97,7 @@ fn marks(f: Finding) -> Marks
 
 // The survival of a result: of a row of kind 3 as it is given, with no mark; of another from what was found.
 // A kind stays a number, here and below: `survival_of` tells of any number, and a type of the four kinds would ask more of a caller.
+#[tactic(auto, using(survival::proofs::Factors::default_marks, survival::proofs::Factors::as_given, survival::proofs::Factors::as_found, crate::proofs::Parts::rounded_parts))]
 pub fn survival(kind: u64, f: Finding) -> Survival
     ensures { result ≡ survival_of kind f }
 {
@@ -122,6 +125,7 @@ pub fn survivals(kind: u64, fs: [Finding; 3]) -> [Survival; 3]
 }
 
 // Of two results at one draught the survival of the worse, by the exact s⁴: the first's marks when they are equal.
+#[tactic(auto, using(survival::proofs::Factors::as_found, crate::proofs::Parts::parts_below, crate::proofs::Parts::parts_strictly_below, crate::proofs::Parts::lesser_parts, crate::proofs::Parts::rounded_parts, survival::proofs::Worse::worse_first, survival::proofs::Worse::worse_second, survival::proofs::Worse::worse_exact))]
 fn worse(f: Finding, g: Finding) -> Survival
     ensures { result ≡ survival_of 5 (worse_of f g) }
 {

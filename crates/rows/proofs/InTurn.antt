@@ -15,7 +15,7 @@ use Rattle.indices.specs.Index.{partials, plus, Share, Given, Within}
 use Rattle.indices.proofs.Rows.{row_weights}
 use Rattle.indices.proofs.Sums.{partials_snoc, row_within, plus_within, none_within, within_wider}
 use Rattle.casefile.specs.Record.{Row}
-use Rattle.casefile.specs.Kept.{kept_row, kept_rows}
+use Rattle.casefile.specs.Kept.{place_width, kept_row, kept_rows}
 use Rattle.rows.specs.declared.Standing.{Standing}
 use Rattle.rows.specs.declared.Running.{Running}
 use Rattle.rows.specs.Standing.{nowhere, stands}
@@ -94,8 +94,9 @@ module _ (h : Hull) (kept : List ℕ) (rows : ℕ) where
     pub may_stand : Stood h there × Given row.results × Follow h there others
     may_stand = subst (Follow h s.standing) next_is g.follow
 
-    pub may_enter : rows ≤ 500 → (i < rows) × Stood h there × Given row.results × (s.part ≡ part_at h s.standing) × Few s.part.group × Within (2 ^ 61) s.sums
-    may_enter few = (more, may_stand.0, may_stand.1, g.part, g.few, within_wider (omega arith) g.small)
+    pub may_enter : place_width * i + place_width ≤ length kept → rows ≤ 500 →
+        (place_width * i + place_width ≤ length kept) × Stood h there × Given row.results × (s.part ≡ part_at h s.standing) × Few s.part.group × Within (2 ^ 61) s.sums
+    may_enter room few = (room, may_stand.0, may_stand.1, g.part, g.few, within_wider (omega arith) g.small)
 
     module _ (fit : SharesFit h) {t : Running} (after : t ≡ entered h s row.head row.results) (still : Few t.part.group) where
       abbrev adds : List Ends

@@ -6,8 +6,7 @@ use Rattle.records.specs.declared.Hull.{Hull}
 use Rattle.records.specs.declared.RowHead.{RowHead}
 use Rattle.records.specs.Results.{Results}
 use Rattle.solas.specs.Count.{Group}
-use Rattle.spans.specs.Hull.{ship_of, Hulled}
-use Rattle.spans.specs.Table.{table_of}
+use Rattle.spans.specs.Hull.{ship_of}
 use Rattle.chances.specs.Share.{nothing}
 use Rattle.survival.specs.Survival.{no_survival, survivals_of}
 use Rattle.indices.specs.Index.{plus, partials, Share, Given}
@@ -58,9 +57,3 @@ follow_prop h y (r ∷ rs) =
 -- rows have shares of at most one
 abbrev pub SharesFit : Hull → Type 0
 SharesFit h = (y : Standing) → Stood h y → Share (share_at h y)
-
--- a hull with its span table, whose rows have shares of at most one
-pub record Ready (h : Hull) (t : List ℕ) : Type 0 where
-  pub hull : Hulled h
-  pub table : t ≡ table_of h
-  pub shares : (y : Standing) → Stood h y → Share (share_at h y)

@@ -7,32 +7,38 @@ ghost use Rattle.rows.specs.Running.{Follow, follow_prop, SharesFit};
 
 use groups::subdivision::Subdivision;
 
-// At most 500 of them, one after the other as an accepted file has them.
+// What any row of a ship is worked out by: her subdivision, her draughts, and where rows are kept.
 #[derive(Clone, Copy)]
-pub struct KeptRows<'a> {
+pub struct Kept<'a> {
     pub ship: Subdivision<'a>,
     pub draughts: [u64; 3],
-    pub kept: &'a [u8],
-    pub count: usize,
+    pub bytes: &'a [u8],
     pub ghost drawn: { draughts ≡ draughts_of ship.hull.deepest ship.hull.light },
-    pub ghost few: { count ≤ 500 },
-    pub ghost room: { place_width * count ≤ length kept.now },
     pub ghost shares: { SharesFit ship.hull },
-    pub ghost follow: { Follow ship.hull nowhere (kept_rows count kept.now 0) } by { follow_prop ship.hull nowhere (kept_rows count kept.now 0) },
+}
+
+// So many rows from the first place on, at most 500, one after the other as an accepted file has them.
+#[derive(Clone, Copy)]
+pub struct KeptRows<'a> {
+    pub kept: Kept<'a>,
+    pub count: usize,
+    pub ghost few: { count ≤ 500 },
+    pub ghost room: { place_width * count ≤ length kept.bytes.now },
+    pub ghost follow: { Follow kept.ship.hull nowhere (kept_rows count kept.bytes.now 0) } by { follow_prop kept.ship.hull nowhere (kept_rows count kept.bytes.now 0) },
 }
 
 // So many rows of a subdivided ship.
-pub fn of<'a>(ship: Subdivision<'a>, kept: &'a [u8], count: usize) -> KeptRows<'a>
-    requires sizes { (ship.hull.deepest < 2 ^ 32) × (ship.hull.light < 2 ^ 32) × (count ≤ 500) × (place_width * count ≤ length kept.now) }
+pub fn of<'a>(ship: Subdivision<'a>, bytes: &'a [u8], count: usize) -> KeptRows<'a>
+    requires sizes { (ship.hull.deepest < 2 ^ 32) × (ship.hull.light < 2 ^ 32) × (count ≤ 500) × (place_width * count ≤ length bytes.now) }
     requires shares { SharesFit ship.hull }
-    requires follow { Follow ship.hull nowhere (kept_rows count kept.now 0) }
-    ensures { (result.ship.hull ≡ ship.entry.hull) × (result.kept.now ≡ kept.now) × (result.count ≡ count) }
+    requires follow { Follow ship.hull nowhere (kept_rows count bytes.now 0) }
+    ensures { (result.kept.ship.hull ≡ ship.entry.hull) × (result.kept.bytes.now ≡ bytes.now) × (result.count ≡ count) }
 {
     let draughts = heights::three_draughts(ship.hull.deepest, ship.hull.light);
-    KeptRows {
+    let kept = Kept {
         ship,
         draughts,
-        kept,
-        count,
-    }
+        bytes,
+    };
+    KeptRows { kept, count }
 }

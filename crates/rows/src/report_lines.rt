@@ -15,11 +15,11 @@ use records::Ends;
 // A line of 25 bytes a row, from a place on.
 pub fn print(rows: &KeptRows, out: &mut [u8], from: usize) -> [Ends; 3]
     requires { from + 25 * rows.now.count ≤ length out.old }
-    ensures { (result ≡ partials (adds_from rows.now.ship.hull nowhere (kept_rows rows.now.count rows.now.kept.now 0))) × Within (500 * 10 ^ 9) result × (out.new ≡ splice from (row_lines (lines_from rows.now.ship.hull nowhere (kept_rows rows.now.count rows.now.kept.now 0))) out.old) }
+    ensures { (result ≡ partials (adds_from rows.now.kept.ship.hull nowhere (kept_rows rows.now.count rows.now.kept.bytes.now 0))) × Within (500 * 10 ^ 9) result × (out.new ≡ splice from (row_lines (lines_from rows.now.kept.ship.hull nowhere (kept_rows rows.now.count rows.now.kept.bytes.now 0))) out.old) }
 {
     let mut s = begin();
     for i in 0..rows.count {
-        s = rows.enter(s, i);
+        s = rows.kept.enter(s, i);
         put_row(s.part.share, s.survivals, out, from + 25 * i);
     }
     s.sums

@@ -1,14 +1,14 @@
 // A row after those before it: where it stands, its share, its survivals, and what it adds.
-ghost use Rattle.std.specs.Prelude.{◌≡◌, ◌+◌, ◌*◌, ◌^◌, ◌<◌, false};
+ghost use Rattle.std.specs.Prelude.{◌≡◌, ◌+◌, ◌*◌, ◌^◌, ◌≤◌, length, false};
 ghost use Rattle.indices.specs.Index.{Given, Within};
 ghost use Rattle.rows.specs.Standing.{stands};
-ghost use Rattle.casefile.specs.Kept.{kept_row};
+ghost use Rattle.casefile.specs.Kept.{place_width, kept_row};
 ghost use Rattle.casefile.specs.Order.{same_layer};
 ghost use Rattle.chances.specs.Share.{Few};
 ghost use Rattle.rows.specs.Work.{sums_at, part_at};
 ghost use Rattle.rows.specs.Running.{Stood, begun, entered};
 
-use super::kept_rows::KeptRows;
+use super::kept_rows::Kept;
 use super::survivals::survivals_of;
 use super::{Part, Running, Standing};
 use chances::{Sums, row_ends};
@@ -83,13 +83,13 @@ pub fn begin() -> Running
     Running::default()
 }
 
-impl<'a> KeptRows<'a> {
+impl<'a> Kept<'a> {
     // One row more: the one that is kept at place i.
     pub fn enter(&self, s: Running, i: usize) -> Running
-        requires { (i < self.now.count) × Stood self.now.ship.hull (stands s.standing (kept_row self.now.kept.now i).head) × Given (kept_row self.now.kept.now i).results × (s.part ≡ part_at self.now.ship.hull s.standing) × Few s.part.group × Within (2 ^ 61) s.sums }
-        ensures { (result ≡ entered self.now.ship.hull s (kept_row self.now.kept.now i).head (kept_row self.now.kept.now i).results) × Few result.part.group }
+        requires { (place_width * i + place_width ≤ length self.now.bytes.now) × Stood self.now.ship.hull (stands s.standing (kept_row self.now.bytes.now i).head) × Given (kept_row self.now.bytes.now i).results × (s.part ≡ part_at self.now.ship.hull s.standing) × Few s.part.group × Within (2 ^ 61) s.sums }
+        ensures { (result ≡ entered self.now.ship.hull s (kept_row self.now.bytes.now i).head (kept_row self.now.bytes.now i).results) × Few result.part.group }
     {
-        let row = row_at(self.kept, i);
+        let row = row_at(self.bytes, i);
         let head = row.head();
         let standing = next(s.standing, head);
         let part = part_after(&self.ship, s.standing, s.part, standing);

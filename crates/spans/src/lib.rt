@@ -14,7 +14,7 @@ use bands::{Ratio, inner};
 use division::billionths;
 use records::{Ends, Hull};
 
-// How many numbers a table has: four for each of the 210 spans that 20 zones have.
+// How many numbers a table has: four for each of the 210 spans that 20 zones have. Numbers, and no array of structs: `fill_table` fills any 840 that are lent.
 pub const TABLE: usize = 840;
 
 // The ends of p and of P of one span.
@@ -61,6 +61,7 @@ fn span_ends(l: u64, aft: u64, fwd: u64) -> SpanEnds
 }
 
 // A span's four numbers, from a place of the table on.
+#[tactic(auto, using(crate::proofs::Filling::part_set))]
 fn put_span(s: SpanEnds, t: &mut [u64], k: usize)
     requires { k + 4 ≤ length t.old }
     ensures { t.new ≡ sets t.old k (numbers_of s) }
@@ -70,6 +71,7 @@ fn put_span(s: SpanEnds, t: &mut [u64], k: usize)
 }
 
 // Zeros from a place of the table on.
+#[tactic(auto, using(crate::proofs::Filling::part_cleared))]
 fn clear(t: &mut [u64], from: usize)
     requires { (from ≤ 840) × (length t.old ≡ 840) }
     ensures { t.new ≡ sets t.old from (replicate (840 - from) 0) }
@@ -79,6 +81,7 @@ fn clear(t: &mut [u64], from: usize)
 
 // The ends of p and P of every span of a hull's zones, worked out once: by their last zone, and then by their first. The span from zone i to zone j,
 // counted from 0, stands at the place k; behind the last are zeros.
+#[tactic(auto, using(crate::proofs::Filling::none_begun, crate::proofs::Filling::next_begun))]
 pub fn fill_table(h: Hull, t: &mut [u64])
     requires { Hulled h × (length t.old ≡ 840) }
     ensures { t.new ≡ table_of h }

@@ -22,6 +22,7 @@ fn product(share: u64, v: u64, s: u64) -> u64
 }
 
 // What a row adds at one draught: with the bottom at the lower end, and the top at the upper.
+#[tactic(auto, unfolding(indices::specs::Index::adds_of))]
 pub fn adds(share: Ends, v: u64, s: Survival) -> Ends
     requires { Share share × Weights v s }
     ensures { result ≡ adds_of share v s.bottom s.top }
@@ -76,6 +77,7 @@ fn weighted(deepest: u64, partial: u64, light: u64) -> u64
 }
 
 // A from the partial indices.
+#[tactic(auto, unfolding(indices::specs::Index::attained_of))]
 pub fn attained(partials: [Ends; 3]) -> Ends
     requires { Within (2 ^ 60) partials }
     ensures { result ≡ attained_of partials }

@@ -1,26 +1,9 @@
 -- `judge_first` meets its contract: what a hull record has goes into the buffer. Assumes nothing.
 use mathlib.Core.Path.{sym, ◌∙◌}
 use Rattle.hexadecimal.specs.Hex.{pairs}
-use Rattle.frames.proofs.CodeDecoding.{badly_written_lem, stored}
-use Rattle.hulls.proofs.CodeOpening.{first_not_closed, first_no_digits, first_short, first_other, first_hull_lem, kind_stored, hull_stored}
+use Rattle.frames.proofs.CodeDecoding.{stored}
+use Rattle.hulls.proofs.CodeOpening.{first_hull_lem, kind_stored, hull_stored}
 use Rattle.hulls.proofs.judge_first.Goals as goal
-
-pub returns-then-not-closed : goal.returns-then-not-closed
-returns-then-not-closed c = rw c.if-not-closed.true (first_not_closed _)
-
-pub returns-in_default : goal.returns-in_default
-returns-in_default c =
-    rw c.if-not-closed.false
-    (first_no_digits _ (badly_written_lem _ (sym c.decode_text.ensures.result ∙ c.in_default.is)))
-
-pub returns-then-n-hull_length : goal.returns-then-n-hull_length
-returns-then-n-hull_length c =
-    let text = c.args.text.now in
-    let w = sym c.decode_text.ensures.result ∙ c.in-Some.is in
-    let there = stored text _ _ w c.decode_text.ensures.buffer in
-    let kind = c.byte_at-kind.ensures.value ∙ kind_stored (pairs text) _ there in
-    rw c.if-not-closed.false
-    (first_short _ _ w _ kind (rw c.hull_length.ensures at c.if-n-hull_length.true))
 
 pub returns-in-1 : goal.returns-in-1
 returns-in-1 c =
@@ -30,12 +13,3 @@ returns-in-1 c =
     let kind = c.byte_at-kind.ensures.value ∙ kind_stored (pairs text) _ there in
     rw c.if-not-closed.false
     (first_hull_lem _ _ w _ kind _ _ (rw c.hull_length.ensures at c.if-n-hull_length.false) c.in-1.is (hull_stored (pairs text) _ there _) c.judge_hull.ensures)
-
-pub returns-in_default-kind : goal.returns-in_default-kind
-returns-in_default-kind c =
-    let text = c.args.text.now in
-    let w = sym c.decode_text.ensures.result ∙ c.in-Some.is in
-    let there = stored text _ _ w c.decode_text.ensures.buffer in
-    let kind = c.byte_at-kind.ensures.value ∙ kind_stored (pairs text) _ there in
-    rw c.if-not-closed.false
-    (first_other _ _ w _ kind c.in_default-kind.in_default-kind-own.rest.1)

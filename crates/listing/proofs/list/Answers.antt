@@ -10,21 +10,21 @@ use Rattle.listing.proofs.list.Goals as goal
 pub loop-i-init : goal.loop-i-init
 loop-i-init c =
     let r = c.args.rows.now in (
-      starts r.ship.hull r.kept.now r.count r.follow c.begin-s.ensures,
-      no_number r.ship.hull r.kept.now r.count c.args.out.now (unfold begun in ap (λ (s : Running). s.standing) c.begin-s.ensures),
+      starts r.kept.ship.hull r.kept.bytes.now r.count r.follow c.begin-s.ensures,
+      no_number r.kept.ship.hull r.kept.bytes.now r.count c.args.out.now (unfold begun in ap (λ (s : Running). s.standing) c.begin-s.ensures),
     )
 
 pub enter-s-requires : goal.enter-s-requires
 enter-s-requires c =
     let r = c.args.rows.now in
-    may_enter r.ship.hull r.kept.now r.count c.loop-i.s c.loop-i.i c.loop-i.invariant.0 c.loop-i-test.true r.few
+    may_enter r.kept.ship.hull r.kept.bytes.now r.count c.loop-i.s c.loop-i.i c.loop-i.invariant.0 c.loop-i-test.true (omega (arith, c.loop-i-test.true, r.room)) r.few
 
 pub put_entered-requires : goal.put_entered-requires
 put_entered-requires c =
     let r = c.args.rows.now in
     let more = c.loop-i-test.true in
     let step = c.enter-s.ensures in
-    let asked = may_put r.ship.hull r.kept.now r.count c.loop-i.s c.loop-i.i c.loop-i.invariant.0 more r.shares step.0 step.1 r.draughts in
+    let asked = may_put r.kept.ship.hull r.kept.bytes.now r.count c.loop-i.s c.loop-i.i c.loop-i.invariant.0 more r.kept.shares step.0 step.1 r.kept.draughts in
     (asked.0, asked.1, omega (arith, more, c.requires, c.loop-i.invariant.1.long))
 
 pub loop-i-preserved : goal.loop-i-preserved
@@ -32,11 +32,11 @@ loop-i-preserved c =
     let r = c.args.rows.now in
     let more = c.loop-i-test.true in
     let step = c.enter-s.ensures in (
-      goes_on r.ship.hull r.kept.now r.count c.loop-i.s c.loop-i.i c.loop-i.invariant.0 more r.shares step.0 step.1,
-      twenty_more r.ship.hull r.kept.now r.count c.args.out.now c.loop-i.s.standing c.loop-i.i c.loop-i.invariant.1 more
-          (stands_there r.ship.hull r.kept.now r.count c.loop-i.s c.loop-i.i c.loop-i.invariant.0 more r.shares step.0 step.1)
+      goes_on r.kept.ship.hull r.kept.bytes.now r.count c.loop-i.s c.loop-i.i c.loop-i.invariant.0 more r.kept.shares step.0 step.1,
+      twenty_more r.kept.ship.hull r.kept.bytes.now r.count c.args.out.now c.loop-i.s.standing c.loop-i.i c.loop-i.invariant.1 more
+          (stands_there r.kept.ship.hull r.kept.bytes.now r.count c.loop-i.s c.loop-i.i c.loop-i.invariant.0 more r.kept.shares step.0 step.1)
           c.put_entered.ensures
-          (numbers_there r.ship.hull r.kept.now r.count c.loop-i.s c.loop-i.i c.loop-i.invariant.0 more r.shares step.0 step.1 r.drawn),
+          (numbers_there r.kept.ship.hull r.kept.bytes.now r.count c.loop-i.s c.loop-i.i c.loop-i.invariant.0 more r.kept.shares step.0 step.1 r.kept.drawn),
     )
 
 pub shape_of-out : goal.shape_of-out
@@ -45,4 +45,4 @@ shape_of-out c = c.loop-i.invariant.1.long
 pub returns : goal.returns
 returns c =
     let r = c.args.rows.now in
-    all_numbers r.ship.hull r.kept.now r.count c.args.out.now c.loop-i.s.standing c.loop-i.i c.loop-i.invariant.1 c.loop-i-test.false c.requires
+    all_numbers r.kept.ship.hull r.kept.bytes.now r.count c.args.out.now c.loop-i.s.standing c.loop-i.i c.loop-i.invariant.1 c.loop-i-test.false c.requires

@@ -6,4 +6,4 @@ use Rattle.listing.proofs.list.Given as goal
 abbrev pub invariant-loop-i : goal.invariant-loop-i
 invariant-loop-i l =
     let r = l.rows in
-    Reached r.ship.hull r.kept.now r.count l.s l.i × InNumbers r.ship.hull r.kept.now r.count l.initial.out l.out l.s.standing l.i
+    Reached r.kept.ship.hull r.kept.bytes.now r.count l.s l.i × InNumbers r.kept.ship.hull r.kept.bytes.now r.count l.initial.out l.out l.s.standing l.i

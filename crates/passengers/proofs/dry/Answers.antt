@@ -1,7 +1,6 @@
 -- `passengers::dry` meets its contract: no product wraps, and whichever way the ends are found they are those of the lesser. Assumes nothing.
 use Prim.Native.Nat.{ℕ, ◌-◌, ◌*◌, ◌^◌, ◌≤◌, ◌<◌, min}
 use mathlib.Core.Path.{◌≡◌, refl, ◌∙◌}
-use native.Mathlib.Nat.{mul-le-mul}
 use native.Mathlib.Omega.{arith}
 use Rattle.laws.specs.Fraction.{lesser, ◌⊛◌}
 use Rattle.records.specs.declared.Finding.{Finding}
@@ -23,9 +22,6 @@ module _ (f : Finding) (w : Flooding) {caps : Caps} (asked : Loaded f w × (caps
 
   last_fits : {fourth : ℕ} → fourth ≡ fourth_in caps f.lever f.range f.heel → fourth * caps.parts ≤ 168 * 10 ^ 16
   last_fits j = rw j (final_parts suits f.lever f.range f.heel).at_most_one
-
-  righting_fits : {lever : ℕ} → lever ≡ f.lever - 40 → lever * w.displacement ≤ 5000 * 300000
-  righting_fits {lever} k = let l : lever ≤ 5000 = omega (arith, asked.0.lever, k) in mul-le-mul l asked.0.displacement
 
 -- and what is made of them
 module _ (f : Finding) (w : Flooding) {caps : Caps} (asked : Loaded f w × (caps ≡ caps_of w.roro)) {stage fourth lever : ℕ}
@@ -64,10 +60,6 @@ fourth-fourth-requires c = let s = caps_suit c.args.w.roro in rw c.requires.1 (s
 pub overflow_mul-last : goal.overflow_mul-last
 overflow_mul-last c =
     omega (arith, last_fits c.args.f c.args.w c.requires c.fourth-fourth.ensures)
-
-pub overflow_mul-righting : goal.overflow_mul-righting
-overflow_mul-righting c =
-    omega (arith, righting_fits c.args.f c.args.w c.requires c.saturating_sub.ensures)
 
 pub returns-then-w-righting : goal.returns-then-w-righting
 returns-then-w-righting c =

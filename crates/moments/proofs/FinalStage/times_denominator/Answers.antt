@@ -1,16 +1,10 @@
 -- `moments::FinalStage::times_denominator` meets its contract: 64 bits hold each factor of three. Assumes nothing.
 use mathlib.Core.List.{[]}
 use mathlib.Core.Path.{◌∙◌}
-use native.Mathlib.Nat.{mul-le-mul, pow-le-pow_left}
+use native.Mathlib.Nat.{pow-le-pow_left}
 use native.Mathlib.Omega.{arith}
 use Rattle.laws.proofs.Polynomial.{◌:*◌, ◌:^◌, ◌:=◌, ◌⊢◌, poly3}
 use Rattle.moments.proofs.FinalStage.times_denominator.Goals as goal
-
-pub overflow_mul-self : goal.overflow_mul-self
-overflow_mul-self c = omega (arith, mul-le-mul c.requires.1 c.requires.0)
-
-pub overflow_mul-self-2 : goal.overflow_mul-self-2
-overflow_mul-self-2 c = omega (arith, mul-le-mul (mul-le-mul c.requires.1 c.requires.0) c.requires.2)
 
 pub pow-requires : goal.pow-requires
 pow-requires c = omega (arith, pow-le-pow_left c.requires.2 3)

@@ -11,14 +11,14 @@ use Rattle.rows.proofs.sheet.fill.Goals as goal
 pub loop-i-init : goal.loop-i-init
 loop-i-init c =
     let r = c.args.rows.now in (
-      starts r.ship.hull r.kept.now r.count r.follow c.begin-s.ensures,
-      none_on_sheet r.ship.hull r.kept.now r.count c.args.sheet.now (unfold begun in ap (λ (s : Running). s.standing) c.begin-s.ensures),
+      starts r.kept.ship.hull r.kept.bytes.now r.count r.follow c.begin-s.ensures,
+      none_on_sheet r.kept.ship.hull r.kept.bytes.now r.count c.args.sheet.now (unfold begun in ap (λ (s : Running). s.standing) c.begin-s.ensures),
     )
 
 pub enter-s-requires : goal.enter-s-requires
 enter-s-requires c =
     let r = c.args.rows.now in
-    may_enter r.ship.hull r.kept.now r.count c.loop-i.s c.loop-i.i c.loop-i.invariant.0 c.loop-i-test.true r.few
+    may_enter r.kept.ship.hull r.kept.bytes.now r.count c.loop-i.s c.loop-i.i c.loop-i.invariant.0 c.loop-i-test.true (omega (arith, c.loop-i-test.true, r.room)) r.few
 
 pub loop-i-preserved : goal.loop-i-preserved
 loop-i-preserved c =
@@ -26,10 +26,10 @@ loop-i-preserved c =
     let more = c.loop-i-test.true in
     let step = c.enter-s.ensures in
     let g = c.loop-i.invariant.0 in (
-      goes_on r.ship.hull r.kept.now r.count c.loop-i.s c.loop-i.i g more r.shares step.0 step.1,
-      more_on_sheet r.ship.hull r.kept.now r.count c.args.sheet.now c.loop-i.s.standing c.loop-i.i c.loop-i.invariant.1 more
-          (stands_there r.ship.hull r.kept.now r.count c.loop-i.s c.loop-i.i g more r.shares step.0 step.1)
-          (part_there r.ship.hull r.kept.now r.count c.loop-i.s c.loop-i.i g more r.shares step.0 step.1)
+      goes_on r.kept.ship.hull r.kept.bytes.now r.count c.loop-i.s c.loop-i.i g more r.kept.shares step.0 step.1,
+      more_on_sheet r.kept.ship.hull r.kept.bytes.now r.count c.args.sheet.now c.loop-i.s.standing c.loop-i.i c.loop-i.invariant.1 more
+          (stands_there r.kept.ship.hull r.kept.bytes.now r.count c.loop-i.s c.loop-i.i g more r.kept.shares step.0 step.1)
+          (part_there r.kept.ship.hull r.kept.bytes.now r.count c.loop-i.s c.loop-i.i g more r.kept.shares step.0 step.1)
           refl,
     )
 
@@ -39,7 +39,7 @@ returns c =
     let last = c.loop-i-test.false in
     let g = c.loop-i.invariant.0 in
     let few = within_wider {k = 500 * 10 ^ 9} (omega (arith, g.within, r.few)) g.small in (
-      sums_are r.ship.hull r.kept.now r.count c.loop-i.s c.loop-i.i g last,
+      sums_are r.kept.ship.hull r.kept.bytes.now r.count c.loop-i.s c.loop-i.i g last,
       few,
-      all_on_sheet r.ship.hull r.kept.now r.count c.args.sheet.now c.loop-i.s.standing c.loop-i.i c.loop-i.invariant.1 last c.requires,
+      all_on_sheet r.kept.ship.hull r.kept.bytes.now r.count c.args.sheet.now c.loop-i.s.standing c.loop-i.i c.loop-i.invariant.1 last c.requires,
     )

@@ -11,13 +11,14 @@ use mir.Syntax.{w64}
 use Rattle.std.specs.Int.{bytes_high_first, to_be_bytes}
 use Rattle.laws.specs.Bytes.{bytes}
 use Rattle.laws.proofs.Bytes.{length_bytes}
+use Rattle.laws.proofs.Pieces.{pieces_below, piece_more}
 use Rattle.records.specs.declared.Ends.{Ends}
 use Rattle.records.specs.Ends.{no_ends}
 use Rattle.hexadecimal.specs.Hex.{digit, hex}
+use Rattle.hexadecimal.proofs.Pairs.{length_hex}
 use Rattle.digits.specs.Splice.{splice}
 use Rattle.digits.specs.Fields.{ends_field, partial_field, partials_field}
-use Rattle.digits.proofs.Splice.{splice_none}
-use Rattle.digits.proofs.Text.{two_digits, digits_then}
+use Rattle.digits.proofs.Text.{hex_append, digits_then}
 
 -- ---- how long each is
 
@@ -34,18 +35,6 @@ unfolding partials_field
 length_partials t = simp (length-append, length_partial) refl
 
 -- ---- as they are written
-
-pub byte_written : (at n : ℕ) (xs : List ℕ) {high low : ℕ} → high ≡ digit (n / 16 % 16) → low ≡ digit (n % 16) →
-    set (set xs at high) (at + 1) low ≡ splice at (hex (bytes 1 n)) xs
-unfolding splice
-byte_written at n xs e f = rw (e, f, two_digits n, add-one at) refl
-
-pub low_written : (at n : ℕ) (xs : List ℕ) {low : ℕ} → n < 16 → low ≡ digit n → set (set xs at 48) (at + 1) low ≡ splice at (hex (bytes 1 n)) xs
-unfolding digit
-low_written at n xs h e =
-    let high : n / 16 % 16 ≡ 0 = omega arith in
-    let rest : n % 16 ≡ n = omega arith in
-    byte_written at n xs (rw high refl) (rw rest e)
 
 -- the machine's bytes, of which the k low ones are the last k of eight
 all_bytes : (k n : ℕ) → bytes_high_first k n ≡ bytes k n
@@ -84,26 +73,23 @@ module _ (at : ℕ) (xs : List ℕ) {ys zs : List ℕ} where
 
 -- ---- draught by draught
 
--- the ends of the partial indices at the first j draughts
-pub fields_below : List Ends → ℕ → List ℕ
-fields_below t zero = []
-fields_below t (suc j) = fields_below t j ++ partial_field t j
+-- three fields, digit by digit
+pub three_fields : (at : ℕ) (field : ℕ → List ℕ) (xs : List ℕ) {j : ℕ} {ys : List ℕ} → j ≡ 3 →
+    ys ≡ splice at (pieces_below (λ k. hex (field k)) j) xs → ys ≡ splice at (hex (field 0 ++ field 1 ++ field 2)) xs
+unfolding pieces_below
+three_fields at field xs e p = rw (hex_append (field 0 ++ field 1) (field 2), hex_append (field 0) (field 1)) (rw e at p)
 
-length_below : (t : List Ends) (j : ℕ) → length (fields_below t j) ≡ 8 * j
-unfolding fields_below
-length_below t zero = refl
-length_below t (suc j) = rw length-append (omega (arith, length_below t j, length_partial t j))
+-- the digits of the partial indices
+abbrev pub partial_digits : List Ends → ℕ → List ℕ
+partial_digits t j = hex (partial_field t j)
 
 module _ (at : ℕ) (t : List Ends) (xs : List ℕ) where
-  pub none_written : xs ≡ splice at (hex (fields_below t 0)) xs
-  unfolding fields_below hex
-  none_written = sym (splice_none at xs)
+  pub one_more_written : (j : ℕ) {e : Ends} {ys zs : List ℕ} → e ≡ get_or t j no_ends → ys ≡ splice at (pieces_below (partial_digits t) j) xs →
+      zs ≡ splice (at + 16 * j) (hex (ends_field e.lower e.upper)) ys → zs ≡ splice at (pieces_below (partial_digits t) (j + 1)) xs
+  unfolding splice partial_field
+  one_more_written j e p q =
+      piece_more (partial_digits t) 16 (λ k. length_hex (partial_field t k) ∙ ap (λ n. n * 2) (length_partial t k)) xs at j (at + 16 * j) refl p (rw e at q)
 
-  pub one_more_written : (j : ℕ) {e : Ends} {ys zs : List ℕ} → e ≡ get_or t j no_ends → ys ≡ splice at (hex (fields_below t j)) xs →
-      zs ≡ splice (at + 16 * j) (hex (ends_field e.lower e.upper)) ys → zs ≡ splice at (hex (fields_below t (j + 1))) xs
-  unfolding partial_field fields_below
-  one_more_written j e p q = rw (add-one j) (digits_then at (at + 16 * j) (fields_below t j) (partial_field t j) xs (omega (arith, length_below t j)) p (rw e at q))
-
-  pub all_written : {j : ℕ} {ys : List ℕ} → j ≡ 3 → ys ≡ splice at (hex (fields_below t j)) xs → ys ≡ splice at (hex (partials_field t)) xs
-  unfolding partials_field fields_below
-  all_written e p = rw e at p
+  pub all_written : {j : ℕ} {ys : List ℕ} → j ≡ 3 → ys ≡ splice at (pieces_below (partial_digits t) j) xs → ys ≡ splice at (hex (partials_field t)) xs
+  unfolding partials_field
+  all_written e p = three_fields at (partial_field t) xs e p

@@ -1,13 +1,13 @@
 -- Bytes and their digits, part by part: how long each is, and that parts written one after the other are the whole. Assumes nothing.
-use Prim.Native.Nat.{ℕ, zero, suc, ◌+◌, ◌*◌, ◌/◌, ◌%◌, ◌^◌}
-use mathlib.Core.Path.{◌≡◌, refl, sym, ◌∙◌, ap, ap₂}
+use Prim.Native.Nat.{ℕ, zero, suc, ◌+◌, ◌*◌, ◌/◌, ◌^◌}
+use mathlib.Core.Path.{◌≡◌, refl, sym, ◌∙◌, ap}
 use mathlib.Core.List.{List, [], ◌∷◌, ◌++◌}
 use native.Mathlib.Nat.{suc-add, zero-add, add_comm, div-div-eq-div-mul}
 use native.Mathlib.Omega.{arith}
 use lib.Pow.{pow-add}
 use lib.ListN.{length, length-append}
 use Rattle.laws.specs.Bytes.{bytes}
-use Rattle.hexadecimal.specs.Hex.{digit, hex, line_of}
+use Rattle.hexadecimal.specs.Hex.{hex, line_of}
 use Rattle.hexadecimal.proofs.Pairs.{length_hex}
 use Rattle.digits.specs.Splice.{splice}
 use Rattle.digits.proofs.Splice.{splice_then}
@@ -22,10 +22,6 @@ pub bytes_append : (j k n : ℕ) → bytes (j + k) n ≡ bytes j (n / 256 ^ k) +
 unfolding bytes
 bytes_append zero k n = rw (zero-add k) refl
 bytes_append (suc j) k n = rw (suc-add j k, bytes_append j k n, div-div-eq-div-mul, ← pow-add, add_comm k j) refl
-
-pub two_digits : (n : ℕ) → hex (bytes 1 n) ≡ digit (n / 16 % 16) ∷ digit (n % 16) ∷ []
-unfolding hex bytes
-two_digits n = ap₂ (λ x y. digit x ∷ digit y ∷ []) (omega arith) (omega arith)
 
 pub length_line : (frame : List ℕ) → length (line_of frame) ≡ length frame * 2 + 1
 unfolding line_of

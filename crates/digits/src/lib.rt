@@ -28,15 +28,6 @@ pub fn put_bytes<const N: usize>(n: u64, out: &mut [u8], at: usize)
     }
 }
 
-// A byte below 16: a zero, and its one digit.
-pub fn put_low(n: u64, out: &mut [u8], at: usize)
-    requires { (n < 16) × (at + 2 ≤ length out.old) }
-    ensures { out.new ≡ splice at (hex (bytes 1 n)) out.old }
-{
-    out[at] = b'0';
-    out[at + 1] = digit_of(n as u8);
-}
-
 // A figure's ends.
 pub fn put_ends(lower: u64, upper: u64, out: &mut [u8], at: usize)
     requires { at + 16 ≤ length out.old }

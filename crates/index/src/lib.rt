@@ -62,9 +62,7 @@ fn conclude(h: Hull, rows: u64, partials: [Ends; 3]) -> Figures
     ensures { answer_with result ≡ figures h rows partials }
 {
     let attained = sums::attained(partials);
-    let required = verdicts::required_of(h);
-    let mark = verdicts::mark_of(h);
-    let verdict = verdicts::verdict(attained, partials, required, mark);
+    let verdict = verdicts::verdict(attained, partials, verdicts::standard_of(h));
     Figures {
         verdict,
         rows,

@@ -1,11 +1,12 @@
--- A list that is written piece by piece, each as long as the others: after some of them, with what is left, it comes to what the whole comes to. Assumes
--- nothing.
-use Prim.Native.Nat.{ℕ, ◌+◌, ◌*◌, ◌≤◌}
+-- A list that is written piece by piece, each as long as the others: after some of them, with what is left, it comes to what the whole comes to, and what
+-- is written is those so far. Assumes nothing.
+use Prim.Native.Nat.{ℕ, zero, suc, ◌+◌, ◌*◌, ◌≤◌}
 use mathlib.Core.Path.{◌≡◌, refl, sym, ◌∙◌, ap}
 use mathlib.Core.List.{List, [], ◌++◌}
 use native.Mathlib.Omega.{arith}
-use lib.ListN.{length, drop}
 use native.Mathlib.Nat.{zero-add}
+use native.Mathlib.Numerals.{add-one}
+use lib.ListN.{length, drop, length-append}
 use lib.Seq.{sets, sets-eq, length-sets}
 use Rattle.laws.proofs.Lists.{sets_append}
 
@@ -32,3 +33,23 @@ module _ {A : Type 0} (width from : ℕ) (first whole : List A) where
 -- all of it from the front on, where there is room for n
 pub put_in_front : {A : Type 0} (first whole : List A) {now : List A} {n : ℕ} → now ≡ sets first 0 whole → length whole ≡ n → n ≤ length first → now ≡ whole ++ drop n first
 put_in_front first whole e l room = e ∙ sets-eq whole first 0 (omega (arith, l)) ∙ ap (λ k. whole ++ drop k first) (zero-add (length whole) ∙ l)
+
+-- ---- those so far
+
+-- the first j pieces
+unfoldable pub pieces_below : {A : Type 0} → (ℕ → List A) → ℕ → List A
+pieces_below piece zero = []
+pieces_below piece (suc j) = pieces_below piece j ++ piece j
+
+module _ {A : Type 0} (piece : ℕ → List A) (width : ℕ) (each : (j : ℕ) → length (piece j) ≡ width) where
+  length_below : (j : ℕ) → length (pieces_below piece j) ≡ width * j
+  unfolding pieces_below
+  length_below zero = omega arith
+  length_below (suc j) = rw length-append (omega (arith, length_below j, each j))
+
+  pub piece_more : (xs : List A) (from j next : ℕ) {ys zs : List A} → next ≡ from + width * j → ys ≡ sets xs from (pieces_below piece j) → zs ≡ sets ys next (piece j) →
+      zs ≡ sets xs from (pieces_below piece (j + 1))
+  unfolding pieces_below
+  piece_more xs from j next e p q =
+      let place : next ≡ from + length (pieces_below piece j) = omega (arith, e, length_below j) in
+      q ∙ rw (p, place, add-one j) (sym (sets_append xs from (pieces_below piece j) (piece j)))

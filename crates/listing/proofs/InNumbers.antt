@@ -7,7 +7,7 @@ use lib.ListN.{length, take, drop, length-append}
 use lib.Seq.{sets, sets-eq, drop-drop}
 use borrow.Rule.Slice.PartMut.{put_mid}
 use Rattle.laws.proofs.Lists.{sets_append}
-use Rattle.laws.proofs.Pieces.{Put, put_none, put_more, put_all, put_in_front}
+use Rattle.laws.proofs.Pieces.{pieces_below, piece_more, Put, put_none, put_more, put_all, put_in_front}
 use Rattle.records.specs.declared.Ends.{Ends}
 use Rattle.records.specs.declared.Hull.{Hull}
 use Rattle.records.specs.declared.Survival.{Survival}
@@ -61,17 +61,19 @@ copied at k xs ys l h e =
     rw (n, e, drop-drop (length ys) at xs, ← append_assoc (take at xs) ys (drop (at + length ys) xs)) (sym (sets-eq ys xs at (omega (arith, l))))
 
 -- two, and six after six
-pub row_put : (share : Ends) (vs : List ℕ) (ss : List Survival) (at : ℕ) (xs : List ℕ) {ws bs cs ds : List ℕ} → ws ≡ sets xs at (share.lower ∷ share.upper ∷ []) →
-    bs ≡ sets ws (at + 2) (draught_numbers share vs ss 0) → cs ≡ sets bs (at + 8) (draught_numbers share vs ss 1) → ds ≡ sets cs (at + 14) (draught_numbers share vs ss 2) →
-    ds ≡ sets xs at (row_numbers share vs ss)
-unfolding row_numbers six_numbers
-row_put share vs ss at xs {ws} {bs} {cs} {ds} p q r t =
-    let six = draught_numbers share vs ss in
-    let eight : at + 8 ≡ at + 2 + 6 = omega arith in
-    let fourteen : at + 14 ≡ at + 8 + 6 = omega arith in
-    let light : ds ≡ sets bs (at + 8) (six 1 ++ six 2) = t ∙ rw (r, fourteen) (sym (sets_append bs (at + 8) (six 1) (six 2))) in
-    let partial : ds ≡ sets ws (at + 2) (six 0 ++ six 1 ++ six 2) = light ∙ rw (q, eight) (sym (sets_append ws (at + 2) (six 0) (six 1 ++ six 2))) in
-    partial ∙ rw p (sym (sets_append xs at (share.lower ∷ share.upper ∷ []) (six 0 ++ six 1 ++ six 2)))
+module _ (share : Ends) (vs : List ℕ) (ss : List Survival) (at : ℕ) where
+  abbrev six : ℕ → List ℕ
+  six = draught_numbers share vs ss
+
+  pub draught_more : (ws : List ℕ) (j : ℕ) {ys zs : List ℕ} → ys ≡ sets ws (at + 2) (pieces_below six j) → zs ≡ sets ys (at + 2 + 6 * j) (six j) →
+      zs ≡ sets ws (at + 2) (pieces_below six (j + 1))
+  unfolding six_numbers
+  draught_more ws j p q = piece_more six 6 (λ k. refl) ws (at + 2) j (at + 2 + 6 * j) refl p q
+
+  pub row_put : (xs : List ℕ) {j : ℕ} {ws ds : List ℕ} → ws ≡ sets xs at (share.lower ∷ share.upper ∷ []) → j ≡ 3 →
+      ds ≡ sets ws (at + 2) (pieces_below six j) → ds ≡ sets xs at (row_numbers share vs ss)
+  unfolding row_numbers pieces_below
+  row_put xs p e q = rw e at q ∙ rw p (sym (sets_append xs at (share.lower ∷ share.upper ∷ []) (six 0 ++ six 1 ++ six 2)))
 
 -- with v as it was worked out
 pub row_put_with : (share : Ends) (ss : List Survival) (at : ℕ) (xs : List ℕ) {vs ws ys : List ℕ} → ys ≡ sets xs at (row_numbers share vs ss) → vs ≡ ws → ys ≡ sets xs at (row_numbers share ws ss)

@@ -6,15 +6,14 @@ ghost use Rattle.listing.specs.Hull.{required_numbers, group_numbers};
 
 use groups::subdivision::Subdivision;
 use records::{Ends, Hull};
+use verdicts::Standard;
 
 // R, then the mark of a partial index: numerator and denominator of each.
-#[tactic(auto, using(crate::proofs::HullNumbers::four_told))]
 pub fn put_required(h: Hull, out: &mut [u64])
     requires { Sized h × (4 ≤ length out.old) }
     ensures { out.new ≡ required_numbers h ++ drop 4 out.old }
 {
-    let required = verdicts::required_of(h);
-    let mark = verdicts::mark_of(h);
+    let Standard { required, mark } = verdicts::standard_of(h);
     out[..4].copy_from_slice(&[required.num, required.den, mark.num, mark.den]);
 }
 

@@ -41,13 +41,10 @@ fn put_row(share: Ends, vs: [u64; 3], ss: [Survival; 3], out: &mut [u64], at: us
     requires { Share share × RowWeights vs ss × (at + 20 ≤ length out.old) }
     ensures { out.new ≡ sets out.old at (row_numbers share vs ss) }
 {
-    let deepest = ss[0];
-    let partial = ss[1];
-    let light = ss[2];
     put_ends(share, out, at);
-    put_draught(share, vs[0], deepest, out, at + 2);
-    put_draught(share, vs[1], partial, out, at + 8);
-    put_draught(share, vs[2], light, out, at + 14);
+    for (j, &s) in ss.iter().enumerate() {
+        put_draught(share, vs[j], s, out, at + 2 + 6 * j);
+    }
 }
 
 // Those of the row that was entered last, at these draughts.

@@ -1,6 +1,6 @@
 -- Marks and their byte, there and back; and a row's three, as they are written. Assumes nothing.
 use Prim.Native.Nat.{ℕ, ◌+◌, ◌*◌, ◌<◌}
-use mathlib.Core.Path.{◌≡◌, refl, ap}
+use mathlib.Core.Path.{◌≡◌, refl, ◌∙◌, ap}
 use mathlib.Core.Bool.{Bool, true, false, cond}
 use mathlib.Core.List.{List, [], ◌∷◌, ◌++◌}
 use native.Mathlib.Omega.{arith}
@@ -9,11 +9,13 @@ use lib.ListN.{length, length-append}
 use Rattle.std.specs.Int.{from_bool}
 use Rattle.laws.specs.Bytes.{bytes}
 use Rattle.laws.proofs.Bytes.{length_bytes}
+use Rattle.laws.proofs.Pieces.{pieces_below, piece_more}
 use Rattle.records.specs.declared.Marks.{Marks}
 use Rattle.records.specs.declared.Survival.{Survival}
 use Rattle.hexadecimal.specs.Hex.{hex}
+use Rattle.hexadecimal.proofs.Pairs.{length_hex}
 use Rattle.digits.specs.Splice.{splice}
-use Rattle.digits.proofs.Text.{digits_then}
+use Rattle.digits.proofs.Fields.{three_fields}
 use Rattle.printing.specs.Marks.{mark_byte, marks_at, marks_field}
 use Rattle.printing.specs.ReadBack.{marks_by}
 -- checked first, so that a definition that marks otherwise is refused there
@@ -57,9 +59,6 @@ by_name false false false false = (lit< tt, refl)
 one_digit : (m : Marks) → mark_byte m < 16
 one_digit m = (by_name m.lever m.range m.heel m.opening).0
 
-pub below_16 : (m : Marks) {n : ℕ} → n ≡ mark_byte m → n < 16
-below_16 m e = rw e (one_digit m)
-
 -- from the byte each mark by its name
 pub marks_by_byte : (m : Marks) → marks_by (mark_byte m) ≡ m
 marks_by_byte m = (by_name m.lever m.range m.heel m.opening).1
@@ -78,12 +77,18 @@ pub marks_field_bytes : (ss : List Survival) → marks_field ss ≡ mark_byte (m
 unfolding marks_field
 marks_field_bytes ss = rw (one_byte (marks_at ss 0), one_byte (marks_at ss 1), one_byte (marks_at ss 2)) refl
 
-module _ (ss : List Survival) (at : ℕ) (xs : List ℕ) {ys zs us : List ℕ} {s p l : ℕ} where
-  pub marks_written : s ≡ mark_byte (marks_at ss 0) → p ≡ mark_byte (marks_at ss 1) → l ≡ mark_byte (marks_at ss 2) →
-      ys ≡ splice at (hex (bytes 1 s)) xs → zs ≡ splice (at + 2) (hex (bytes 1 p)) ys → us ≡ splice (at + 4) (hex (bytes 1 l)) zs →
-      us ≡ splice at (hex (marks_field ss)) xs
+-- as they are written, draught by draught
+abbrev pub mark_digits : List Survival → ℕ → List ℕ
+mark_digits ss j = hex (bytes 1 (mark_byte (marks_at ss j)))
+
+module _ (ss : List Survival) (at : ℕ) (xs : List ℕ) where
+  pub one_mark_more : (j : ℕ) {n : ℕ} {ys zs : List ℕ} → n ≡ mark_byte (marks_at ss j) → ys ≡ splice at (pieces_below (mark_digits ss) j) xs →
+      zs ≡ splice (at + 2 * j) (hex (bytes 1 n)) ys → zs ≡ splice at (pieces_below (mark_digits ss) (j + 1)) xs
+  unfolding splice
+  one_mark_more j e p q =
+      piece_more (mark_digits ss) 2 (λ k. length_hex (bytes 1 (mark_byte (marks_at ss k))) ∙ ap (λ n. n * 2) (length_bytes 1 (mark_byte (marks_at ss k)))) xs at j (at + 2 * j) refl p
+      (rw e at q)
+
+  pub all_marks : {j : ℕ} {ys : List ℕ} → j ≡ 3 → ys ≡ splice at (pieces_below (mark_digits ss) j) xs → ys ≡ splice at (hex (marks_field ss)) xs
   unfolding marks_field
-  marks_written e f g q r t = rw (← e, ← f, ← g)
-      (digits_then at (at + 4) (bytes 1 s ++ bytes 1 p) (bytes 1 l) xs (simp (length-append, length_bytes) (omega arith))
-      (digits_then at (at + 2) (bytes 1 s) (bytes 1 p) xs (omega (arith, length_bytes 1 s)) q r)
-      t)
+  all_marks e p = three_fields at (λ k. bytes 1 (mark_byte (marks_at ss k))) xs e p

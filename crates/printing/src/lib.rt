@@ -8,7 +8,7 @@ ghost use Rattle.printing.specs.Marks.{mark_byte, marks_field};
 ghost use Rattle.printing.specs.Printed.{refusal_frame, figures_frame, row_frame};
 ghost use Rattle.printing.specs.Written.{length_in, written_in};
 
-use digits::{put_bytes, put_ends, put_feed, put_low, put_partials};
+use digits::{put_bytes, put_ends, put_feed, put_partials};
 use records::{Answer, Ends, Marks, Survival};
 
 // A refusal's line, in front.
@@ -57,12 +57,9 @@ fn put_marks(ss: [Survival; 3], out: &mut [u8], at: usize)
     requires { at + 6 ≤ length out.old }
     ensures { out.new ≡ splice at (hex (marks_field ss)) out.old }
 {
-    let deepest = ss[0];
-    let partial = ss[1];
-    let light = ss[2];
-    put_low(mark_byte(deepest.marks), out, at);
-    put_low(mark_byte(partial.marks), out, at + 2);
-    put_low(mark_byte(light.marks), out, at + 4);
+    for (j, s) in ss.iter().enumerate() {
+        put_bytes::<1>(mark_byte(s.marks), out, at + 2 * j);
+    }
 }
 
 // The line of a row: its share and its marks.

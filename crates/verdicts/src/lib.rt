@@ -30,6 +30,14 @@ impl From<Compliance> for u64 {
     }
 }
 
+// What the indices of a ship are held to: A to `required`, each partial index to `mark`, both from 0 to 1 and of so few parts that ends can be compared with them.
+#[derive(Clone, Copy)]
+pub struct Standard {
+    pub required: Ratio,
+    pub mark: Ratio,
+    pub ghost proper: { Proper (10 ^ 9) required × Proper (10 ^ 9) mark },
+}
+
 // What a whole comes to in billionths.
 const WHOLE: u64 = 1_000_000_000;
 
@@ -117,6 +125,17 @@ pub fn mark_of(h: Hull) -> Ratio
     }
 }
 
+// Both, of a hull.
+pub fn standard_of(h: Hull) -> Standard
+    requires { Sized h }
+    ensures { (result.required ≡ ratio_of (required_of h)) × (result.mark ≡ ratio_of (mark_of h)) }
+{
+    Standard {
+        required: required_of(h),
+        mark: mark_of(h),
+    }
+}
+
 // An end in billionths is not below the mark. No product of an end from 10⁹ on is made: it reaches every mark.
 fn end_reaches(end: u64, mark: Ratio) -> bool
     requires { Proper (10 ^ 9) mark }
@@ -129,24 +148,23 @@ fn end_reaches(end: u64, mark: Ratio) -> bool
 }
 
 // The end of A reaches R, and those of all partial indices reach their mark.
-fn all_reach(index: u64, partials: [u64; 3], required: Ratio, mark: Ratio) -> bool
-    requires { Proper (10 ^ 9) required × Proper (10 ^ 9) mark }
-    ensures { IsTrue result ↔ (IsTrue (reaches index required) × All (λ end. IsTrue (reaches end mark)) partials) }
+fn all_reach(index: u64, partials: [u64; 3], standard: Standard) -> bool
+    ensures { IsTrue result ↔ (IsTrue (reaches index standard.required) × All (λ end. IsTrue (reaches end standard.mark)) partials) }
 {
-    end_reaches(index, required) && partials.iter().all(|&end| end_reaches(end, mark))
+    end_reaches(index, standard.required)
+        && partials.iter().all(|&end| end_reaches(end, standard.mark))
 }
 
 // Meets where all lower ends reach their marks, fails where some upper end does not, and else is unsettled.
-pub fn verdict(index: Ends, partials: [Ends; 3], required: Ratio, mark: Ratio) -> Compliance
-    requires { Proper (10 ^ 9) required × Proper (10 ^ 9) mark }
-    ensures { number_of result ≡ verdict_of index partials required mark }
+pub fn verdict(index: Ends, partials: [Ends; 3], standard: Standard) -> Compliance
+    ensures { number_of result ≡ verdict_of index partials standard.required standard.mark }
 {
     let lower = partials.map(|e| e.lower);
     let upper = partials.map(|e| e.upper);
-    if all_reach(index.lower, lower, required, mark) {
+    if all_reach(index.lower, lower, standard) {
         return Compliance::Meets;
     }
-    if !all_reach(index.upper, upper, required, mark) {
+    if !all_reach(index.upper, upper, standard) {
         return Compliance::Fails;
     }
     Compliance::Unsettled

@@ -1,50 +1,74 @@
 -- Sums that are carried from limb to limb, and what is carried out of the last. Assumes nothing.
-use mathlib.Core.Path.{◌≡◌, refl}
-use mathlib.Core.List.{List, [], ◌∷◌}
+use mathlib.Core.Path.{◌≡◌, refl, ◌∙◌, ap}
+use mathlib.Core.List.{List, [], ◌∷◌, ◌++◌}
 use Prim.Native.Nat.{ℕ, zero, suc, ◌+◌, ◌*◌, ◌^◌, ◌≤◌, ◌<◌}
+use native.Mathlib.Nat.{pow-suc}
+use native.Mathlib.Numerals.{add-one}
 use native.Mathlib.Omega.{arith}
-use lib.ListN.{get_or}
-use lib.Dec.{leb, eqb}
+use lib.ListN.{length, get_or, take, set, length-set}
+use lib.Seq.{take_all, take-suc, length-take-le, get_or-set_same, get_or-set_other}
+use lib.Dec.{leb, eqb, lit<}
+use Rattle.std.proofs.lemmas.List.{take-set}
 use borrow.Author.Tests.{le-leb, lt-leb, eq-eqb, ne_eqb}
 use Rattle.laws.proofs.Choice.{split}
 use Rattle.wide.specs.declared.Place.{Place}
 use Rattle.wide.specs.declared.Sum.{Sum}
 use Rattle.wide.specs.Limbs.{value, limit, Limbs, Placed, Carried}
-use Rattle.wide.proofs.Limbs.{six, six_limbs, listed, below}
+use Rattle.wide.proofs.Limbs.{six, six_limbs, below}
 
--- ---- limb by limb: t is the power of the base that the limbs so far reach
+-- ---- limb by limb
 
--- r, with `out` carried out of it, is w·factor + more + carry
-record Chain (factor out t : ℕ) (w more : List ℕ) (carry : ℕ) (r : List ℕ) : Type 0 where
-  pub whole : value r + t * out ≡ value w * factor + value more + carry
+-- the first i limbs of r, with `out` carried out of them, are those of w·factor + more + carry
+pub record Chain (factor : ℕ) (w more : List ℕ) (carry : ℕ) (r : List ℕ) (out i : ℕ) : Type 0 where
+  pub limbs : Limbs r
+  pub carry_small : out < 2 ^ 32
+  pub whole : value (take i r) + (2 ^ 32) ^ i * out ≡ value (take i w) * factor + value (take i more) + carry
 
-chain_end : {factor out : ℕ} → Chain factor out 1 [] [] out []
+-- a limb behind others
+value_behind : (xs : List ℕ) (x : ℕ) → value (xs ++ x ∷ []) ≡ value xs + (2 ^ 32) ^ length xs * x
 unfolding value
-chain_end = record { whole = omega arith }
+value_behind [] x = omega arith
+value_behind (a ∷ xs) x = omega (arith, value_behind xs x, ap (λ t. t * x) (pow-suc (2 ^ 32) (length xs)))
 
-chain_more : {factor out carry a m : ℕ} (t : ℕ) {w more r : List ℕ} {p : Place} → Placed (a * factor + m + carry) p
-    → Chain factor out t w more p.carry r
-    → Chain factor out (2 ^ 32 * t) (a ∷ w) (m ∷ more) carry (p.limb ∷ r)
+one_longer : (w : List ℕ) (i : ℕ) → i < length w → value (take (i + 1) w) ≡ value (take i w) + (2 ^ 32) ^ i * get_or w i 0
+one_longer w i h = rw (add-one i, take-suc w i 0 h) (value_behind (take i w) (get_or w i 0) ∙ rw (length-take-le i w (omega arith)) refl)
+
+limb_set : {r : List ℕ} {i x : ℕ} → Limbs r → i < 6 → x < 2 ^ 32 → Limbs (set r i x)
+limb_set {r} {i} {x} h l k = record { six = length-set r i x ∙ h.six; small = each }
+  where
+    each : (j : ℕ) → get_or (set r i x) j 0 < 2 ^ 32
+    each j =
+        split j i
+        (λ a. split i j
+        (λ b. let e : j ≡ i = omega arith in rw (e, get_or-set_same r i x 0 (omega (arith, h.six))) k)
+        (λ b. rw (get_or-set_other r i j x 0 (λ e. omega arith)) (h.small j)))
+        (λ a. rw (get_or-set_other r i j x 0 (λ e. omega arith)) (h.small j))
+
+pub no_limb : {factor : ℕ} {w more r : List ℕ} {carry : ℕ} → r ≡ six 0 0 0 0 0 0 → carry < 2 ^ 32 → Chain factor w more carry r carry 0
 unfolding value
-chain_more t h k = record { whole = omega (arith, h.whole, k.whole) }
+no_limb e h = record { limbs = rw e (six_limbs (lit< tt) (lit< tt) (lit< tt) (lit< tt) (lit< tt) (lit< tt)); carry_small = h; whole = omega arith }
 
-pub carried_limbs : {w more : List ℕ} (factor carry : ℕ) {a b c d e f : Place} → Limbs w → Limbs more
-    → Placed (get_or w 0 0 * factor + get_or more 0 0 + carry) a
-    → Placed (get_or w 1 0 * factor + get_or more 1 0 + a.carry) b
-    → Placed (get_or w 2 0 * factor + get_or more 2 0 + b.carry) c
-    → Placed (get_or w 3 0 * factor + get_or more 3 0 + c.carry) d
-    → Placed (get_or w 4 0 * factor + get_or more 4 0 + d.carry) e
-    → Placed (get_or w 5 0 * factor + get_or more 5 0 + e.carry) f
-    → Carried (value w * factor + value more + carry) (record { limbs = six a.limb b.limb c.limb d.limb e.limb f.limb; carry = f.carry })
-unfolding limit
-carried_limbs {w} {more} factor carry {a} {b} {c} {d} {e} {f} hw hm pa pb pc pd pe pf =
-    let chain : Chain factor f.carry limit w more carry (six a.limb b.limb c.limb d.limb e.limb f.limb) =
-    rw (listed w hw.six, listed more hm.six)
-    (chain_more (2 ^ 160) pa (chain_more (2 ^ 128) pb (chain_more (2 ^ 96) pc (chain_more (2 ^ 64) pd (chain_more (2 ^ 32) pe (chain_more 1 pf chain_end)))))) in
+pub limb_more : {factor : ℕ} {w more r : List ℕ} {carry out i : ℕ} {p : Place} → Limbs w → Limbs more → i < 6 → Chain factor w more carry r out i →
+    Placed (get_or w i 0 * factor + get_or more i 0 + out) p → Chain factor w more carry (set r i p.limb) p.carry (i + 1)
+limb_more {factor} {w} {more} {r} {carry} {out} {i} {p} hw hm l c h =
+    let t = (2 ^ 32) ^ i in
+    let next : (2 ^ 32) ^ (i + 1) ≡ t * 2 ^ 32 = rw (add-one i) (pow-suc (2 ^ 32) i) in
+    let here : value (take (i + 1) (set r i p.limb)) ≡ value (take i r) + t * p.limb =
+    one_longer (set r i p.limb) i (omega (arith, length-set r i p.limb, c.limbs.six)) ∙ rw (take-set r i p.limb, get_or-set_same r i p.limb 0 (omega (arith, c.limbs.six))) refl in
     record {
-      limbs = six_limbs pa.limb_small pb.limb_small pc.limb_small pd.limb_small pe.limb_small pf.limb_small;
-      carry_small = pf.carry_small;
-      whole = chain.whole;
+      limbs = limb_set c.limbs l h.limb_small;
+      carry_small = h.carry_small;
+      whole = rw (here, next, one_longer w i (omega (arith, hw.six)), one_longer more i (omega (arith, hm.six))) (omega (arith, c.whole, ap (λ x. t * x) h.whole));
+    }
+
+pub all_limbs : {factor : ℕ} {w more r : List ℕ} {carry out i : ℕ} → Limbs w → Limbs more → i ≡ 6 → Chain factor w more carry r out i →
+    Carried (value w * factor + value more + carry) (record { limbs = r; carry = out })
+unfolding limit
+all_limbs {factor} {w} {more} {r} {carry} {out} {i} hw hm e c =
+    record {
+      limbs = c.limbs;
+      carry_small = c.carry_small;
+      whole = rw (e, take_all 6 r (omega (arith, c.limbs.six)), take_all 6 w (omega (arith, hw.six)), take_all 6 more (omega (arith, hm.six))) at c.whole;
     }
 
 -- ---- what is carried out: nothing, exactly where the sum is below the limit

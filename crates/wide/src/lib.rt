@@ -42,16 +42,14 @@ fn carried(w: [u64; 6], factor: u64, more: [u64; 6], carry: u64) -> Sum
     requires { Limbs w × (factor < 2 ^ 32) × Limbs more × (carry < 2 ^ 32) }
     ensures { Carried (value w * factor + value more + carry) result }
 {
-    let a = placed(w[0], factor, more[0], carry);
-    let b = placed(w[1], factor, more[1], a.carry);
-    let c = placed(w[2], factor, more[2], b.carry);
-    let d = placed(w[3], factor, more[3], c.carry);
-    let e = placed(w[4], factor, more[4], d.carry);
-    let f = placed(w[5], factor, more[5], e.carry);
-    Sum {
-        limbs: [a.limb, b.limb, c.limb, d.limb, e.limb, f.limb],
-        carry: f.carry,
+    let mut limbs = [0u64; 6];
+    let mut carry = carry;
+    for i in 0..6 {
+        let p = placed(w[i], factor, more[i], carry);
+        limbs[i] = p.limb;
+        carry = p.carry;
     }
+    Sum { limbs, carry }
 }
 
 // A number of 64 bits as limbs.
@@ -61,7 +59,8 @@ fn of_number(n: u64) -> [u64; 6]
     [n % BASE, n / BASE, 0, 0, 0, 0]
 }
 
-// A product with a number of two limbs: by the lower, and by the higher one place on.
+// A product with a number of two limbs: by the lower, and by the higher one place on. The limbs one place on by name: a copy of five into an array of
+// six, for each of the two, would be no plainer.
 fn times(w: [u64; 6], factor: u64) -> [u64; 6]
     requires { Limbs w × (value w * factor < limit) }
     ensures { Writes result (value w * factor) }

@@ -1,21 +1,19 @@
--- `printing::put_marks` meets its contract: the three draughts join. Assumes nothing.
+-- `printing::put_marks` meets its contract: each turn writes one draught behind those that stand. Assumes nothing.
+use mathlib.Core.Path.{refl}
 use native.Mathlib.Omega.{arith}
+use Rattle.laws.proofs.Pieces.{pieces_below}
+use Rattle.digits.specs.Splice.{splice}
 use Rattle.printing.specs.Marks.{marks_at}
-use Rattle.printing.proofs.Marks.{below_16, marks_written}
+use Rattle.printing.proofs.Marks.{one_mark_more, all_marks}
 use Rattle.printing.proofs.put_marks.Goals as goal
 
-pub put_low-requires : goal.put_low-requires
-put_low-requires c = (below_16 _ c.mark_byte.ensures, omega (arith, c.requires))
+pub loop-j-init : goal.loop-j-init
+unfolding splice pieces_below
+loop-j-init c = refl
 
-pub put_low-requires-2 : goal.put_low-requires-2
-put_low-requires-2 c = (below_16 _ c.mark_byte-2.ensures, omega (arith, c.requires))
-
-pub put_low-requires-3 : goal.put_low-requires-3
-put_low-requires-3 c = (below_16 _ c.mark_byte-3.ensures, omega (arith, c.requires))
+pub loop-j-preserved : goal.loop-j-preserved
+unfolding marks_at
+loop-j-preserved c = one_mark_more c.args.ss c.args.at c.args.out.now c.loop-j.j c.mark_byte.ensures c.loop-j.invariant c.put_bytes.ensures
 
 pub returns : goal.returns
-unfolding marks_at
-returns c =
-    let args = c.args in
-    marks_written args.ss args.at args.out.now c.mark_byte.ensures c.mark_byte-2.ensures c.mark_byte-3.ensures
-    c.put_low.ensures c.put_low-2.ensures c.put_low-3.ensures
+returns c = all_marks c.args.ss c.args.at c.args.out.now (omega (arith, c.loop-j-test.false, c.loop-j.auto.j-end)) c.loop-j.invariant

@@ -100,6 +100,7 @@ fn quotient(row: [i64; 5], w: [u64; 4], scale: u64, l: u64) -> Ratio
 }
 
 // The last band's row has the factor L² in each term: left out, the divisor is narrow.
+#[tactic(auto, using(crate::proofs::Bands::band_below))]
 pub fn inner(l: u64, x: u64) -> Ratio
     requires { (1 ≤ l) × (l ≤ 19800) × (x ≤ l) }
     ensures { Chance (p l x) l result }

@@ -3,7 +3,6 @@
 
 ghost use Rattle.std.specs.Prelude.{◌≡◌, ◌++◌, ◌*◌, ◌^◌, ◌≤◌, length, drop};
 ghost use Rattle.indices.specs.Index.{Within};
-ghost use Rattle.spans.specs.Table.{table_of};
 ghost use Rattle.verdicts.specs.Required.{Sized};
 ghost use Rattle.casefile.specs.Kept.{place_width};
 ghost use Rattle.casefile.specs.Reading.{reading};
@@ -74,7 +73,7 @@ fn conclude(h: Hull, rows: u64, partials: [Ends; 3]) -> Figures
 // The rows of a valid case, by its file and its rows as they are kept, over a table that is lent for its spans.
 pub fn rows_of<'a>(kept: &'a [u8], file: Accepted, table: &'a mut [u64]) -> KeptRows<'a>
     requires { Valid (kept_case kept.now file.hull file.rows) × (place_width * file.rows ≤ length kept.now) × (length table.old ≡ 840) }
-    ensures { (result.kept.ship.hull ≡ file.hull) × (result.kept.bytes.now ≡ kept.now) × (result.count ≡ file.rows) × (table.new ≡ table_of file.hull) }
+    ensures { (result.kept.ship.hull ≡ file.hull) × (result.kept.bytes.now ≡ kept.now) × (result.count ≡ file.rows) }
 {
     spans::fill_table(file.hull, table);
     let ship = Subdivision {

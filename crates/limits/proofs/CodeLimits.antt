@@ -1,7 +1,7 @@
 -- Limits as the code tests them: ranges, places that rise, a sum that stops at the greatest number, and a test of each of three. Assumes nothing.
 use Prim.Native.Nat.{ℕ, zero, suc, ◌+◌, ◌≤◌, ◌<◌, min}
-use mathlib.Core.Path.{◌≡◌, refl, sym, ◌∙◌}
-use mathlib.Core.Bool.{Bool, true, false, cond, ◌&&◌, and-false}
+use mathlib.Core.Path.{◌≡◌, refl}
+use mathlib.Core.Bool.{Bool, true, false, cond, ◌&&◌, and-false, and-true, and_assoc}
 use mathlib.Core.List.{List, [], ◌∷◌}
 use native.Mathlib.Nat.{min-eq_left, min-eq_right, le_of_lt}
 use native.Mathlib.Numerals.{add-one}
@@ -13,8 +13,7 @@ use lib.IntN.{ℤ, pos, negsuc}
 use Rattle.std.specs.Ordering.{is_le, nat_cmp, int_cmp}
 use Rattle.std.specs.List.{IsAllAdjacentAnswer}
 use Rattle.std.proofs.lemmas.List.{get_or-take, length-take-le}
-use Rattle.std.proofs.Common.{All, IsTrue, ◌↔◌, Less, Equal, Greater}
-use Rattle.laws.proofs.Tests.{both, same_test}
+use Rattle.std.proofs.Common.{Less, Equal, Greater}
 use Rattle.laws.proofs.Choice.{split}
 use Rattle.records.specs.declared.Finding.{Finding}
 use Rattle.records.specs.declared.Flooding.{Flooding}
@@ -94,23 +93,29 @@ persons_capped n =
 
 -- a test of each of a list, written along it
 module _ {A : Type 0} (fits : A → Bool) (all_fit : List A → Bool) (none : all_fit [] ≡ true) (more : (x : A) (xs : List A) → all_fit (x ∷ xs) ≡ (fits x && all_fit xs)) where
-  each_fits : (xs : List A) → all_fit xs ≡ true → All (λ x. fits x ≡ true) xs
-  each_fits [] e k d h = absurd (omega arith)
-  each_fits (x ∷ xs) e zero d h = (both (fits x) (all_fit xs) (sym (more x xs) ∙ e)).0
-  each_fits (x ∷ xs) e (suc k) d h = each_fits xs (both (fits x) (all_fit xs) (sym (more x xs) ∙ e)).1 k d (omega arith)
+  of_three : (xs : List A) (d : A) {bs : List Bool} → length xs ≡ 3 → bs ≡ fits (get_or xs 0 d) ∷ fits (get_or xs 1 d) ∷ fits (get_or xs 2 d) ∷ [] →
+      (get_or bs 0 false && get_or bs 1 false && get_or bs 2 false) ≡ all_fit xs
+  of_three [] d n e = absurd (omega arith)
+  of_three (x ∷ []) d n e = absurd (omega arith)
+  of_three (x ∷ y ∷ []) d n e = absurd (omega arith)
+  of_three (x ∷ y ∷ z ∷ []) d n e = rw (e, more x (y ∷ z ∷ []), more y (z ∷ []), more z [], none, and-true (fits z)) (and_assoc (fits x) (fits y) (fits z))
+  of_three (x ∷ y ∷ z ∷ w ∷ xs) d n e = absurd (omega arith)
 
-  they_fit : (xs : List A) → All (λ x. fits x ≡ true) xs → all_fit xs ≡ true
-  they_fit [] a = none
-  they_fit (x ∷ xs) a = rw (more x xs, a 0 x (omega arith), they_fit xs (λ k d h. a (suc k) d (omega arith))) refl
+-- results, and what a passenger ship's row tells besides; one of each, for the places that a list does not have
+abbrev pub some_finding : Finding
+some_finding = record { lever = 0; range = 0; heel = 0; opening = pos 0; given = 0 }
 
-  fit_told : (xs : List A) {b : Bool} → (IsTrue b ↔ All (λ x. fits x ≡ true) xs) → b ≡ all_fit xs
-  fit_told xs {b} t = same_test b (all_fit xs) (λ e. they_fit xs (t.0 e)) (λ e. t.1 (each_fits xs e))
+abbrev pub some_flooding : Flooding
+some_flooding = record { displacement = 0; moment = 0; lever = 0; range = 0; heel = 0; roro = 0 }
 
--- results, and what a passenger ship's row tells besides
-pub findings_told : (rs : List Finding) {b : Bool} → (IsTrue b ↔ All (λ r. finding_fits r ≡ true) rs) → b ≡ findings_fit rs
+pub findings_told : (rs : List Finding) {bs : List Bool} → length rs ≡ 3 →
+    bs ≡ finding_fits (get_or rs 0 some_finding) ∷ finding_fits (get_or rs 1 some_finding) ∷ finding_fits (get_or rs 2 some_finding) ∷ [] →
+    (get_or bs 0 false && get_or bs 1 false && get_or bs 2 false) ≡ findings_fit rs
 unfolding findings_fit
-findings_told = fit_told finding_fits findings_fit refl (λ x xs. refl)
+findings_told rs = of_three finding_fits findings_fit refl (λ x xs. refl) rs some_finding
 
-pub floodings_told : (ws : List Flooding) {b : Bool} → (IsTrue b ↔ All (λ w. flooding_fits w ≡ true) ws) → b ≡ floodings_fit ws
+pub floodings_told : (ws : List Flooding) {bs : List Bool} → length ws ≡ 3 →
+    bs ≡ flooding_fits (get_or ws 0 some_flooding) ∷ flooding_fits (get_or ws 1 some_flooding) ∷ flooding_fits (get_or ws 2 some_flooding) ∷ [] →
+    (get_or bs 0 false && get_or bs 1 false && get_or bs 2 false) ≡ floodings_fit ws
 unfolding floodings_fit
-floodings_told = fit_told flooding_fits floodings_fit refl (λ x xs. refl)
+floodings_told ws = of_three flooding_fits floodings_fit refl (λ x xs. refl) ws some_flooding

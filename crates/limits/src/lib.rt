@@ -115,11 +115,12 @@ fn finding_fits(r: Finding) -> bool
         & (r.given <= 10000)
 }
 
-// A set of results, one at each draught.
+// A set of results, one at each draught. All three are tested, so that it takes no jump.
 pub fn set_fits(results: [Finding; 3]) -> bool
     ensures { result ≡ findings_fit results }
 {
-    results.iter().all(|&r| finding_fits(r))
+    let [deepest, partial, light] = results.map(finding_fits);
+    deepest & partial & light
 }
 
 #[tactic(auto, unfolding(casefile::specs::Limits::flooding_fits))]
@@ -132,9 +133,10 @@ fn flooding_fits(w: Flooding) -> bool
         & (w.roro <= 1)
 }
 
-// What a passenger ship's row tells besides, at each draught.
+// What a passenger ship's row tells besides, at each draught, likewise.
 pub fn floodings_fit(floodings: [Flooding; 3]) -> bool
     ensures { result ≡ floodings_fit floodings }
 {
-    floodings.iter().all(|&w| flooding_fits(w))
+    let [deepest, partial, light] = floodings.map(flooding_fits);
+    deepest & partial & light
 }

@@ -36,7 +36,6 @@ fn put_draught(share: Ends, v: u64, s: Survival, out: &mut [u64], at: usize)
 }
 
 // Its twenty, by its share, its v and its survival at each draught.
-#[tactic(auto, using(crate::proofs::InNumbers::row_put))]
 fn put_row(share: Ends, vs: [u64; 3], ss: [Survival; 3], out: &mut [u64], at: usize)
     requires { Share share × RowWeights vs ss × (at + 20 ≤ length out.old) }
     ensures { out.new ≡ sets out.old at (row_numbers share vs ss) }

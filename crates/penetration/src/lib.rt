@@ -45,6 +45,7 @@ fn is_short(l: u64, breadth: u64, x: u64, b: u64) -> bool
 
 // G of the span from aft to fwd, whose p has the ends p, at the layer y: by how many ends of the ship it touches, and whether it is short.
 // Numbers side by side: `Reached` says what holds of them, and the one caller has them from a hull, from its places and from its table.
+#[tactic(auto, using(spans::proofs::Span::both_touched, crate::proofs::Reached::g_of_ship, crate::proofs::Reached::g1_fits, crate::proofs::Reached::p_fits, crate::proofs::Reached::part_fits))]
 pub fn g_ends(l: u64, breadth: u64, aft: u64, fwd: u64, p: Ends, y: Layer) -> Ends
     requires { Reached l breadth aft fwd p y }
     ensures { result ≡ GEnds l breadth aft fwd y.depth }

@@ -1,23 +1,12 @@
 -- `bands::inner` meets its contract, by the rule of the table. Assumes nothing.
-use Prim.Native.Nat.{◌<◌}
-use native.Mathlib.Omega.{arith}
 use Rattle.solas.specs.Span.{p}
-use Rattle.bands.proofs.Bands.{Chosen, band_below, in_band}
+use Rattle.bands.proofs.Bands.{Chosen, in_band}
 use Rattle.bands.proofs.inner.Goals.{After-band-k}
 use Rattle.bands.proofs.inner.Goals as goal
-
-below : (c : After-band-k) → c.band-k.result < 3
-below c = rw c.band-k.ensures (band_below c.args.l c.args.x)
 
 chosen : (c : After-band-k) → Chosen c.args.l c.args.x c.band-k.result (p c.args.l c.args.x)
 chosen c =
     in_band c.args.l c.args.x c.requires.0 c.requires.1 c.requires.2 c.band-k.result c.band-k.ensures
-
-pub offset_bounds-k : goal.offset_bounds-k
-offset_bounds-k c = omega (arith, below (goal.at.offset_bounds-k c).After-band-k)
-
-pub bounds-k-k : goal.bounds-k-k
-bounds-k-k c = below (goal.at.bounds-k-k c).After-band-k
 
 pub quotient-requires : goal.quotient-requires
 quotient-requires c = ((chosen (goal.at.quotient-requires c).After-band-k).0 c.if-k-eq2.true).ready

@@ -1,14 +1,11 @@
--- `values` meets its contract: the places passed are filled. Assumes nothing.
-use mathlib.Core.Path.{refl}
-use Rattle.laws.proofs.Lists.{none_filled, one_filled, all_filled}
-use native.Mathlib.Omega.{arith}
+-- `values` meets its contract: each call gives one value. Assumes nothing.
+use borrow.Author.Rules.{rules}
+use mathlib.Core.Path.{◌≡◌, refl}
+use Prim.Native.Nat.{◌+◌}
+use Rattle.laws.proofs.Made.{all_made}
+use Rattle.frames.specs.Decoding.{mark_at}
 use Rattle.frames.proofs.values.Goals as goal
 
-pub loop-k-init : goal.loop-k-init
-loop-k-init c = none_filled _ _ _ refl
-
-pub loop-k-preserved : goal.loop-k-preserved
-loop-k-preserved c = one_filled _ _ _ _ _ (omega arith) c.value_of.ensures c.loop-k.invariant
-
 pub returns : goal.returns
-returns c = all_filled _ _ _ _ (omega arith) c.loop-k.invariant
+returns c =
+    all_made 32 (λ p. (p.0.now ≡ c.args.text.now) × (p.1.now ≡ c.args.at)) (λ k. mark_at c.args.text.now (c.args.at + k)) (λ p i y q l k called. search rules) c.from_fn.result (refl, refl) c.from_fn.ensures.items

@@ -68,7 +68,7 @@ fn share_in(ship: &Subdivision, a: u64, n: u64, b1: u64, b2: u64) -> Ends
     if row_fits(ship.hull, a, n, b1, b2) {
         ship.share_ends(a as usize, n as usize, b1, b2)
     } else {
-        Ends { lower: 0, upper: 0 }
+        Ends::default()
     }
 }
 

@@ -19,8 +19,8 @@ const PATCH: u32 = 0;
 const VERSION: u32 = 10_000 * MAJOR + 100 * MINOR + PATCH;
 
 // The version as one number, so that a host can tell whether it has the library that it was written for.
-#[unsafe(no_mangle)]
 #[tactic(auto, using(crate::proofs::Values::of_this))]
+#[unsafe(no_mangle)]
 pub extern "C" fn damindex_version() -> u32
     ensures { result ≡ version }
 {
@@ -28,8 +28,8 @@ pub extern "C" fn damindex_version() -> u32
 }
 
 // The printed answer of any bytes, in front of the buffer, and how many bytes that is: none where there is too little room.
-#[unsafe(no_mangle)]
 #[tactic(auto, using(printing::proofs::Written::counted))]
+#[unsafe(no_mangle)]
 pub extern "C" fn damindex_report(input: &[u8], out: &mut [u8]) -> usize
     ensures { (result ≡ count_in (report (reading input.now)) out.old) × (out.new ≡ written_in (report (reading input.now)) out.old) }
 {
@@ -53,8 +53,8 @@ pub extern "C" fn damindex_figures(input: &[u8], sheet: &mut [u64], figures: &mu
 // The rows of any bytes that are accepted, twenty numbers a row in front of those lent: the ends of the share, and at each draught v, the bottom, the top,
 // the byte of the marks and the ends of what the row adds. How many numbers that is: none, and nothing is written, where the bytes are refused or there is
 // too little room.
-#[unsafe(no_mangle)]
 #[tactic(auto, using(workings::proofs::Told::rows_counted))]
+#[unsafe(no_mangle)]
 pub extern "C" fn damindex_rows(input: &[u8], rows: &mut [u64]) -> usize
     ensures { (result ≡ count_in (rows_in (reading input.now)) rows.old) × (rows.new ≡ written_in (rows_in (reading input.now)) rows.old) }
 {
@@ -63,8 +63,8 @@ pub extern "C" fn damindex_rows(input: &[u8], rows: &mut [u64]) -> usize
 
 // R and the mark of a partial index of any bytes that are accepted, numerator and denominator of each in front of those lent. How many numbers that is: none,
 // and nothing is written, where the bytes are refused or there is too little room.
-#[unsafe(no_mangle)]
 #[tactic(auto, using(workings::proofs::Told::required_counted))]
+#[unsafe(no_mangle)]
 pub extern "C" fn damindex_required(input: &[u8], numbers: &mut [u64]) -> usize
     ensures { (result ≡ count_in (required_in (reading input.now)) numbers.old) × (numbers.new ≡ written_in (required_in (reading input.now)) numbers.old) }
 {
@@ -73,8 +73,8 @@ pub extern "C" fn damindex_required(input: &[u8], numbers: &mut [u64]) -> usize
 
 // The share of each group of zones of any bytes that are accepted, down to half the breadth, lower end and upper end in front of those lent. How many numbers
 // that is: none, and nothing is written, where the bytes are refused or there is too little room.
-#[unsafe(no_mangle)]
 #[tactic(auto, using(workings::proofs::Told::groups_counted))]
+#[unsafe(no_mangle)]
 pub extern "C" fn damindex_groups(input: &[u8], numbers: &mut [u64]) -> usize
     ensures { (result ≡ count_in (groups_in (reading input.now)) numbers.old) × (numbers.new ≡ written_in (groups_in (reading input.now)) numbers.old) }
 {

@@ -96,8 +96,8 @@ fn put_shares(ship: &Subdivision, rows: &[u64], count: usize, out: &mut [u64])
 }
 
 // The share ends of rows, each by a, n, the penetration before and its own; how many rows that is, none where the hull does not fit.
-#[unsafe(no_mangle)]
 #[tactic(auto, using(crate::proofs::Told::none_asked, crate::proofs::Told::room, crate::proofs::Told::rows_asked))]
+#[unsafe(no_mangle)]
 pub extern "C" fn probe_shares(hull: &[u64], rows: &[u64], out: &mut [u64]) -> usize
     ensures count { result ≡ rows_told (hull_in hull.now) rows.now out.old }
     ensures shares { out.new ≡ sets out.old 0 (shares_from (hull_in hull.now) rows.now 0 result) }

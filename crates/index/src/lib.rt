@@ -71,7 +71,7 @@ fn conclude(h: Hull, rows: u64, partials: [Ends; 3]) -> Figures
 }
 
 // The rows of a valid case, by its file and its rows as they are kept, over a table that is lent for its spans.
-pub fn rows_of<'a>(kept: &'a [u8], file: Accepted, table: &'a mut [u64]) -> KeptRows<'a>
+fn rows_of<'a>(kept: &'a [u8], file: Accepted, table: &'a mut [u64]) -> KeptRows<'a>
     requires { Valid (kept_case kept.now file.hull file.rows) × (place_width * file.rows ≤ length kept.now) × (length table.old ≡ 840) }
     ensures { (result.kept.ship.hull ≡ file.hull) × (result.kept.bytes.now ≡ kept.now) × (result.count ≡ file.rows) }
 {

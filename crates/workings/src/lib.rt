@@ -17,6 +17,7 @@ ghost use Rattle.workings.specs.Told.{told_in};
 use casefile::{Accepted, KEPT};
 use groups::subdivision::Subdivision;
 use records::Hull;
+use rows::kept_rows;
 use spans::TABLE;
 
 // A valid case, by its file and its rows as they are kept, with room for twenty numbers a row.
@@ -25,7 +26,12 @@ fn put_rows(kept: &[u8], file: Accepted, out: &mut [u64])
     ensures { out.new ≡ numbers_from file.hull nowhere (kept_rows file.rows kept.now 0) ++ drop (20 * file.rows) out.old }
 {
     let mut t = [0u64; TABLE];
-    listing::list(&index::rows_of(kept, file, &mut t), out);
+    spans::fill_table(file.hull, &mut t);
+    let ship = Subdivision {
+        hull: file.hull,
+        table: &t,
+    };
+    listing::list(&kept_rows::of(ship, kept, file.rows as usize), out);
 }
 
 // Twenty numbers a row, in front of what is lent, and how many that is: none where the bytes are refused or there is too little room.

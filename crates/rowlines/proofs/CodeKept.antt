@@ -23,6 +23,10 @@ longest_set kind = by (eqb kind 3)
     by true = omega arith
     by false = omega arith
 
+-- the bytes of place i, from one place to the next
+pub place_kept : (kept : List ℕ) (i : ℕ) {n : ℕ} → n ≡ place_width → take n (drop (place_width * i) kept) ≡ take place_width (drop (place_width * i) kept)
+place_kept kept i e = rw e refl
+
 -- the row at place i, whose bytes are the part from one place to the next
 pub row_kept : (kept : List ℕ) (i : ℕ) {n : ℕ} → n ≡ place_width → row_of (take n (drop (place_width * i) kept)) ≡ kept_row kept i
 unfolding kept_row

@@ -17,7 +17,8 @@ pub struct KeptRow<'a> {
 // The row at place i.
 pub fn row_at(kept: &[u8], i: usize) -> KeptRow
     requires { place_width * i + place_width ≤ length kept.now }
-    ensures { row_of result.place.now ≡ kept_row kept.now i }
+    ensures bytes { result.place.now ≡ take place_width (drop (place_width * i) kept.now) }
+    ensures row { row_of result.place.now ≡ kept_row kept.now i }
 {
     let at = PLACE_WIDTH * i;
     KeptRow {

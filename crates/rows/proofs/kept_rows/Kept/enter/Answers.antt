@@ -15,18 +15,18 @@ row_at-row-requires c = c.requires.0
 pub part_after-part-requires : goal.part_after-part-requires
 part_after-part-requires c =
     let r = c.args.self.now in
-    let head = c.head-head.ensures ∙ ap (λ (r : Row). r.head) c.row_at-row.ensures in
+    let head = c.head-head.ensures ∙ ap (λ (r : Row). r.head) c.row_at-row.ensures.row in
     part_asked c.args.s.standing (kept_row r.bytes.now c.args.i).head r.shares c.requires.1 head c.next-standing.ensures c.requires.3 c.requires.4
 
 pub survivals_of-survivals-requires : goal.survivals_of-survivals-requires
-survivals_of-survivals-requires c = subst (λ (r : Row). Given r.results) (sym c.row_at-row.ensures) c.requires.2
+survivals_of-survivals-requires c = subst (λ (r : Row). Given r.results) (sym c.row_at-row.ensures.row) c.requires.2
 
 pub row-adds-requires : goal.row-adds-requires
 row-adds-requires c =
     let r = c.args.self.now in
     let row = kept_row r.bytes.now c.args.i in
-    let head = c.head-head.ensures ∙ ap (λ (r : Row). r.head) c.row_at-row.ensures in
-    let survivals = c.survivals_of-survivals.ensures ∙ ap (λ (r : Row). survivals_of r.head.kind r.results) c.row_at-row.ensures in (
+    let head = c.head-head.ensures ∙ ap (λ (r : Row). r.head) c.row_at-row.ensures.row in
+    let survivals = c.survivals_of-survivals.ensures ∙ ap (λ (r : Row). survivals_of r.head.kind r.results) c.row_at-row.ensures.row in (
       share_small c.args.s.standing row.head r.shares c.requires.1 head c.next-standing.ensures c.part_after-part.ensures.0,
       weights c.next-standing.result.below c.head-head.result.height row.head.kind r.draughts c.requires.2 survivals,
     )
@@ -35,8 +35,8 @@ pub sum-sums-requires : goal.sum-sums-requires
 sum-sums-requires c =
     let r = c.args.self.now in
     let row = kept_row r.bytes.now c.args.i in
-    let head = c.head-head.ensures ∙ ap (λ (r : Row). r.head) c.row_at-row.ensures in
-    let survivals = c.survivals_of-survivals.ensures ∙ ap (λ (r : Row). survivals_of r.head.kind r.results) c.row_at-row.ensures in
+    let head = c.head-head.ensures ∙ ap (λ (r : Row). r.head) c.row_at-row.ensures.row in
+    let survivals = c.survivals_of-survivals.ensures ∙ ap (λ (r : Row). survivals_of r.head.kind r.results) c.row_at-row.ensures.row in
     let share = share_small c.args.s.standing row.head r.shares c.requires.1 head c.next-standing.ensures c.part_after-part.ensures.0 in
     let asked = weights c.next-standing.result.below c.head-head.result.height row.head.kind r.draughts c.requires.2 survivals in
     (within_wider (omega arith) c.requires.5, within_wider (omega arith) (adds_small share asked c.row-adds.ensures))
@@ -44,7 +44,7 @@ sum-sums-requires c =
 pub returns : goal.returns
 returns c =
     let r = c.args.self.now in
-    let head = c.head-head.ensures ∙ ap (λ (r : Row). r.head) c.row_at-row.ensures in
-    let survivals = c.survivals_of-survivals.ensures ∙ ap (λ (r : Row). survivals_of r.head.kind r.results) c.row_at-row.ensures in
+    let head = c.head-head.ensures ∙ ap (λ (r : Row). r.head) c.row_at-row.ensures.row in
+    let survivals = c.survivals_of-survivals.ensures ∙ ap (λ (r : Row). survivals_of r.head.kind r.results) c.row_at-row.ensures.row in
     let part = c.part_after-part.ensures in
     (row_entered r.ship.hull c.args.s (kept_row r.bytes.now c.args.i) head c.next-standing.ensures part.0 r.drawn survivals c.row-adds.ensures c.sum-sums.ensures, part.1)

@@ -23,6 +23,16 @@ fn check_end(h: Hull, p: Progress, count: u64) -> Result<(), Fault>
     Ok(())
 }
 
+// The number of that check, 0 where none holds.
+pub fn end_number(h: Hull, p: Progress, count: u64) -> u64
+    ensures { result ≡ first_holds (end_checks h p count) }
+{
+    match check_end(h, p, count) {
+        Ok(()) => 0,
+        Err(fault) => u64::from(fault),
+    }
+}
+
 // From the fields of its frame.
 #[tactic(auto, using(std::proofs::lemmas::Result::err_from_is_err_and, casefile::proofs::Told::some_number, crate::proofs::CodeJudging::end_wrong, crate::proofs::CodeJudging::end_right))]
 pub fn judge_end(f: &[u8], h: Hull, p: Progress) -> Result<Frame, Fault>

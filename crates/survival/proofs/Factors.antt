@@ -19,7 +19,8 @@ use Rattle.solas.specs.Survival.{s⁴, immersed, unless_immersed}
 use Rattle.solas.proofs.Survival.{s⁴_not_negative, s⁴_at_most_one, lost_if_immersed, kept_if_dry, either_way}
 use Rattle.numbers.specs.Ratio.{ratio_of}
 use Rattle.survival.specs.Marks.{found_marks, unmarked, marks_of}
-use Rattle.survival.specs.Survival.{Multiple, root, given, fourth_of, no_survival, Sensible, factor_of, rounded_of, marked, survival_of}
+use Rattle.survival.specs.Survival.{root, given, fourth_of, no_survival, Sensible, factor_of, rounded_of, marked, survival_of}
+use Rattle.survival.specs.declared.Multiple.{Multiple}
 use Rattle.survival.proofs.Values.{none}
 
 -- ---- s times n/d is at most s where n/d is at most one

@@ -14,6 +14,7 @@ use Rattle.solas.specs.Survival.{s⁴, unless_immersed}
 use Rattle.solas.specs.Passengers.{final⁴, intermediate⁴, s_mom, together⁴}
 use Rattle.numbers.specs.Ratio.{ratio_of}
 use Rattle.records.specs.declared.Ratio.{Ratio}
+use Rattle.survival.specs.declared.Multiple.{Multiple}
 use Rattle.survival.specs.Marks.{unmarked, marks_of, passenger_marks}
 
 -- the fourth root of a fraction, or so many ten-thousandths
@@ -28,11 +29,6 @@ fourth_of f = unless_immersed f.opening (s⁴ f.lever f.range f.heel)
 -- a cargo ship's row: of kind 3 it has given survival, of another that of its finding
 unfoldable pub factor_of : ℕ → Finding → Factor
 factor_of kind f = cond (eqb kind 3) (given f.given) (root (fourth_of f))
-
--- 10¹⁶ times a fraction, rounded down and up
-pub record Multiple : Type 0 where
-  pub down : ℕ
-  pub up : ℕ
 
 unfoldable pub scaled_of : Ratio → Multiple
 scaled_of f = record { down = 10 ^ 16 * f.num / f.den; up = ceil (10 ^ 16 * f.num) f.den }

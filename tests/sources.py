@@ -2,7 +2,7 @@
 
 import re
 
-FUNCTION = re.compile(r'^[ \t]*pub (?:extern "C" )?fn (\w+)', re.M)
+FUNCTION = re.compile(r'^[ \t]*pub(?:\(crate\))? (?:extern "C" )?fn (\w+)', re.M)
 # a body's brace: on a line of its own or with what it holds, or right behind a signature that has no clauses; a clause's brace stands behind its word
 BODY = re.compile(r"\n[ \t]*\{|\)\s*(?:->[^{\n]*)?\{")
 STATEMENT = re.compile(r"^(?:abbrev )?pub (\S+) : Type [01]$", re.M)
